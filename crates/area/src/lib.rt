@@ -1,0 +1,66 @@
+// Words in a lent area: a part of it, words copied into a part, and whether words are below 2^36.
+// Here too is the one home of the general laws on lists that the crates above cite.
+// It knows nothing of blocks, buffers or files.
+ghost use mathlib.Core.Path.{_≡_};
+ghost use lib.ListN.{length};
+ghost use Rattle.area.specs.Lists.{allOf};
+ghost use Rattle.area.specs.Parts.{isWord, partOf, pasteFits, pastedIn};
+
+// What a search for a number finds.
+pub enum Found {
+    At(usize),
+    Nothing,
+}
+
+// Whether every word of a slice is below 2^36. All are or'ed, and the bits above are looked at once.
+pub fn are_words(words: &[u64]) -> bool
+    ensures { λ r. ⌜ r ≡ allOf isWord (now (words .entry)) ⌝ }
+{
+    let mut any: u64 = 0;
+    let mut i = 0;
+    while i < words.len() {
+        any |= words[i];
+        i += 1;
+    }
+    any >> 36 == 0
+}
+
+// The part of the area that begins at word `at` and has n words, or as many of them as the area has.
+pub fn part(area: &[u64], at: usize, n: usize) -> &[u64]
+    ensures { λ r. ⌜ now r ≡ partOf at n (now (area .entry)) ⌝ }
+{
+    if area.len() <= at {
+        return &area[..0];
+    }
+    if area.len() - at <= n {
+        return &area[at..];
+    }
+    let end = at + n;
+    &area[at..end]
+}
+
+// Whether every word of that part is below 2^36.
+pub fn part_are_words(area: &[u64], at: usize, n: usize) -> bool
+    ensures { λ r. ⌜ r ≡ allOf isWord (partOf at n (now (area .entry))) ⌝ }
+{
+    are_words(part(area, at, n))
+}
+
+// Puts the words into the area from word `at` on, and says whether they fit there. Words that do not fit change nothing.
+pub fn copy_in(area: &mut [u64], at: usize, words: &[u64]) -> bool
+    ensures { λ r. ⌜ r ≡ pasteFits at (now (words .entry)) (now (area .entry)) ⌝ }
+    ensures { λ _. ⌜ now (area .exit) ≡ pastedIn at (now (words .entry)) (now (area .entry)) ⌝ }
+{
+    if area.len() < at {
+        return false;
+    }
+    if area.len() - at < words.len() {
+        return false;
+    }
+    let mut i = 0;
+    while i < words.len() {
+        area[at + i] = words[i];
+        i += 1;
+    }
+    true
+}
