@@ -1,0 +1,4 @@
+pub mod Units
+pub mod Rules
+pub mod Scans
+pub mod Turns
