@@ -1,3 +1,5 @@
 pub mod Rules
 pub mod Units
 pub mod Turns
+pub mod Scan
+pub mod History
