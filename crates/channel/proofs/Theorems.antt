@@ -1,3 +1,5 @@
 pub mod Order
 pub mod Scan
 pub mod Starts
+pub mod Calls
+pub mod Sound
