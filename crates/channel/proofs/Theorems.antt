@@ -3,3 +3,6 @@ pub mod Scan
 pub mod Starts
 pub mod Calls
 pub mod Sound
+pub mod Progress
+pub mod Attempts
+pub mod Race

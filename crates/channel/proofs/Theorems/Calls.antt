@@ -1,7 +1,12 @@
 -- What a call does to a channel, as cases. Assumes nothing.
 use mathlib.Core.Path.{_≡_, refl, ap, sym, _∙_}
-use mathlib.Core.Bool.{Bool, true, false, not, cond, _&&_, _||_}
+use mathlib.Core.Bool.{Bool, true, false, not, cond, _&&_, _||_, and-true, and-false}
 use Prim.Native.Nat.{ℕ, _+_, _≤_, _<_}
+use lib.Dec.{eqb}
+use borrow.Author.Tests.{eq-eqb, ne-eqb}
+use Rattle.area.proofs.Walks.{true-not-false}
+use Rattle.channel.proofs.Theorems.Starts.{held}
+use mathlib.Core.Option.{Option, none, some}
 use Rattle.channel.specs.declared.Op.{Op}
 use Rattle.channel.specs.declared.Request.{Request}
 use Rattle.channel.specs.declared.Turn.{Turn}
@@ -12,7 +17,7 @@ use Rattle.channel.specs.declared.Verdict.the-variants.{Refused, Repeats
 use Rattle.channel.specs.Rules.{verdictOf}
 use Rattle.channel.specs.Units.{size, declaredAt, turnAt, withTurn, withMark, isIdle, acceptsAt}
 use Rattle.channel.specs.Turns.{startOf, thawOf, newRequest, askOf, judgeTurn, judgeOf, goesOn, incompleteTurn, repeatOf, markAfter, endOf, bookOf, reportOf}
-use Rattle.channel.specs.History.{Station, station, Event, ask, report, freeze, thaw, Answer, refused, accepted, repeated, answered, Step, stepTo, askStep, reportAnswer, step}
+use Rattle.channel.specs.History.{Station, station, Event, ask, report, freeze, thaw, Answer, refused, accepted, repeated, answered, Step, stepTo, askStep, reportAnswer, step, aReport, aReportOf, aRequestOf, anAnswerTo}
 
 -- the turn of a unit whose operation is to be repeated
 pub data Incomplete (q : Request) : Turn → Type 0 where
@@ -75,3 +80,37 @@ took s (report u o) = go (turnAt c u) refl
     go (Working r) i = booked r (verdictOf r o) i refl
 took s freeze = freezes
 took s thaw = thaws
+
+pub incomplete-held : (q : Request) (t : Turn) → Incomplete q t → held t ≡ some q
+incomplete-held q t onward = refl
+incomplete-held q t aside = refl
+
+-- ---- whom a call concerns: a refused call is none of them
+
+pub no-report : (u : ℕ) (e : Event) → aReportOf u e refused ≡ false
+no-report u (ask x op p) = refl
+no-report u (report x o) = and-false (eqb x u)
+no-report u freeze = refl
+no-report u thaw = refl
+
+pub no-answer : (u : ℕ) (e : Event) → anAnswerTo u e refused ≡ false
+no-answer u (ask x op p) = refl
+no-answer u (report x o) = and-false (eqb x u)
+no-answer u freeze = refl
+no-answer u thaw = refl
+
+pub no-request : (u : ℕ) (e : Event) → aRequestOf u e refused ≡ false
+no-request u (ask x op p) = and-false (eqb x u)
+no-request u (report x o) = refl
+no-request u freeze = refl
+no-request u thaw = refl
+
+-- it concerns u or not
+pub of-unit : {x u : ℕ} → x ≡ u → (eqb x u && true) ≡ true
+of-unit {x} {u} e = and-true (eqb x u) ∙ eq-eqb x u e
+
+pub of-other : {x u : ℕ} → (x ≡ u → ⊥) → (eqb x u && true) ≡ false
+of-other {x} {u} n = and-true (eqb x u) ∙ ne-eqb x u n
+
+pub not-here : {x u : ℕ} → (eqb x u && true) ≡ false → x ≡ u → ⊥
+not-here e q = true-not-false (of-unit q) e

@@ -24,7 +24,7 @@ use Rattle.channel.specs.Units.{size, idleUnit, unitAt, declaredAt, turn
 use Rattle.channel.specs.Turns.{startOf, newRequest, markAfter}
 use Rattle.channel.specs.History.{Station, station, Event, Step, step, run}
 use Rattle.channel.proofs.Theorems.Starts.{isWorking, held, at-set, busy-inside, declared-inside, Begins, Started, isFrozen, isBusy, isQuiet, begins, started}
-use Rattle.channel.proofs.Theorems.Calls.{Incomplete, onward, aside, endedAt, Took, refuses, asks, repeats, ends, freezes, thaws, took}
+use Rattle.channel.proofs.Theorems.Calls.{Incomplete, onward, aside, endedAt, Took, refuses, asks, repeats, ends, freezes, thaws, took, incomplete-held}
 
 -- ---- a request's counts are in their ranges
 
@@ -148,10 +148,6 @@ pub works : (c : Channel) (x : ℕ) (r : Request) → InRanges c → turnAt c x 
 works c x r ok e =
     let h : HoldOk (declaredAt c x) (held (Working r)) = rw e at (ok x) in
     record { within = busy-inside c x (ap isIdle e); known = h .0; counted = h .1; busy = ap isWorking e }
-
-incomplete-held : (q : Request) (t : Turn) → Incomplete q t → held t ≡ some q
-incomplete-held q t onward = refl
-incomplete-held q t aside = refl
 
 -- "no attempt past its limit": every call keeps it
 pub ranges-kept : (s : Station) (e : Event) (o : Step) → InRanges (s .channel) → Took s e o → InRanges (o .after .channel)
