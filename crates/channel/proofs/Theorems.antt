@@ -6,3 +6,4 @@ pub mod Sound
 pub mod Progress
 pub mod Attempts
 pub mod Race
+pub mod Demand
