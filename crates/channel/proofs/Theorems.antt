@@ -7,3 +7,5 @@ pub mod Progress
 pub mod Attempts
 pub mod Race
 pub mod Demand
+pub mod Lift
+pub mod Examples

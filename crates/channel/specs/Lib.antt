@@ -3,3 +3,5 @@ pub mod Units
 pub mod Turns
 pub mod Scan
 pub mod History
+pub mod Lifted
+pub mod Examples
