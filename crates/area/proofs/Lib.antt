@@ -2,4 +2,5 @@ pub mod Walks
 pub mod Firsts
 pub mod Pastes
 pub mod Tall
+pub mod Lowest
 pub mod Scans

@@ -7,7 +7,7 @@ use borrow.Author.Tests.{le-leb, lt-leb}
 use lib.ListN.{length, take, drop, length-append, length-take, length-drop, drop-of-length-le, take-append-drop}
 use lib.Seq as Seq
 use lib.Seq.{take-at, drop-at, take-all, take-length, take-nil, length-take-le}
-use Rattle.area.specs.Parts.{partOf, paste, pasteFits, pastedIn}
+use Rattle.area.specs.Parts.{partOf, paste, pastedIn}
 
 module _ {A : Type 0} where
   -- ---- parts
