@@ -3,3 +3,4 @@ pub mod Firsts
 pub mod Pastes
 pub mod Tall
 pub mod Lowest
+pub mod Scans
