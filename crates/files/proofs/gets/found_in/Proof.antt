@@ -1,0 +1,68 @@
+use borrow.Author.Needs.{needs}
+use Rattle.files.proofs.gets.found_in.Statement.{statement}
+use Rattle.files.proofs.gets.found_in.Tie as tie
+use Rattle.files.proofs.gets.found_in.Reads as reads
+use Rattle.files.proofs.gets.found_in.Lts as lts
+use Rattle.files.proofs.slots.full_error.Reads as full-error-reads
+use Rattle.files.proofs.slots.full_place.Reads as full-place-reads
+use Rattle.files.proofs.slots.words_left.Reads as words-left-reads
+
+-- src/gets.rt:66:9
+full-error-requires : tie.Need-full-error-requires
+full-error-requires c κs = search needs
+
+-- src/gets.rt:67:9
+words-left-requires : tie.Need-words-left-requires
+words-left-requires c κs = search needs
+
+-- src/gets.rt:68:9
+full-place-requires : tie.Need-full-place-requires
+full-place-requires c κs = search needs
+
+-- src/gets.rt:70:9
+returns : tie.Need-returns
+returns c = ?
+
+-- src/gets.rt:74:28
+cast-t8 : tie.Need-cast-t8
+cast-t8 c = search needs
+
+-- src/gets.rt:74:20
+add-t9 : tie.Need-add-t9
+add-t9 c = ?
+
+-- src/gets.rt:73:9
+returns-2 : tie.Need-returns-2
+returns-2 c = ?
+
+-- src/gets.rt:79:24
+cast-t11 : tie.Need-cast-t11
+cast-t11 c = search needs
+
+-- src/gets.rt:79:16
+add-t12 : tie.Need-add-t12
+add-t12 c = ?
+
+-- src/gets.rt:80:16
+cast-t13 : tie.Need-cast-t13
+cast-t13 c = search needs
+
+-- src/gets.rt:63:1
+returns-3 : tie.Need-returns-3
+returns-3 c = ?
+
+pub found-in-spec : {M : Type 1} → statement M
+found-in-spec =
+    tie.close
+    (tie.spec
+    full-error-requires
+    words-left-requires
+    full-place-requires
+    returns
+    cast-t8
+    add-t9
+    returns-2
+    cast-t11
+    add-t12
+    cast-t13
+    returns-3)

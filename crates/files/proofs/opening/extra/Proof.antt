@@ -1,0 +1,15 @@
+use Rattle.files.proofs.opening.extra.Statement.{statement}
+use Rattle.files.proofs.opening.extra.Tie as tie
+use Rattle.files.proofs.opening.extra.Reads as reads
+use Rattle.files.proofs.opening.extra.Lts as lts
+
+-- src/opening.rt:15:9
+returns : tie.Need-returns
+returns c = ?
+
+-- src/opening.rt:11:1
+returns-2 : tie.Need-returns-2
+returns-2 c = ?
+
+pub extra-spec : {M : Type 1} → statement M
+extra-spec = tie.close (tie.spec returns returns-2)

@@ -1,0 +1,21 @@
+use borrow.Author.Needs.{needs}
+use Rattle.files.proofs.output.after_write.Statement.{statement}
+use Rattle.files.proofs.output.after_write.Tie as tie
+use Rattle.files.proofs.output.after_write.Reads as reads
+use Rattle.files.proofs.output.after_write.Lts as lts
+use Rattle.files.proofs.sides.without_oldest.Reads as without-oldest-reads
+
+-- src/output.rt:134:9
+without-oldest-requires : tie.Need-without-oldest-requires
+without-oldest-requires c κs = search needs
+
+-- src/output.rt:134:9
+returns : tie.Need-returns
+returns c = ?
+
+-- src/output.rt:130:1
+returns-2 : tie.Need-returns-2
+returns-2 c = ?
+
+pub after-write-spec : {M : Type 1} → statement M
+after-write-spec = tie.close (tie.spec without-oldest-requires returns returns-2)

@@ -1,0 +1,32 @@
+use borrow.Author.Needs.{needs}
+use Rattle.files.proofs.output.has_unsent.Statement.{statement}
+use Rattle.files.proofs.output.has_unsent.Tie as tie
+use Rattle.files.proofs.output.has_unsent.Reads as reads
+use Rattle.files.proofs.output.has_unsent.Lts as lts
+use Rattle.files.proofs.slots.is_full.Reads as is-full-reads
+use Rattle.files.proofs.slots.is_part.Reads as is-part-reads
+
+-- src/output.rt:147:9
+is-part-requires : tie.Need-is-part-requires
+is-part-requires c κs = search needs
+
+-- src/output.rt:148:9
+is-full-requires : tie.Need-is-full-requires
+is-full-requires c κs = search needs
+
+-- src/output.rt:149:9
+is-part-requires-2 : tie.Need-is-part-requires-2
+is-part-requires-2 c κs = search needs
+
+-- src/output.rt:150:9
+is-full-requires-2 : tie.Need-is-full-requires-2
+is-full-requires-2 c κs = search needs
+
+-- src/output.rt:140:1
+returns : tie.Need-returns
+returns c = ?
+
+pub has-unsent-spec : {M : Type 1} → statement M
+has-unsent-spec =
+    tie.close
+    (tie.spec is-part-requires is-full-requires is-part-requires-2 is-full-requires-2 returns)

@@ -1,0 +1,39 @@
+use borrow.Author.Needs.{needs}
+use Rattle.files.proofs.sides.turned_by.Statement.{statement}
+use Rattle.files.proofs.sides.turned_by.Tie as tie
+use Rattle.files.proofs.sides.turned_by.Reads as reads
+use Rattle.files.proofs.sides.turned_by.Lts as lts
+use Rattle.files.proofs.slots.is_full.Reads as is-full-reads
+
+-- src/sides.rt:159:9
+is-full-requires : tie.Need-is-full-requires
+is-full-requires c κs = search needs
+
+-- src/sides.rt:161:22
+enum-told : tie.Need-enum-told
+enum-told c = search needs
+
+-- src/sides.rt:162:23
+enum-told-2 : tie.Need-enum-told-2
+enum-told-2 c = search needs
+
+-- src/sides.rt:163:26
+enum-told-3 : tie.Need-enum-told-3
+enum-told-3 c = search needs
+
+-- src/sides.rt:154:1
+returns : tie.Need-returns
+returns c = ?
+
+-- src/sides.rt:154:1
+returns-2 : tie.Need-returns-2
+returns-2 c = ?
+
+-- src/sides.rt:154:1
+returns-3 : tie.Need-returns-3
+returns-3 c = ?
+
+pub turned-by-spec : {M : Type 1} → statement M
+turned-by-spec =
+    tie.close
+    (tie.spec is-full-requires enum-told enum-told-2 enum-told-3 returns returns-2 returns-3)

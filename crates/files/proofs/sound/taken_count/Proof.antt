@@ -1,0 +1,42 @@
+use borrow.Author.Needs.{needs}
+use Rattle.files.proofs.sound.taken_count.Statement.{statement}
+use Rattle.files.proofs.sound.taken_count.Tie as tie
+use Rattle.files.proofs.sound.taken_count.Reads as reads
+use Rattle.files.proofs.sound.taken_count.Lts as lts
+use Rattle.files.proofs.slots.is_taken.Reads as is-taken-reads
+use Rattle.files.proofs.sound.one_if.Reads as one-if-reads
+
+-- src/sound.rt:66:20
+is-taken-requires : tie.Need-is-taken-requires
+is-taken-requires c κs = search needs
+
+-- src/sound.rt:66:9
+one-if-requires : tie.Need-one-if-requires
+one-if-requires c κs = search needs
+
+-- src/sound.rt:67:20
+is-taken-requires-2 : tie.Need-is-taken-requires-2
+is-taken-requires-2 c κs = search needs
+
+-- src/sound.rt:67:9
+one-if-requires-2 : tie.Need-one-if-requires-2
+one-if-requires-2 c κs = search needs
+
+-- src/sound.rt:68:5
+add-result : tie.Need-add-result
+add-result c = search needs
+
+-- src/sound.rt:59:1
+returns : tie.Need-returns
+returns c = ?
+
+pub taken-count-spec : {M : Type 1} → statement M
+taken-count-spec =
+    tie.close
+    (tie.spec
+    is-taken-requires
+    one-if-requires
+    is-taken-requires-2
+    one-if-requires-2
+    add-result
+    returns)

@@ -1,0 +1,85 @@
+// One file and its one or two buffers, by value: what a read, a get, a skip, a put, a seal and a write do to it, and when it is sound.
+// The words of its blocks lie in a lent area, which this crate only names by start and length.
+// It knows nothing of channels, requests, check words or other files.
+mod gets;
+mod input;
+mod opening;
+mod output;
+mod sides;
+mod slots;
+mod sound;
+
+pub use gets::{get, got_error, got_number, got_start, got_words};
+pub use input::{block_fits, delivered, gave_back, has_empty, has_full, met_mark, taken_start, took_buffer};
+pub use opening::{buffers_for, closed_file, extra, opened_file, sizes_fit};
+pub use output::{added, after_put, after_write, has_part, has_room, has_unsent, is_complete, part_length, part_start, put_start, sealed, send_start, send_words};
+pub use sides::{oldest, without_oldest};
+pub use sound::{file_sound, taken_count};
+
+// What one buffer of an open file holds: nothing; what a read is to bring; n words that were put; or a full block of so many data words,
+// with the place of get in it and its check error that was not told yet.
+pub enum Slot {
+    Empty,
+    Taken,
+    Part(u16),
+    Full { words: u16, at: u16, error: u8 },
+}
+
+// A buffer of the pool, and what it holds.
+pub struct Buffer {
+    pub number: u8,
+    pub slot: Slot,
+}
+
+// A file. `size` is B and `rlen` is r; `low` has the lower number of its buffers; `turned` says that of two full blocks the one in `high` is
+// the older; `block` is the next block number; `marked` says that a file mark has been read.
+pub struct File {
+    pub opened: bool,
+    pub channel: u8,
+    pub unit: u8,
+    pub output: bool,
+    pub double: bool,
+    pub sequence: bool,
+    pub check: bool,
+    pub size: u16,
+    pub rlen: u16,
+    pub low: Buffer,
+    pub high: Buffer,
+    pub turned: bool,
+    pub block: u16,
+    pub marked: bool,
+}
+
+// Which of a file's buffers is meant.
+pub enum Side {
+    Low,
+    High,
+    Neither,
+}
+
+// What an open asks for.
+pub struct Wish {
+    pub channel: u8,
+    pub unit: u8,
+    pub output: bool,
+    pub double: bool,
+    pub sequence: bool,
+    pub check: bool,
+    pub size: u16,
+    pub rlen: u16,
+}
+
+// What get finds. A record or a leftover is named by where its words begin in the area, and how many they are.
+pub enum Got {
+    Record { start: usize, words: usize },
+    Leftover { start: usize, words: usize },
+    Error(u8),
+    End,
+    Nothing,
+}
+
+// What get finds, and the file after it.
+pub struct Finding {
+    pub got: Got,
+    pub file: File,
+}
