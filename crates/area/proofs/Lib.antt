@@ -2,3 +2,4 @@ pub mod Walks
 pub mod Firsts
 pub mod Pastes
 pub mod Tall
+pub mod Marks

@@ -35,8 +35,21 @@ gaveBack f = emptiedAt f (takenSide f)
 
 abbrev pub withMark : File → File
 withMark f = record {
-  opened = f .opened; channel = f .channel; unit = f .unit; output = f .output; double = f .double; sequence = f .sequence; check = f .check;
-  size = f .size; rlen = f .rlen; low = f .low; high = f .high; turned = f .turned; block = f .block; marked = true }
+  opened = f .opened;
+  channel = f .channel;
+  unit = f .unit;
+  output = f .output;
+  double = f .double;
+  sequence = f .sequence;
+  check = f .check;
+  size = f .size;
+  rlen = f .rlen;
+  low = f .low;
+  high = f .high;
+  turned = f .turned;
+  block = f .block;
+  marked = true;
+}
 
 -- a read that ends with a mark; refusal 10, "a file mark has been read since the open"
 unfoldable pub metMark : File → File

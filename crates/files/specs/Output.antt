@@ -1,6 +1,6 @@
 -- Output (document 01, "Files and buffers"): put, seal and write, on one file. Assumes nothing.
 use Prim.Native.Nat.{ℕ, _+_, _*_}
-use mathlib.Core.Bool.{Bool, not, cond, _&&_, _||_}
+use mathlib.Core.Bool.{Bool, false, cond, _&&_, _||_}
 use lib.Dec.{leb, ltb}
 use Rattle.files.specs.declared.Slot.{Slot}
 use Rattle.files.specs.declared.Slot.the-variants.{Part}

@@ -53,11 +53,37 @@ oldest f = lower (isFull (f .low .slot) && not (isFull (f .high .slot) && f .tur
 -- the file with x in buffer k, the order of its full blocks and its next block number; as it is if k is none
 abbrev pub withSlot : File → Side → Slot → Bool → ℕ → File
 withSlot f Low x turned block = record {
-  opened = f .opened; channel = f .channel; unit = f .unit; output = f .output; double = f .double; sequence = f .sequence; check = f .check;
-  size = f .size; rlen = f .rlen; low = record { number = f .low .number; slot = x }; high = f .high; turned = turned; block = block; marked = f .marked }
+  opened = f .opened;
+  channel = f .channel;
+  unit = f .unit;
+  output = f .output;
+  double = f .double;
+  sequence = f .sequence;
+  check = f .check;
+  size = f .size;
+  rlen = f .rlen;
+  low = record { number = f .low .number; slot = x };
+  high = f .high;
+  turned = turned;
+  block = block;
+  marked = f .marked;
+}
 withSlot f High x turned block = record {
-  opened = f .opened; channel = f .channel; unit = f .unit; output = f .output; double = f .double; sequence = f .sequence; check = f .check;
-  size = f .size; rlen = f .rlen; low = f .low; high = record { number = f .high .number; slot = x }; turned = turned; block = block; marked = f .marked }
+  opened = f .opened;
+  channel = f .channel;
+  unit = f .unit;
+  output = f .output;
+  double = f .double;
+  sequence = f .sequence;
+  check = f .check;
+  size = f .size;
+  rlen = f .rlen;
+  low = f .low;
+  high = record { number = f .high .number; slot = x };
+  turned = turned;
+  block = block;
+  marked = f .marked;
+}
 withSlot f Neither x turned block = f
 
 -- "block numbers .. go up by one for every block sealed or delivered, and pass from 32,767 to 0"

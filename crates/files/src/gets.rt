@@ -1,10 +1,19 @@
 // Get: what it finds in the oldest full block, and the file after it.
-use crate::sides::{is_side, oldest, slot_at, start_at, with_slot, without_oldest};
-use crate::slots::{full_error, full_place, full_words, is_used_up, words_left};
 use crate::File;
 use crate::Finding;
 use crate::Got;
 use crate::Slot;
+use crate::sides::is_side;
+use crate::sides::oldest;
+use crate::sides::slot_at;
+use crate::sides::start_at;
+use crate::sides::with_slot;
+use crate::sides::without_oldest;
+use crate::slots::full_error;
+use crate::slots::full_place;
+use crate::slots::full_words;
+use crate::slots::is_used_up;
+use crate::slots::words_left;
 ghost use mathlib.Core.Path.{_≡_};
 ghost use Prim.Native.Nat.{_+_, _≤_, _<_};
 ghost use Rattle.files.specs.Slots.{fullPlace, fullWords, wordsLeft};
@@ -61,6 +70,7 @@ fn slot_after(rlen: u16, x: Slot) -> Slot
 
 // What get finds in a full block that begins at word `start` of the area.
 fn found_in(start: usize, rlen: u16, x: Slot) -> Got
+    requires { ⌜ start < 16777216 ⌝ }
     ensures { λ r. ⌜ r ≡ foundIn start rlen x ⌝ }
 {
     let error = full_error(x);

@@ -1,8 +1,15 @@
 // Input: what a read takes, and what its end does to the file.
-use crate::opening::extra;
-use crate::sides::{emptied_at, empty_side, filled_at, is_side, oldest, start_at, taken_side, with_slot};
 use crate::File;
 use crate::Slot;
+use crate::opening::extra;
+use crate::sides::emptied_at;
+use crate::sides::empty_side;
+use crate::sides::filled_at;
+use crate::sides::is_side;
+use crate::sides::oldest;
+use crate::sides::start_at;
+use crate::sides::taken_side;
+use crate::sides::with_slot;
 ghost use mathlib.Core.Path.{_≡_};
 ghost use Prim.Native.Nat.{_<_};
 ghost use Rattle.files.specs.Sides.{startAt, takenSide};

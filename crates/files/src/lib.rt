@@ -9,12 +9,41 @@ mod sides;
 mod slots;
 mod sound;
 
-pub use gets::{get, got_error, got_number, got_start, got_words};
-pub use input::{block_fits, delivered, gave_back, has_empty, has_full, met_mark, taken_start, took_buffer};
-pub use opening::{buffers_for, closed_file, extra, opened_file, sizes_fit};
-pub use output::{added, after_put, after_write, has_part, has_room, has_unsent, is_complete, part_length, part_start, put_start, sealed, send_start, send_words};
-pub use sides::{oldest, without_oldest};
-pub use sound::{file_sound, taken_count};
+pub use gets::get;
+pub use gets::got_error;
+pub use gets::got_number;
+pub use gets::got_start;
+pub use gets::got_words;
+pub use input::block_fits;
+pub use input::delivered;
+pub use input::gave_back;
+pub use input::has_empty;
+pub use input::has_full;
+pub use input::met_mark;
+pub use input::taken_start;
+pub use input::took_buffer;
+pub use opening::buffers_for;
+pub use opening::closed_file;
+pub use opening::extra;
+pub use opening::opened_file;
+pub use opening::sizes_fit;
+pub use output::added;
+pub use output::after_put;
+pub use output::after_write;
+pub use output::has_part;
+pub use output::has_room;
+pub use output::has_unsent;
+pub use output::is_complete;
+pub use output::part_length;
+pub use output::part_start;
+pub use output::put_start;
+pub use output::sealed;
+pub use output::send_start;
+pub use output::send_words;
+pub use sides::oldest;
+pub use sides::without_oldest;
+pub use sound::file_sound;
+pub use sound::taken_count;
 
 // What one buffer of an open file holds: nothing; what a read is to bring; n words that were put; or a full block of so many data words,
 // with the place of get in it and its check error that was not told yet.

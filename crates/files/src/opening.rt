@@ -5,7 +5,7 @@ use crate::Slot;
 use crate::Wish;
 ghost use mathlib.Core.Path.{_≡_};
 ghost use Prim.Native.Nat.{_≤_};
-ghost use Rattle.files.specs.Opening.{extra as extraOf, sizesFit, buffersFor, emptyBuffer, openedFile, closedFile};
+ghost use Rattle.files.specs.Opening.{extra as extraOf, sizesFit, buffersFor, emptyBuffer, secondNumber, openedFile, closedFile};
 
 // e: 1 if a block has a check word, else 0.
 pub fn extra(sequence: bool, check: bool) -> u16
@@ -45,11 +45,21 @@ fn empty_buffer(number: u8) -> Buffer
     }
 }
 
+// The number of the second buffer; a single file has none.
+fn second_number(double: bool, high: u8) -> u8
+    ensures { λ r. ⌜ r ≡ secondNumber double high ⌝ }
+{
+    if double {
+        return high;
+    }
+    0
+}
+
 // The file as it is opened, with these buffers, the lower number first. A single file has the first alone.
 pub fn opened_file(q: Wish, low: u8, high: u8) -> File
     ensures { λ r. ⌜ r ≡ openedFile q low high ⌝ }
 {
-    let second = if q.double { high } else { 0 };
+    let second = second_number(q.double, high);
     let a = empty_buffer(low);
     let b = empty_buffer(second);
     File {

@@ -1,10 +1,21 @@
 // Output: where a put goes, when a block is sealed, and what a write sends.
-use crate::opening::extra;
-use crate::sides::{empty_side, filled_at, is_side, oldest, part_side, slot_at, start_at, with_slot, without_oldest};
-use crate::slots::{full_words, is_full, is_part, part_words};
 use crate::File;
 use crate::Side;
 use crate::Slot;
+use crate::opening::extra;
+use crate::sides::empty_side;
+use crate::sides::filled_at;
+use crate::sides::is_side;
+use crate::sides::oldest;
+use crate::sides::part_side;
+use crate::sides::slot_at;
+use crate::sides::start_at;
+use crate::sides::with_slot;
+use crate::sides::without_oldest;
+use crate::slots::full_words;
+use crate::slots::is_full;
+use crate::slots::is_part;
+use crate::slots::part_words;
 ghost use mathlib.Core.Path.{_≡_};
 ghost use Prim.Native.Nat.{_<_};
 ghost use Rattle.files.specs.Output.{putSide, hasRoom, hasPart, putStart, added as addedTo, partStart, partLength, isComplete, sealed as sealedOf, afterPut, sendStart, sendWords, afterWrite, hasUnsent};

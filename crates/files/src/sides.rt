@@ -1,9 +1,12 @@
 // Which of a file's buffers is meant, and the file with something else in one of them.
-use crate::slots::{is_empty, is_full, is_part, is_taken};
 use crate::Buffer;
 use crate::File;
 use crate::Side;
 use crate::Slot;
+use crate::slots::is_empty;
+use crate::slots::is_full;
+use crate::slots::is_part;
+use crate::slots::is_taken;
 ghost use mathlib.Core.Path.{_≡_};
 ghost use Prim.Native.Nat.{_<_};
 ghost use Rattle.files.specs.Sides.{bufferAt, slotAt, startAt, isSide, lower, emptySide, takenSide, partSide, oldest as oldestOf, withSlot, nextBlock, turnedBy, filledAt, emptiedAt, withoutOldest};

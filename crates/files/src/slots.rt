@@ -10,7 +10,11 @@ pub fn is_empty(x: Slot) -> bool
         Slot::Empty => true,
         Slot::Taken => false,
         Slot::Part(_) => false,
-        Slot::Full { words: _, at: _, error: _ } => false,
+        Slot::Full {
+            words: _,
+            at: _,
+            error: _,
+        } => false,
     }
 }
 
@@ -21,7 +25,11 @@ pub fn is_taken(x: Slot) -> bool
         Slot::Empty => false,
         Slot::Taken => true,
         Slot::Part(_) => false,
-        Slot::Full { words: _, at: _, error: _ } => false,
+        Slot::Full {
+            words: _,
+            at: _,
+            error: _,
+        } => false,
     }
 }
 
@@ -32,7 +40,11 @@ pub fn is_part(x: Slot) -> bool
         Slot::Empty => false,
         Slot::Taken => false,
         Slot::Part(_) => true,
-        Slot::Full { words: _, at: _, error: _ } => false,
+        Slot::Full {
+            words: _,
+            at: _,
+            error: _,
+        } => false,
     }
 }
 
@@ -43,7 +55,11 @@ pub fn is_full(x: Slot) -> bool
         Slot::Empty => false,
         Slot::Taken => false,
         Slot::Part(_) => false,
-        Slot::Full { words: _, at: _, error: _ } => true,
+        Slot::Full {
+            words: _,
+            at: _,
+            error: _,
+        } => true,
     }
 }
 
@@ -55,7 +71,11 @@ pub fn part_words(x: Slot) -> u16
         Slot::Empty => 0,
         Slot::Taken => 0,
         Slot::Part(n) => n,
-        Slot::Full { words: _, at: _, error: _ } => 0,
+        Slot::Full {
+            words: _,
+            at: _,
+            error: _,
+        } => 0,
     }
 }
 
@@ -67,7 +87,11 @@ pub fn full_words(x: Slot) -> u16
         Slot::Empty => 0,
         Slot::Taken => 0,
         Slot::Part(_) => 0,
-        Slot::Full { words, at: _, error: _ } => words,
+        Slot::Full {
+            words,
+            at: _,
+            error: _,
+        } => words,
     }
 }
 
@@ -79,7 +103,11 @@ pub fn full_place(x: Slot) -> u16
         Slot::Empty => 0,
         Slot::Taken => 0,
         Slot::Part(_) => 0,
-        Slot::Full { words: _, at, error: _ } => at,
+        Slot::Full {
+            words: _,
+            at,
+            error: _,
+        } => at,
     }
 }
 
@@ -91,7 +119,11 @@ pub fn full_error(x: Slot) -> u8
         Slot::Empty => 0,
         Slot::Taken => 0,
         Slot::Part(_) => 0,
-        Slot::Full { words: _, at: _, error } => error,
+        Slot::Full {
+            words: _,
+            at: _,
+            error,
+        } => error,
     }
 }
 
@@ -115,6 +147,10 @@ pub fn is_used_up(x: Slot) -> bool
         Slot::Empty => false,
         Slot::Taken => false,
         Slot::Part(_) => false,
-        Slot::Full { words, at, error: _ } => words <= at,
+        Slot::Full {
+            words,
+            at,
+            error: _,
+        } => words <= at,
     }
 }

@@ -1,9 +1,14 @@
 // Whether one file is sound: document 01's paragraph on a state that is passed back, clause by clause.
-use crate::opening::sizes_fit;
-use crate::slots::{full_error, full_place, is_empty, is_full, is_part, is_taken};
 use crate::Buffer;
 use crate::File;
 use crate::Slot;
+use crate::opening::sizes_fit;
+use crate::slots::full_error;
+use crate::slots::full_place;
+use crate::slots::is_empty;
+use crate::slots::is_full;
+use crate::slots::is_part;
+use crate::slots::is_taken;
 ghost use mathlib.Core.Path.{_≡_};
 ghost use Prim.Native.Nat.{_≤_};
 ghost use Rattle.files.specs.Soundness.{inRange, isNoBuffer, hasBuffers, oneIf, takenCount, takenRight, fullFits, fullRight, partsHeld, partFits, partRight, placeFits, placeRight, isUnread, restIsZero, openSound, isBlank, fileSound};
@@ -85,7 +90,11 @@ fn full_fits(size: u16, x: Slot) -> bool
         Slot::Empty => true,
         Slot::Taken => true,
         Slot::Part(_) => true,
-        Slot::Full { words, at: _, error: _ } => (1 <= words) & (words <= size),
+        Slot::Full {
+            words,
+            at: _,
+            error: _,
+        } => (1 <= words) & (words <= size),
     }
 }
 
@@ -125,7 +134,11 @@ fn part_fits(size: u16, rlen: u16, x: Slot) -> bool
             let after = (n as u32) + (rlen as u32);
             (rlen <= n) & (after <= size as u32)
         }
-        Slot::Full { words: _, at: _, error: _ } => true,
+        Slot::Full {
+            words: _,
+            at: _,
+            error: _,
+        } => true,
     }
 }
 
@@ -152,7 +165,11 @@ fn place_fits(x: Slot) -> bool
         Slot::Empty => true,
         Slot::Taken => true,
         Slot::Part(_) => true,
-        Slot::Full { words, at, error: _ } => at <= words,
+        Slot::Full {
+            words,
+            at,
+            error: _,
+        } => at <= words,
     }
 }
 

@@ -1,3 +1,4 @@
+use Rattle.files.specs.Input.{afterFound}
 use borrow.Author.Needs.{needs}
 use Rattle.files.proofs.gets.after_found.Statement.{statement}
 use Rattle.files.proofs.gets.after_found.Tie as tie
@@ -26,7 +27,8 @@ with-slot-requires c κs = search needs
 
 -- src/gets.rt:108:1
 returns : tie.Need-returns
-returns c = ?
+unfolding afterFound
+returns c = simp (c .with-slot .ensures, c .before .slot-after .ensures, c .before .before .slot-at .ensures, c .before .before .before .oldest .ensures)
 
 pub after-found-spec : {M : Type 1} → statement M
 after-found-spec =

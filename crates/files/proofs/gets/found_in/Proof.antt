@@ -1,3 +1,4 @@
+use borrow.Author.Tests.{lt-ltb, le-ltb, le-leb, lt-leb}
 use borrow.Author.Needs.{needs}
 use Rattle.files.proofs.gets.found_in.Statement.{statement}
 use Rattle.files.proofs.gets.found_in.Tie as tie
@@ -7,49 +8,49 @@ use Rattle.files.proofs.slots.full_error.Reads as full-error-reads
 use Rattle.files.proofs.slots.full_place.Reads as full-place-reads
 use Rattle.files.proofs.slots.words_left.Reads as words-left-reads
 
--- src/gets.rt:66:9
+-- src/gets.rt:67:9
 full-error-requires : tie.Need-full-error-requires
 full-error-requires c κs = search needs
 
--- src/gets.rt:67:9
+-- src/gets.rt:68:9
 words-left-requires : tie.Need-words-left-requires
 words-left-requires c κs = search needs
 
--- src/gets.rt:68:9
+-- src/gets.rt:69:9
 full-place-requires : tie.Need-full-place-requires
 full-place-requires c κs = search needs
 
--- src/gets.rt:70:9
+-- src/gets.rt:71:9
 returns : tie.Need-returns
-returns c = ?
+returns c = rw (← c .before .before .before .full-error .ensures, lt-ltb 0 _ (c .if1 .taken))
 
--- src/gets.rt:74:28
+-- src/gets.rt:75:28
 cast-t8 : tie.Need-cast-t8
 cast-t8 c = search needs
 
--- src/gets.rt:74:20
+-- src/gets.rt:75:20
 add-t9 : tie.Need-add-t9
-add-t9 c = ?
+add-t9 c = search needs
 
--- src/gets.rt:73:9
+-- src/gets.rt:74:9
 returns-2 : tie.Need-returns-2
-returns-2 c = ?
+returns-2 c = rw (← c .before .before .before .before .full-error .ensures, ← c .before .before .before .words-left .ensures, ← c .before .before .full-place .ensures, le-ltb 0 _ (c .before .if1 .left), le-leb _ _ (c .if2 .taken))
 
--- src/gets.rt:79:24
+-- src/gets.rt:80:24
 cast-t11 : tie.Need-cast-t11
 cast-t11 c = search needs
 
--- src/gets.rt:79:16
-add-t12 : tie.Need-add-t12
-add-t12 c = ?
-
 -- src/gets.rt:80:16
+add-t12 : tie.Need-add-t12
+add-t12 c = search needs
+
+-- src/gets.rt:81:16
 cast-t13 : tie.Need-cast-t13
 cast-t13 c = search needs
 
 -- src/gets.rt:63:1
 returns-3 : tie.Need-returns-3
-returns-3 c = ?
+returns-3 c = rw (← c .before .before .before .before .full-error .ensures, ← c .before .before .before .words-left .ensures, ← c .before .before .full-place .ensures, le-ltb 0 _ (c .before .if1 .left), lt-leb _ _ (c .if2 .left))
 
 pub found-in-spec : {M : Type 1} → statement M
 found-in-spec =

@@ -1,3 +1,4 @@
+use Rattle.files.specs.Input.{lookedAt}
 use borrow.Author.Needs.{needs}
 use Rattle.files.proofs.gets.looked_at.Statement.{statement}
 use Rattle.files.proofs.gets.looked_at.Tie as tie
@@ -15,7 +16,8 @@ passed-requires-2 c κs = search needs
 
 -- src/gets.rt:26:1
 returns : tie.Need-returns
-returns c = ?
+unfolding lookedAt
+returns c = simp (c .passed2 .ensures, c .before .passed .ensures)
 
 pub looked-at-spec : {M : Type 1} → statement M
 looked-at-spec = tie.close (tie.spec passed-requires passed-requires-2 returns)

@@ -1,3 +1,4 @@
+use Rattle.files.specs.Input.{passed}
 use borrow.Author.Needs.{needs}
 use Rattle.files.proofs.gets.passed.Statement.{statement}
 use Rattle.files.proofs.gets.passed.Tie as tie
@@ -26,11 +27,13 @@ without-oldest-requires c κs = search needs
 
 -- src/gets.rt:20:9
 returns : tie.Need-returns
-returns c = ?
+unfolding passed
+returns c = rw (← c .before .before .before .before .oldest .ensures, ← c .before .before .before .slot-at .ensures, ← c .before .before .is-used-up .ensures, c .before .if1 .taken) (c .without-oldest .ensures)
 
 -- src/gets.rt:14:1
 returns-2 : tie.Need-returns-2
-returns-2 c = ?
+unfolding passed
+returns-2 c = rw (← c .before .before .before .oldest .ensures, ← c .before .before .slot-at .ensures, ← c .before .is-used-up .ensures, c .if1 .left)
 
 pub passed-spec : {M : Type 1} → statement M
 passed-spec =

@@ -25,7 +25,7 @@ add-t6 c = search needs
 
 -- src/gets.rt:49:1
 returns : tie.Need-returns
-returns c = ?
+returns c = simp (c .before .before .full-words .ensures, c .before .full-place .ensures, c .words-given .ensures .0)
 
 pub slot-after-spec : {M : Type 1} → statement M
 slot-after-spec =

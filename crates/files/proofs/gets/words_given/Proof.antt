@@ -1,3 +1,5 @@
+use native.Mathlib.Omega.{arith}
+use borrow.Author.Tests.{lt-ltb, le-ltb, le-leb, lt-leb}
 use borrow.Author.Needs.{needs}
 use Rattle.files.proofs.gets.words_given.Statement.{statement}
 use Rattle.files.proofs.gets.words_given.Tie as tie
@@ -16,15 +18,15 @@ words-left-requires c κs = search needs
 
 -- src/gets.rt:40:9
 returns : tie.Need-returns
-returns c = ?
+returns c = (rw (← c .before .before .full-error .ensures, ← c .before .words-left .ensures, lt-ltb 0 _ (c .if1 .taken)), omega arith)
 
 -- src/gets.rt:43:9
 returns-2 : tie.Need-returns-2
-returns-2 c = ?
+returns-2 c = (rw (← c .before .before .before .full-error .ensures, ← c .before .before .words-left .ensures, le-ltb 0 _ (c .before .if1 .left), le-leb _ _ (c .if2 .taken)), omega (arith, c .before .before .words-left .ensures, c .if2 .taken))
 
 -- src/gets.rt:34:1
 returns-3 : tie.Need-returns-3
-returns-3 c = ?
+returns-3 c = (rw (← c .before .before .before .full-error .ensures, ← c .before .before .words-left .ensures, le-ltb 0 _ (c .before .if1 .left), lt-leb _ _ (c .if2 .left)), omega (arith, c .before .before .words-left .ensures))
 
 pub words-given-spec : {M : Type 1} → statement M
 words-given-spec =

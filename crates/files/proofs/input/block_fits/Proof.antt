@@ -27,7 +27,7 @@ add-most c = search needs
 
 -- src/input.rt:36:1
 returns : tie.Need-returns
-returns c = ?
+returns c = simp (c .before .extra .ensures .0)
 
 pub block-fits-spec : {M : Type 1} → statement M
 block-fits-spec = tie.close (tie.spec extra-requires cast-e add-least cast-most add-most returns)

@@ -1,3 +1,4 @@
+use Rattle.files.specs.Input.{delivered}
 use borrow.Author.Needs.{needs}
 use Rattle.files.proofs.input.delivered.Statement.{statement}
 use Rattle.files.proofs.input.delivered.Tie as tie
@@ -16,7 +17,8 @@ filled-at-requires c κs = search needs
 
 -- src/input.rt:46:1
 returns : tie.Need-returns
-returns c = ?
+unfolding delivered
+returns c = simp (c .filled-at .ensures, c .before .taken-side .ensures)
 
 pub delivered-spec : {M : Type 1} → statement M
 delivered-spec = tie.close (tie.spec taken-side-requires filled-at-requires returns)

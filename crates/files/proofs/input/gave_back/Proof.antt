@@ -1,3 +1,4 @@
+use Rattle.files.specs.Input.{gaveBack}
 use borrow.Author.Needs.{needs}
 use Rattle.files.proofs.input.gave_back.Statement.{statement}
 use Rattle.files.proofs.input.gave_back.Tie as tie
@@ -16,7 +17,8 @@ emptied-at-requires c κs = search needs
 
 -- src/input.rt:54:1
 returns : tie.Need-returns
-returns c = ?
+unfolding gaveBack
+returns c = simp (c .emptied-at .ensures, c .before .taken-side .ensures)
 
 pub gave-back-spec : {M : Type 1} → statement M
 gave-back-spec = tie.close (tie.spec taken-side-requires emptied-at-requires returns)

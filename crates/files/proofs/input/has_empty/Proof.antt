@@ -16,7 +16,7 @@ is-side-requires c κs = search needs
 
 -- src/input.rt:12:1
 returns : tie.Need-returns
-returns c = ?
+returns c = simp (c .is-side .ensures, c .before .empty-side .ensures)
 
 pub has-empty-spec : {M : Type 1} → statement M
 has-empty-spec = tie.close (tie.spec empty-side-requires is-side-requires returns)

@@ -16,7 +16,7 @@ is-side-requires c κs = search needs
 
 -- src/input.rt:71:1
 returns : tie.Need-returns
-returns c = ?
+returns c = simp (c .is-side .ensures, c .before .oldest .ensures)
 
 pub has-full-spec : {M : Type 1} → statement M
 has-full-spec = tie.close (tie.spec oldest-requires is-side-requires returns)

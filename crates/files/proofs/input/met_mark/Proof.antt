@@ -1,3 +1,4 @@
+use Rattle.files.specs.Input.{metMark}
 use borrow.Author.Needs.{needs}
 use Rattle.files.proofs.input.met_mark.Statement.{statement}
 use Rattle.files.proofs.input.met_mark.Tie as tie
@@ -11,7 +12,8 @@ gave-back-requires c κs = search needs
 
 -- src/input.rt:62:1
 returns : tie.Need-returns
-returns c = ?
+unfolding metMark
+returns c = simp (c .gave-back .ensures)
 
 pub met-mark-spec : {M : Type 1} → statement M
 met-mark-spec = tie.close (tie.spec gave-back-requires returns)

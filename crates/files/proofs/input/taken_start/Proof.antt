@@ -16,7 +16,7 @@ start-at-requires c κs = search needs
 
 -- src/input.rt:28:1
 returns : tie.Need-returns
-returns c = ?
+returns c = (simp (c .start-at .ensures .0, c .before .taken-side .ensures), c .start-at .ensures .1)
 
 pub taken-start-spec : {M : Type 1} → statement M
 taken-start-spec = tie.close (tie.spec taken-side-requires start-at-requires returns)

@@ -1,3 +1,4 @@
+use Rattle.files.specs.Input.{tookBuffer}
 use borrow.Author.Needs.{needs}
 use Rattle.files.proofs.input.took_buffer.Statement.{statement}
 use Rattle.files.proofs.input.took_buffer.Tie as tie
@@ -16,7 +17,8 @@ with-slot-requires c κs = search needs
 
 -- src/input.rt:20:1
 returns : tie.Need-returns
-returns c = ?
+unfolding tookBuffer
+returns c = simp (c .with-slot .ensures, c .before .empty-side .ensures)
 
 pub took-buffer-spec : {M : Type 1} → statement M
 took-buffer-spec = tie.close (tie.spec empty-side-requires with-slot-requires returns)

@@ -11,7 +11,7 @@ empty-buffer-requires c κs = search needs
 
 -- src/opening.rt:74:1
 returns : tie.Need-returns
-returns c = ?
+returns c = simp (c .empty-buffer .ensures)
 
 pub closed-file-spec : {M : Type 1} → statement M
 closed-file-spec = tie.close (tie.spec empty-buffer-requires returns)

@@ -1,3 +1,4 @@
+use native.Mathlib.Omega.{arith}
 use Rattle.files.proofs.opening.extra.Statement.{statement}
 use Rattle.files.proofs.opening.extra.Tie as tie
 use Rattle.files.proofs.opening.extra.Reads as reads
@@ -5,11 +6,11 @@ use Rattle.files.proofs.opening.extra.Lts as lts
 
 -- src/opening.rt:15:9
 returns : tie.Need-returns
-returns c = ?
+returns c = (rw (c .if1 .taken), omega arith)
 
 -- src/opening.rt:11:1
 returns-2 : tie.Need-returns-2
-returns-2 c = ?
+returns-2 c = (rw (c .if1 .left), omega arith)
 
 pub extra-spec : {M : Type 1} → statement M
 extra-spec = tie.close (tie.spec returns returns-2)

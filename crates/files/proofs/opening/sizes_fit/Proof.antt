@@ -19,7 +19,7 @@ add-whole c = search needs
 
 -- src/opening.rt:21:1
 returns : tie.Need-returns
-returns c = ?
+returns c = simp (c .extra .ensures .0)
 
 pub sizes-fit-spec : {M : Type 1} → statement M
 sizes-fit-spec = tie.close (tie.spec extra-requires cast-whole add-whole returns)

@@ -1,3 +1,4 @@
+use Rattle.files.specs.Output.{afterWrite}
 use borrow.Author.Needs.{needs}
 use Rattle.files.proofs.output.after_write.Statement.{statement}
 use Rattle.files.proofs.output.after_write.Tie as tie
@@ -11,11 +12,13 @@ without-oldest-requires c κs = search needs
 
 -- src/output.rt:134:9
 returns : tie.Need-returns
-returns c = ?
+unfolding afterWrite
+returns c = rw (c .before .if1 .taken) (c .without-oldest .ensures)
 
 -- src/output.rt:130:1
 returns-2 : tie.Need-returns-2
-returns-2 c = ?
+unfolding afterWrite
+returns-2 c = rw (c .if1 .left)
 
 pub after-write-spec : {M : Type 1} → statement M
 after-write-spec = tie.close (tie.spec without-oldest-requires returns returns-2)

@@ -16,7 +16,7 @@ is-side-requires c κs = search needs
 
 -- src/output.rt:32:1
 returns : tie.Need-returns
-returns c = ?
+returns c = simp (c .is-side .ensures, c .before .part-side .ensures)
 
 pub has-part-spec : {M : Type 1} → statement M
 has-part-spec = tie.close (tie.spec part-side-requires is-side-requires returns)

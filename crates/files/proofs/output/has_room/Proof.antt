@@ -16,7 +16,7 @@ is-side-requires c κs = search needs
 
 -- src/output.rt:24:1
 returns : tie.Need-returns
-returns c = ?
+returns c = simp (c .is-side .ensures, c .before .put-side .ensures)
 
 pub has-room-spec : {M : Type 1} → statement M
 has-room-spec = tie.close (tie.spec put-side-requires is-side-requires returns)

@@ -24,7 +24,7 @@ is-full-requires-2 c κs = search needs
 
 -- src/output.rt:140:1
 returns : tie.Need-returns
-returns c = ?
+returns c = simp (c .before .before .before .before .is-part .ensures, c .before .before .before .is-full .ensures, c .before .before .is-part2 .ensures, c .before .is-full2 .ensures)
 
 pub has-unsent-spec : {M : Type 1} → statement M
 has-unsent-spec =

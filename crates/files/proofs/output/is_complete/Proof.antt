@@ -1,3 +1,4 @@
+use Rattle.files.specs.Output.{isComplete}
 use borrow.Author.Needs.{needs}
 use Rattle.files.proofs.output.is_complete.Statement.{statement}
 use Rattle.files.proofs.output.is_complete.Tie as tie
@@ -27,7 +28,8 @@ cast-result c = search needs
 
 -- src/output.rt:82:1
 returns : tie.Need-returns
-returns c = ?
+unfolding isComplete
+returns c = simp (c .before .before .part-length .ensures)
 
 pub is-complete-spec : {M : Type 1} → statement M
 is-complete-spec =

@@ -1,3 +1,4 @@
+use Rattle.files.specs.Output.{partLength}
 use borrow.Author.Needs.{needs}
 use Rattle.files.proofs.output.part_length.Statement.{statement}
 use Rattle.files.proofs.output.part_length.Tie as tie
@@ -21,7 +22,8 @@ part-words-requires c κs = search needs
 
 -- src/output.rt:73:1
 returns : tie.Need-returns
-returns c = ?
+unfolding partLength
+returns c = simp (c .part-words .ensures, c .before .slot-at .ensures, c .before .before .part-side .ensures)
 
 pub part-length-spec : {M : Type 1} → statement M
 part-length-spec =

@@ -1,3 +1,4 @@
+use Rattle.files.specs.Output.{partStart}
 use borrow.Author.Needs.{needs}
 use Rattle.files.proofs.output.part_start.Statement.{statement}
 use Rattle.files.proofs.output.part_start.Tie as tie
@@ -16,7 +17,8 @@ start-at-requires c κs = search needs
 
 -- src/output.rt:65:1
 returns : tie.Need-returns
-returns c = ?
+unfolding partStart
+returns c = (simp (c .start-at .ensures .0, c .before .part-side .ensures), c .start-at .ensures .1)
 
 pub part-start-spec : {M : Type 1} → statement M
 part-start-spec = tie.close (tie.spec part-side-requires start-at-requires returns)

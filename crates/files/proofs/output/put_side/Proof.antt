@@ -1,3 +1,4 @@
+use Rattle.files.specs.Output.{putSide}
 use borrow.Author.Needs.{needs}
 use Rattle.files.proofs.output.put_side.Statement.{statement}
 use Rattle.files.proofs.output.put_side.Tie as tie
@@ -17,7 +18,8 @@ is-side-requires c κs = search needs
 
 -- src/output.rt:18:9
 returns : tie.Need-returns
-returns c = ?
+unfolding putSide
+returns c = rw (← c .before .before .part-side .ensures, ← c .before .is-side .ensures, c .if1 .taken)
 
 -- src/output.rt:20:5
 empty-side-requires : tie.Need-empty-side-requires
@@ -25,7 +27,8 @@ empty-side-requires c κs = search needs
 
 -- src/output.rt:13:1
 returns-2 : tie.Need-returns-2
-returns-2 c = ?
+unfolding putSide
+returns-2 c = rw (← c .before .before .before .part-side .ensures, ← c .before .before .is-side .ensures, c .before .if1 .left) (c .empty-side .ensures)
 
 pub put-side-spec : {M : Type 1} → statement M
 put-side-spec =

@@ -1,3 +1,5 @@
+use native.Mathlib.Omega.{arith}
+use Rattle.files.specs.Output.{putStart}
 use borrow.Author.Needs.{needs}
 use Rattle.files.proofs.output.put_start.Statement.{statement}
 use Rattle.files.proofs.output.put_start.Tie as tie
@@ -34,7 +36,8 @@ add-result c = search needs
 
 -- src/output.rt:40:1
 returns : tie.Need-returns
-returns c = ?
+unfolding putStart
+returns c = (simp (c .part-words .ensures, c .before .start-at .ensures .0, c .before .before .slot-at .ensures, c .before .before .before .put-side .ensures), omega (arith, c .before .start-at .ensures .1, c .part-words .ok))
 
 pub put-start-spec : {M : Type 1} → statement M
 put-start-spec =

@@ -1,3 +1,4 @@
+use Rattle.files.specs.Output.{sealed}
 use borrow.Author.Needs.{needs}
 use Rattle.files.proofs.output.sealed.Statement.{statement}
 use Rattle.files.proofs.output.sealed.Tie as tie
@@ -21,7 +22,8 @@ filled-at-requires c κs = search needs
 
 -- src/output.rt:91:1
 returns : tie.Need-returns
-returns c = ?
+unfolding sealed
+returns c = simp (c .filled-at .ensures, c .before .part-length .ensures, c .before .before .part-side .ensures)
 
 pub sealed-spec : {M : Type 1} → statement M
 sealed-spec =

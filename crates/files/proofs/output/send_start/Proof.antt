@@ -1,3 +1,4 @@
+use Rattle.files.specs.Output.{sendStart}
 use borrow.Author.Needs.{needs}
 use Rattle.files.proofs.output.send_start.Statement.{statement}
 use Rattle.files.proofs.output.send_start.Tie as tie
@@ -16,7 +17,8 @@ start-at-requires c κs = search needs
 
 -- src/output.rt:111:1
 returns : tie.Need-returns
-returns c = ?
+unfolding sendStart
+returns c = (simp (c .start-at .ensures .0, c .before .oldest .ensures), c .start-at .ensures .1)
 
 pub send-start-spec : {M : Type 1} → statement M
 send-start-spec = tie.close (tie.spec oldest-requires start-at-requires returns)

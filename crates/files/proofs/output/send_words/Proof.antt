@@ -1,3 +1,5 @@
+use native.Mathlib.Omega.{arith}
+use Rattle.files.specs.Output.{sendWords}
 use borrow.Author.Needs.{needs}
 use Rattle.files.proofs.output.send_words.Statement.{statement}
 use Rattle.files.proofs.output.send_words.Tie as tie
@@ -38,7 +40,8 @@ add-result c = search needs
 
 -- src/output.rt:119:1
 returns : tie.Need-returns
-returns c = ?
+unfolding sendWords
+returns c = (simp (c .extra .ensures .0, c .before .full-words .ensures, c .before .before .slot-at .ensures, c .before .before .before .oldest .ensures), omega (arith, c .extra .ensures .1, c .before .full-words .ok))
 
 pub send-words-spec : {M : Type 1} → statement M
 send-words-spec =

@@ -18,15 +18,15 @@ enum-told-3 c = search needs
 
 -- src/sides.rt:12:1
 returns : tie.Need-returns
-returns c = ?
+returns c = rw (c .before .enum-told .given .1)
 
 -- src/sides.rt:12:1
 returns-2 : tie.Need-returns-2
-returns-2 c = ?
+returns-2 c = rw (c .before .enum-told2 .given .1)
 
 -- src/sides.rt:12:1
 returns-3 : tie.Need-returns-3
-returns-3 c = ?
+returns-3 c = rw (c .enum-told3 .given .1)
 
 pub buffer-at-spec : {M : Type 1} → statement M
 buffer-at-spec = tie.close (tie.spec enum-told enum-told-2 enum-told-3 returns returns-2 returns-3)

@@ -1,3 +1,4 @@
+use Rattle.files.specs.Sides.{emptiedAt}
 use borrow.Author.Needs.{needs}
 use Rattle.files.proofs.sides.emptied_at.Statement.{statement}
 use Rattle.files.proofs.sides.emptied_at.Tie as tie
@@ -11,7 +12,8 @@ with-slot-requires c κs = search needs
 
 -- src/sides.rt:182:1
 returns : tie.Need-returns
-returns c = ?
+unfolding emptiedAt
+returns c = simp (c .with-slot .ensures)
 
 pub emptied-at-spec : {M : Type 1} → statement M
 emptied-at-spec = tie.close (tie.spec with-slot-requires returns)

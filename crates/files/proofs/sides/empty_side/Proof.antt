@@ -1,3 +1,4 @@
+use Rattle.files.specs.Sides.{emptySide}
 use borrow.Author.Needs.{needs}
 use Rattle.files.proofs.sides.empty_side.Statement.{statement}
 use Rattle.files.proofs.sides.empty_side.Tie as tie
@@ -20,7 +21,8 @@ lower-of-requires c κs = search needs
 
 -- src/sides.rt:65:1
 returns : tie.Need-returns
-returns c = ?
+unfolding emptySide
+returns c = simp (c .lower-of .ensures, c .before .before .before .is-empty .ensures, c .before .before .is-empty2 .ensures)
 
 pub empty-side-spec : {M : Type 1} → statement M
 empty-side-spec =

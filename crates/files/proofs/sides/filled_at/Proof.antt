@@ -1,3 +1,4 @@
+use Rattle.files.specs.Sides.{filledAt}
 use borrow.Author.Needs.{needs}
 use Rattle.files.proofs.sides.filled_at.Statement.{statement}
 use Rattle.files.proofs.sides.filled_at.Tie as tie
@@ -21,7 +22,8 @@ with-slot-requires c κs = search needs
 
 -- src/sides.rt:168:1
 returns : tie.Need-returns
-returns c = ?
+unfolding filledAt
+returns c = simp (c .with-slot .ensures, c .before .before .turned-by .ensures, c .before .next-block .ensures)
 
 pub filled-at-spec : {M : Type 1} → statement M
 filled-at-spec =

@@ -1,3 +1,4 @@
+use Rattle.files.specs.Sides.{oldest}
 use borrow.Author.Needs.{needs}
 use Rattle.files.proofs.sides.oldest.Statement.{statement}
 use Rattle.files.proofs.sides.oldest.Tie as tie
@@ -20,7 +21,8 @@ lower-of-requires c κs = search needs
 
 -- src/sides.rt:104:1
 returns : tie.Need-returns
-returns c = ?
+unfolding oldest
+returns c = simp (c .lower-of .ensures, c .before .before .before .is-full .ensures, c .before .before .is-full2 .ensures)
 
 pub oldest-spec : {M : Type 1} → statement M
 oldest-spec = tie.close (tie.spec is-full-requires is-full-requires-2 lower-of-requires returns)

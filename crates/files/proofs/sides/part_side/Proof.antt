@@ -1,3 +1,4 @@
+use Rattle.files.specs.Sides.{partSide}
 use borrow.Author.Needs.{needs}
 use Rattle.files.proofs.sides.part_side.Statement.{statement}
 use Rattle.files.proofs.sides.part_side.Tie as tie
@@ -20,7 +21,8 @@ lower-of-requires c κs = search needs
 
 -- src/sides.rt:91:1
 returns : tie.Need-returns
-returns c = ?
+unfolding partSide
+returns c = simp (c .lower-of .ensures, c .before .before .is-part .ensures, c .before .is-part2 .ensures)
 
 pub part-side-spec : {M : Type 1} → statement M
 part-side-spec = tie.close (tie.spec is-part-requires is-part-requires-2 lower-of-requires returns)

@@ -11,7 +11,7 @@ buffer-at-requires c κs = search needs
 
 -- src/sides.rt:26:1
 returns : tie.Need-returns
-returns c = ?
+returns c = simp (c .buffer-at .ensures)
 
 pub slot-at-spec : {M : Type 1} → statement M
 slot-at-spec = tie.close (tie.spec buffer-at-requires returns)

@@ -1,3 +1,4 @@
+use Rattle.files.specs.Sides.{takenSide}
 use borrow.Author.Needs.{needs}
 use Rattle.files.proofs.sides.taken_side.Statement.{statement}
 use Rattle.files.proofs.sides.taken_side.Tie as tie
@@ -20,7 +21,8 @@ lower-of-requires c κs = search needs
 
 -- src/sides.rt:78:1
 returns : tie.Need-returns
-returns c = ?
+unfolding takenSide
+returns c = simp (c .lower-of .ensures, c .before .before .is-taken .ensures, c .before .is-taken2 .ensures)
 
 pub taken-side-spec : {M : Type 1} → statement M
 taken-side-spec =

@@ -1,3 +1,4 @@
+use Rattle.files.specs.Sides.{withoutOldest}
 use borrow.Author.Needs.{needs}
 use Rattle.files.proofs.sides.without_oldest.Statement.{statement}
 use Rattle.files.proofs.sides.without_oldest.Tie as tie
@@ -16,7 +17,8 @@ emptied-at-requires c κs = search needs
 
 -- src/sides.rt:189:1
 returns : tie.Need-returns
-returns c = ?
+unfolding withoutOldest
+returns c = simp (c .emptied-at .ensures, c .before .oldest .ensures)
 
 pub without-oldest-spec : {M : Type 1} → statement M
 without-oldest-spec = tie.close (tie.spec oldest-requires emptied-at-requires returns)

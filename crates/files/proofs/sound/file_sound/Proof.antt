@@ -1,3 +1,6 @@
+use mathlib.Core.Path.{sym, _∙_}
+use Rattle.area.proofs.Marks.{cond-true, cond-false}
+use Rattle.files.specs.Soundness.{fileSound}
 use borrow.Author.Needs.{needs}
 use Rattle.files.proofs.sound.file_sound.Statement.{statement}
 use Rattle.files.proofs.sound.file_sound.Tie as tie
@@ -12,7 +15,8 @@ open-sound-requires c κs = search needs
 
 -- src/sound.rt:229:9
 returns : tie.Need-returns
-returns c = ?
+unfolding fileSound
+returns c = c .open-sound .ensures ∙ sym (cond-true _ _ (c .before .if1 .taken))
 
 -- src/sound.rt:231:5
 is-blank-requires : tie.Need-is-blank-requires
@@ -20,7 +24,8 @@ is-blank-requires c κs = search needs
 
 -- src/sound.rt:225:1
 returns-2 : tie.Need-returns-2
-returns-2 c = ?
+unfolding fileSound
+returns-2 c = c .is-blank .ensures ∙ sym (cond-false _ _ (c .before .if1 .left))
 
 pub file-sound-spec : {M : Type 1} → statement M
 file-sound-spec = tie.close (tie.spec open-sound-requires returns is-blank-requires returns-2)

@@ -15,7 +15,7 @@ full-fits-requires-2 c κs = search needs
 
 -- src/sound.rt:92:1
 returns : tie.Need-returns
-returns c = ?
+returns c = simp (c .before .full-fits .ensures, c .full-fits2 .ensures)
 
 pub full-right-spec : {M : Type 1} → statement M
 full-right-spec = tie.close (tie.spec full-fits-requires full-fits-requires-2 returns)

@@ -11,11 +11,11 @@ is-no-buffer-requires c κs = search needs
 
 -- src/sound.rt:43:9
 returns : tie.Need-returns
-returns c = ?
+returns c = rw (c .if1 .taken)
 
 -- src/sound.rt:34:1
 returns-2 : tie.Need-returns-2
-returns-2 c = ?
+returns-2 c = rw (c .if1 .left) (simp (c .before .is-no-buffer .ensures))
 
 pub has-buffers-spec : {M : Type 1} → statement M
 has-buffers-spec = tie.close (tie.spec is-no-buffer-requires returns returns-2)

@@ -20,7 +20,7 @@ full-error-requires-2 c κs = search needs
 
 -- src/sound.rt:12:1
 returns : tie.Need-returns
-returns c = ?
+returns c = simp (c .before .before .before .sizes-fit .ensures, c .before .before .full-error .ensures, c .before .full-error2 .ensures)
 
 pub in-range-spec : {M : Type 1} → statement M
 in-range-spec =

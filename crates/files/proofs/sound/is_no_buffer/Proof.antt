@@ -11,7 +11,7 @@ is-empty-requires c κs = search needs
 
 -- src/sound.rt:25:1
 returns : tie.Need-returns
-returns c = ?
+returns c = simp (c .before .is-empty .ensures)
 
 pub is-no-buffer-spec : {M : Type 1} → statement M
 is-no-buffer-spec = tie.close (tie.spec is-empty-requires returns)

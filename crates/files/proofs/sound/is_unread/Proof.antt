@@ -16,7 +16,7 @@ full-error-requires c κs = search needs
 
 -- src/sound.rt:172:1
 returns : tie.Need-returns
-returns c = ?
+returns c = simp (c .before .full-place .ensures, c .full-error .ensures)
 
 pub is-unread-spec : {M : Type 1} → statement M
 is-unread-spec = tie.close (tie.spec full-place-requires full-error-requires returns)

@@ -1,3 +1,4 @@
+use Rattle.files.specs.Soundness.{openSound}
 use borrow.Author.Needs.{needs}
 use Rattle.files.proofs.sound.open_sound.Statement.{statement}
 use Rattle.files.proofs.sound.open_sound.Tie as tie
@@ -41,7 +42,8 @@ rest-is-zero-requires c κs = search needs
 
 -- src/sound.rt:196:1
 returns : tie.Need-returns
-returns c = ?
+unfolding openSound
+returns c = simp (c .before .before .before .before .before .before .in-range .ensures, c .before .before .before .before .before .has-buffers .ensures, c .before .before .before .before .taken-right .ensures, c .before .before .before .full-right .ensures, c .before .before .part-right .ensures, c .before .place-right .ensures, c .rest-is-zero .ensures)
 
 pub open-sound-spec : {M : Type 1} → statement M
 open-sound-spec =

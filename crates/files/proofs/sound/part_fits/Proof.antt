@@ -38,7 +38,7 @@ returns-2 c = search needs
 
 -- src/sound.rt:118:1
 returns-3 : tie.Need-returns-3
-returns-3 c = ?
+returns-3 c = rw (c .before .x .given .1)
 
 -- src/sound.rt:118:1
 returns-4 : tie.Need-returns-4

@@ -25,7 +25,7 @@ part-fits-requires-2 c κs = search needs
 
 -- src/sound.rt:133:1
 returns : tie.Need-returns
-returns c = ?
+returns c = simp (c .before .before .before .parts-held .ensures, c .before .before .one-if .ensures .0, c .before .part-fits .ensures, c .part-fits2 .ensures)
 
 pub part-right-spec : {M : Type 1} → statement M
 part-right-spec =

@@ -28,7 +28,7 @@ add-result c = search needs
 
 -- src/sound.rt:105:1
 returns : tie.Need-returns
-returns c = ?
+returns c = simp (c .before .before .one-if .ensures .0, c .one-if2 .ensures .0, c .before .before .before .is-part .ensures, c .before .is-part2 .ensures)
 
 pub parts-held-spec : {M : Type 1} → statement M
 parts-held-spec =

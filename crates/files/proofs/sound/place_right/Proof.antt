@@ -15,7 +15,7 @@ place-fits-requires-2 c κs = search needs
 
 -- src/sound.rt:159:1
 returns : tie.Need-returns
-returns c = ?
+returns c = simp (c .before .place-fits .ensures, c .place-fits2 .ensures)
 
 pub place-right-spec : {M : Type 1} → statement M
 place-right-spec = tie.close (tie.spec place-fits-requires place-fits-requires-2 returns)

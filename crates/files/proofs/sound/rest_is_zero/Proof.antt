@@ -24,7 +24,7 @@ is-unread-requires-2 c κs = search needs
 
 -- src/sound.rt:181:1
 returns : tie.Need-returns
-returns c = ?
+returns c = simp (c .before .before .before .before .before .before .is-full .ensures, c .before .before .before .before .before .is-full2 .ensures, c .before .before .before .before .is-unread .ensures, c .before .before .before .is-unread2 .ensures)
 
 pub rest-is-zero-spec : {M : Type 1} → statement M
 rest-is-zero-spec =

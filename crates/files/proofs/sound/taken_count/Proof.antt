@@ -1,3 +1,4 @@
+use native.Mathlib.Omega.{arith}
 use borrow.Author.Needs.{needs}
 use Rattle.files.proofs.sound.taken_count.Statement.{statement}
 use Rattle.files.proofs.sound.taken_count.Tie as tie
@@ -28,7 +29,7 @@ add-result c = search needs
 
 -- src/sound.rt:59:1
 returns : tie.Need-returns
-returns c = ?
+returns c = (simp (c .before .before .one-if .ensures .0, c .one-if2 .ensures .0, c .before .before .before .is-taken .ensures, c .before .is-taken2 .ensures), omega (arith, c .before .before .one-if .ensures .1, c .one-if2 .ensures .1))
 
 pub taken-count-spec : {M : Type 1} → statement M
 taken-count-spec =

@@ -16,7 +16,7 @@ one-if-requires c κs = search needs
 
 -- src/sound.rt:72:1
 returns : tie.Need-returns
-returns c = ?
+returns c = simp (c .before .before .taken-count .ensures .0, c .one-if .ensures .0)
 
 pub taken-right-spec : {M : Type 1} → statement M
 taken-right-spec = tie.close (tie.spec taken-count-requires one-if-requires returns)
