@@ -1,6 +1,5 @@
 pub mod Slots
 pub mod Sides
 pub mod Opening
-pub mod Soundness
 pub mod Input
 pub mod Output

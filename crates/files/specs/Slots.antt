@@ -1,7 +1,6 @@
 -- What one buffer of an open file holds. Assumes nothing.
-use Prim.Native.Nat.{ℕ, _-_}
+use Prim.Native.Nat.{ℕ}
 use mathlib.Core.Bool.{Bool, true, false}
-use lib.Dec.{leb}
 use Rattle.files.specs.declared.Slot.{Slot}
 use Rattle.files.specs.declared.Slot.the-variants.{Empty, Taken, Part, Full}
 
@@ -56,14 +55,3 @@ fullError Empty = 0
 fullError Taken = 0
 fullError (Part n) = 0
 fullError (Full n at e) = e
-
--- how many words of a full block have not been given
-abbrev pub wordsLeft : Slot → ℕ
-wordsLeft x = fullWords x - fullPlace x
-
--- a full block of which nothing remains
-abbrev pub isUsedUp : Slot → Bool
-isUsedUp Empty = false
-isUsedUp Taken = false
-isUsedUp (Part n) = false
-isUsedUp (Full n at e) = leb n at

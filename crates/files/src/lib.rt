@@ -1,19 +1,12 @@
-// One file and its one or two buffers, by value: what a read, a get, a skip, a put, a seal and a write do to it, and when it is sound.
+// One file and its one or two buffers, by value: what a read, a skip, a put, a seal and a write do to it.
 // The words of its blocks lie in a lent area, which this crate only names by start and length.
 // It knows nothing of channels, requests, check words or other files.
-mod gets;
 mod input;
 mod opening;
 mod output;
 mod sides;
 mod slots;
-mod sound;
 
-pub use gets::get;
-pub use gets::got_error;
-pub use gets::got_number;
-pub use gets::got_start;
-pub use gets::got_words;
 pub use input::block_fits;
 pub use input::delivered;
 pub use input::gave_back;
@@ -40,10 +33,19 @@ pub use output::put_start;
 pub use output::sealed;
 pub use output::send_start;
 pub use output::send_words;
+pub use sides::is_side;
 pub use sides::oldest;
+pub use sides::slot_at;
+pub use sides::start_at;
+pub use sides::with_slot;
 pub use sides::without_oldest;
-pub use sound::file_sound;
-pub use sound::taken_count;
+pub use slots::full_error;
+pub use slots::full_place;
+pub use slots::full_words;
+pub use slots::is_empty;
+pub use slots::is_full;
+pub use slots::is_part;
+pub use slots::is_taken;
 
 // What one buffer of an open file holds: nothing; what a read is to bring; n words that were put; or a full block of so many data words,
 // with the place of get in it and its check error that was not told yet.
@@ -96,19 +98,4 @@ pub struct Wish {
     pub check: bool,
     pub size: u16,
     pub rlen: u16,
-}
-
-// What get finds. A record or a leftover is named by where its words begin in the area, and how many they are.
-pub enum Got {
-    Record { start: usize, words: usize },
-    Leftover { start: usize, words: usize },
-    Error(u8),
-    End,
-    Nothing,
-}
-
-// What get finds, and the file after it.
-pub struct Finding {
-    pub got: Got,
-    pub file: File,
 }

@@ -1,7 +1,7 @@
 // What a slot is, and the numbers in it; 0 where it has none.
 use crate::Slot;
 ghost use mathlib.Core.Path.{_≡_};
-ghost use Rattle.files.specs.Slots.{isEmpty, isTaken, isPart, isFull, partWords, fullWords, fullPlace, fullError, wordsLeft, isUsedUp};
+ghost use Rattle.files.specs.Slots.{isEmpty, isTaken, isPart, isFull, partWords, fullWords, fullPlace, fullError};
 
 pub fn is_empty(x: Slot) -> bool
     ensures { λ r. ⌜ r ≡ isEmpty x ⌝ }
@@ -124,33 +124,5 @@ pub fn full_error(x: Slot) -> u8
             at: _,
             error,
         } => error,
-    }
-}
-
-// How many words of a full block have not been given.
-pub fn words_left(x: Slot) -> u16
-    ensures { λ r. ⌜ r ≡ wordsLeft x ⌝ }
-{
-    let n = full_words(x);
-    let at = full_place(x);
-    if n < at {
-        return 0;
-    }
-    n - at
-}
-
-// Whether nothing remains of a full block.
-pub fn is_used_up(x: Slot) -> bool
-    ensures { λ r. ⌜ r ≡ isUsedUp x ⌝ }
-{
-    match x {
-        Slot::Empty => false,
-        Slot::Taken => false,
-        Slot::Part(_) => false,
-        Slot::Full {
-            words,
-            at,
-            error: _,
-        } => words <= at,
     }
 }

@@ -1,21 +1,15 @@
+-- `files::delivered` meets its contract, from the contracts of `filled_at` and `taken_side`. Assumes nothing.
 use Rattle.files.specs.Input.{delivered}
 use borrow.Author.Needs.{needs}
 use Rattle.files.proofs.input.delivered.Statement.{statement}
 use Rattle.files.proofs.input.delivered.Tie as tie
-use Rattle.files.proofs.input.delivered.Reads as reads
-use Rattle.files.proofs.input.delivered.Lts as lts
-use Rattle.files.proofs.sides.filled_at.Reads as filled-at-reads
-use Rattle.files.proofs.sides.taken_side.Reads as taken-side-reads
 
--- src/input.rt:49:9
 taken-side-requires : tie.Need-taken-side-requires
 taken-side-requires c κs = search needs
 
--- src/input.rt:50:5
 filled-at-requires : tie.Need-filled-at-requires
 filled-at-requires c κs = search needs
 
--- src/input.rt:46:1
 returns : tie.Need-returns
 unfolding delivered
 returns c = simp (c .filled-at .ensures, c .before .taken-side .ensures)

@@ -1,21 +1,15 @@
+-- `files::took_buffer` meets its contract, from the contracts of `empty_side` and `with_slot`. Assumes nothing.
 use Rattle.files.specs.Input.{tookBuffer}
 use borrow.Author.Needs.{needs}
 use Rattle.files.proofs.input.took_buffer.Statement.{statement}
 use Rattle.files.proofs.input.took_buffer.Tie as tie
-use Rattle.files.proofs.input.took_buffer.Reads as reads
-use Rattle.files.proofs.input.took_buffer.Lts as lts
-use Rattle.files.proofs.sides.empty_side.Reads as empty-side-reads
-use Rattle.files.proofs.sides.with_slot.Reads as with-slot-reads
 
--- src/input.rt:23:9
 empty-side-requires : tie.Need-empty-side-requires
 empty-side-requires c κs = search needs
 
--- src/input.rt:24:5
 with-slot-requires : tie.Need-with-slot-requires
 with-slot-requires c κs = search needs
 
--- src/input.rt:20:1
 returns : tie.Need-returns
 unfolding tookBuffer
 returns c = simp (c .with-slot .ensures, c .before .empty-side .ensures)

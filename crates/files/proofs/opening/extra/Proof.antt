@@ -1,14 +1,11 @@
+-- `files::extra` meets its contract, branch by branch. Assumes nothing.
 use native.Mathlib.Omega.{arith}
 use Rattle.files.proofs.opening.extra.Statement.{statement}
 use Rattle.files.proofs.opening.extra.Tie as tie
-use Rattle.files.proofs.opening.extra.Reads as reads
-use Rattle.files.proofs.opening.extra.Lts as lts
 
--- src/opening.rt:15:9
 returns : tie.Need-returns
 returns c = (rw (c .if1 .taken), omega arith)
 
--- src/opening.rt:11:1
 returns-2 : tie.Need-returns-2
 returns-2 c = (rw (c .if1 .left), omega arith)
 

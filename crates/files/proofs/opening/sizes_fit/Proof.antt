@@ -1,23 +1,17 @@
+-- `files::sizes_fit` meets its contract, from the contract of `extra`. Assumes nothing.
 use borrow.Author.Needs.{needs}
 use Rattle.files.proofs.opening.sizes_fit.Statement.{statement}
 use Rattle.files.proofs.opening.sizes_fit.Tie as tie
-use Rattle.files.proofs.opening.sizes_fit.Reads as reads
-use Rattle.files.proofs.opening.sizes_fit.Lts as lts
-use Rattle.files.proofs.opening.extra.Reads as extra-reads
 
--- src/opening.rt:24:9
 extra-requires : tie.Need-extra-requires
 extra-requires c κs = search needs
 
--- src/opening.rt:25:34
 cast-whole : tie.Need-cast-whole
 cast-whole c = search needs
 
--- src/opening.rt:25:17
 add-whole : tie.Need-add-whole
 add-whole c = search needs
 
--- src/opening.rt:21:1
 returns : tie.Need-returns
 returns c = simp (c .extra .ensures .0)
 

@@ -1,21 +1,16 @@
+-- `files::after_write` meets its contract, branch by branch, from the contract of `without_oldest`. Assumes nothing.
 use Rattle.files.specs.Output.{afterWrite}
 use borrow.Author.Needs.{needs}
 use Rattle.files.proofs.output.after_write.Statement.{statement}
 use Rattle.files.proofs.output.after_write.Tie as tie
-use Rattle.files.proofs.output.after_write.Reads as reads
-use Rattle.files.proofs.output.after_write.Lts as lts
-use Rattle.files.proofs.sides.without_oldest.Reads as without-oldest-reads
 
--- src/output.rt:134:9
 without-oldest-requires : tie.Need-without-oldest-requires
 without-oldest-requires c κs = search needs
 
--- src/output.rt:134:9
 returns : tie.Need-returns
 unfolding afterWrite
 returns c = rw (c .before .if1 .taken) (c .without-oldest .ensures)
 
--- src/output.rt:130:1
 returns-2 : tie.Need-returns-2
 unfolding afterWrite
 returns-2 c = rw (c .if1 .left)

@@ -1,28 +1,20 @@
+-- `files::has_unsent` meets its contract, from the contracts of `is_full` and `is_part`. Assumes nothing.
 use borrow.Author.Needs.{needs}
 use Rattle.files.proofs.output.has_unsent.Statement.{statement}
 use Rattle.files.proofs.output.has_unsent.Tie as tie
-use Rattle.files.proofs.output.has_unsent.Reads as reads
-use Rattle.files.proofs.output.has_unsent.Lts as lts
-use Rattle.files.proofs.slots.is_full.Reads as is-full-reads
-use Rattle.files.proofs.slots.is_part.Reads as is-part-reads
 
--- src/output.rt:147:9
 is-part-requires : tie.Need-is-part-requires
 is-part-requires c κs = search needs
 
--- src/output.rt:148:9
 is-full-requires : tie.Need-is-full-requires
 is-full-requires c κs = search needs
 
--- src/output.rt:149:9
 is-part-requires-2 : tie.Need-is-part-requires-2
 is-part-requires-2 c κs = search needs
 
--- src/output.rt:150:9
 is-full-requires-2 : tie.Need-is-full-requires-2
 is-full-requires-2 c κs = search needs
 
--- src/output.rt:140:1
 returns : tie.Need-returns
 returns c = simp (c .before .before .before .before .is-part .ensures, c .before .before .before .is-full .ensures, c .before .before .is-part2 .ensures, c .before .is-full2 .ensures)
 

@@ -1,35 +1,26 @@
+-- `files::turned_by` meets its contract, case by case, from the contract of `is_full`. Assumes nothing.
 use borrow.Author.Needs.{needs}
 use Rattle.files.proofs.sides.turned_by.Statement.{statement}
 use Rattle.files.proofs.sides.turned_by.Tie as tie
-use Rattle.files.proofs.sides.turned_by.Reads as reads
-use Rattle.files.proofs.sides.turned_by.Lts as lts
-use Rattle.files.proofs.slots.is_full.Reads as is-full-reads
 
--- src/sides.rt:159:9
 is-full-requires : tie.Need-is-full-requires
 is-full-requires c κs = search needs
 
--- src/sides.rt:161:22
 enum-told : tie.Need-enum-told
 enum-told c = search needs
 
--- src/sides.rt:162:23
 enum-told-2 : tie.Need-enum-told-2
 enum-told-2 c = search needs
 
--- src/sides.rt:163:26
 enum-told-3 : tie.Need-enum-told-3
 enum-told-3 c = search needs
 
--- src/sides.rt:154:1
 returns : tie.Need-returns
 returns c = simp (c .enum-told .given .1, c .before .before .is-full .ensures)
 
--- src/sides.rt:154:1
 returns-2 : tie.Need-returns-2
 returns-2 c = rw (c .enum-told2 .given .1)
 
--- src/sides.rt:154:1
 returns-3 : tie.Need-returns-3
 returns-3 c = rw (c .enum-told3 .given .1)
 

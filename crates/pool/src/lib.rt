@@ -1,0 +1,13 @@
+// The files over one pool of buffers: which buffers are free, which file serves a unit, and when the files are sound, each by itself and
+// every two of them. It knows nothing of channels and requests, and only numbers the buffers.
+mod free;
+mod sound;
+mod units;
+
+pub use free::{free_count, holds, is_held, lowest_free};
+pub use sound::{file_sound, taken_count};
+pub use units::{is_bound, serves, serving_file};
+
+// How many files there are, and how many buffers a pool may have.
+pub const FILES: usize = 16;
+pub const BUFFERS: usize = 32;
