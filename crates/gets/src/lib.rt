@@ -7,9 +7,8 @@ pub use answers::got_error;
 pub use answers::got_number;
 pub use answers::got_start;
 pub use answers::got_words;
-pub use looks::get;
-
 use files::File;
+pub use looks::get;
 
 // What get finds. A record or a leftover is named by where its words begin in the area, and how many they are.
 pub enum Got {

@@ -1,14 +1,17 @@
--- "A state passed back by the caller is sound if ..": what that paragraph of document 01 says of one file, clause by clause, in its order.
+-- "A state passed back by the caller is sound if ..": what that paragraph of document 01 says of files, clause by clause, in its order.
 -- Its clauses on units and requests are judged where the channels are known. Assumes nothing.
 use Prim.Native.Nat.{ℕ, _+_}
 use mathlib.Core.Bool.{Bool, true, false, not, cond, _&&_, _||_}
+use mathlib.Core.List.{List}
 use lib.Dec.{leb, ltb, eqb}
+use Rattle.area.specs.Lists.{allOf, allPairs}
 use Rattle.files.specs.declared.Slot.{Slot}
 use Rattle.files.specs.declared.Slot.the-variants.{Empty, Taken, Part, Full}
 use Rattle.files.specs.declared.Buffer.{Buffer}
 use Rattle.files.specs.declared.File.{File}
 use Rattle.files.specs.Slots.{isEmpty, isTaken, isPart, isFull, fullPlace, fullError}
 use Rattle.files.specs.Opening.{sizesFit}
+use Rattle.pool.specs.Free.{heldBy, serves}
 
 -- "its numbers are in the ranges here": sizes, block number, check errors
 abbrev pub inRange : ℕ → File → Bool
@@ -91,3 +94,19 @@ isBlank f =
 
 unfoldable pub fileSound : ℕ → ℕ → File → Bool
 fileSound m w f = cond (f .opened) (openSound m w f) (isBlank f)
+
+-- ---- the files together
+
+-- "no buffer is held by two files"
+abbrev pub shareBuffer : File → File → Bool
+shareBuffer f g = f .opened && (heldBy (f .low .number) g || (f .double && heldBy (f .high .number) g))
+
+-- "a declared unit of its own", and "a unit serves at most one open file"
+abbrev pub shareUnit : File → File → Bool
+shareUnit f g = f .opened && serves (f .channel) (f .unit) g
+
+unfoldable pub apart : File → File → Bool
+apart f g = not (shareBuffer f g) && not (shareUnit f g)
+
+unfoldable pub filesSound : ℕ → ℕ → List File → Bool
+filesSound m w fs = allOf (fileSound m w) fs && allPairs apart fs
