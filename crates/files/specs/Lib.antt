@@ -3,3 +3,4 @@ pub mod Sides
 pub mod Opening
 pub mod Input
 pub mod Output
+pub mod Blocks
