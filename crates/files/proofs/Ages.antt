@@ -60,11 +60,11 @@ empty-none f =
     lower-cases (λ k. fullAt f k ≡ []) (isEmpty (f .low .slot)) (f .double && isEmpty (f .high .slot))
     (λ a. empty-quiet (f .low .number) (f .low .slot) a) (λ a b. empty-quiet (f .high .number) (f .high .slot) (and-right (f .double) _ b)) (λ a b. refl)
 
-taken-none : (f : File) → fullAt f (takenSide f) ≡ []
+pub taken-none : (f : File) → fullAt f (takenSide f) ≡ []
 unfolding takenSide
 taken-none f = lower-cases (λ k. fullAt f k ≡ []) (isTaken (f .low .slot)) (isTaken (f .high .slot)) (λ a. taken-quiet (f .low .number) (f .low .slot) a) (λ a b. taken-quiet (f .high .number) (f .high .slot) b) (λ a b. refl)
 
-part-none : (f : File) → fullAt f (partSide f) ≡ []
+pub part-none : (f : File) → fullAt f (partSide f) ≡ []
 unfolding partSide
 part-none f = lower-cases (λ k. fullAt f k ≡ []) (isPart (f .low .slot)) (isPart (f .high .slot)) (λ a. part-quiet (f .low .number) (f .low .slot) a) (λ a b. part-quiet (f .high .number) (f .high .slot) b) (λ a b. refl)
 
@@ -94,7 +94,7 @@ low-young b x (Part n) = refl
 low-young b x (Full n at e) = refl
 
 -- a block that becomes full comes last
-young : (f : File) (k : Side) (n e : ℕ) → isSide k ≡ true → fullAt f k ≡ [] → line (filledAt f k n e) ≡ line f ++ (block (bufferAt f k .number) n 0 e ∷ [])
+pub young : (f : File) (k : Side) (n e : ℕ) → isSide k ≡ true → fullAt f k ≡ [] → line (filledAt f k n e) ≡ line f ++ (block (bufferAt f k .number) n 0 e ∷ [])
 unfolding line filledAt
 young f Low n e s q =
     low-young (f .high .number) (block (f .low .number) n 0 e) (f .high .slot)

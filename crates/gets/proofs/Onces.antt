@@ -41,7 +41,7 @@ share r left = cond (leb r left) r left
 -- ---- one get
 
 -- a block that is not used up is looked at as it is
-passed-same : (f : File) → isUsedUp (slotAt f (oldest f)) ≡ false → passed f ≡ f
+pub passed-same : (f : File) → isUsedUp (slotAt f (oldest f)) ≡ false → passed f ≡ f
 unfolding passed
 passed-same f h = cond-false (withoutOldest f) f h
 
