@@ -20,6 +20,15 @@ cond-true {A} {b} x y e = ap (λ (t : Bool). cond t x y) e
 pub cond-false : {A : Type 0} {b : Bool} (x y : A) → b ≡ false → cond b x y ≡ y
 cond-false {A} {b} x y e = ap (λ (t : Bool). cond t x y) e
 
+-- what follows from a test, where "not or" says so
+pub unless : (a b : Bool) → (not a || b) ≡ true → a ≡ true → b ≡ true
+unless true b e h = e
+unless false b e h = true-not-false h refl
+
+pub unless-so : (a b : Bool) → (a ≡ true → b ≡ true) → (not a || b) ≡ true
+unless-so true b h = h refl
+unless-so false b h = refl
+
 pub not-and : (a b : Bool) → (a ≡ true → b ≡ false) → not (a && b) ≡ true
 not-and true b h = ap not (h refl)
 not-and false b h = refl
