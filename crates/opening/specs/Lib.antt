@@ -1,0 +1,6 @@
+pub mod Answers
+pub mod Fresh
+pub mod Open
+pub mod Close
+pub mod Freeze
+pub mod Examples
