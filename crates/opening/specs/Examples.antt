@@ -23,7 +23,7 @@ runs s (opens file flags refusal ∷ rest) =
 
 -- units 0, 1 and 2 of channel 0 are declared
 unfoldable pub holds : Example → Bool
-holds (starts m opens) = runs (freshState m 1 (record { a = 7; b = 0; c = 0; d = 0; e = 0 })) opens
+holds (starts m each) = runs (freshState m 1 (record { a = 7; b = 0; c = 0; d = 0; e = 0 })) each
 
 -- "single or double": flags 0 ask for one buffer, flags 2 for two
 unfoldable pub table : List Example

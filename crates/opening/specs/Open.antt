@@ -29,7 +29,7 @@ abbrev pub wishOf : ℕ → ℕ → ℕ → ℕ → ℕ → Wish
 wishOf channel unit flags size rlen = record {
   channel = channel;
   unit = unit;
-  output = isSet flags 1;
+  output = eqb (flags % 2) 1;
   double = isSet flags 2;
   sequence = isSet flags 4;
   check = isSet flags 8;
