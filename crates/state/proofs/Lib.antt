@@ -1,0 +1,3 @@
+pub mod Lookups
+pub mod Everywhere
+pub mod ChannelFacts
