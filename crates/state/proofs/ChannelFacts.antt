@@ -48,8 +48,8 @@ pub record ChannelFacts (m : ℕ) (frozen : Bool) (c : Channel) : Type 0 where
 
 counted : (q : Request) → isCounted q ≡ true → Counted q
 counted q h =
-    let a = both {leb 1 (q .attempts)} h in
-    let b = both {leb (q .attempts) (rowOf (q .op) .attempts)} (a .1) in
+    let a = both {a = leb 1 (q .attempts)} h in
+    let b = both {a = leb (q .attempts) (rowOf (q .op) .attempts)} (a .1) in
     record { from = leb-true 1 (q .attempts) (a .0); limit = leb-true (q .attempts) (rowOf (q .op) .attempts) (b .0); words = leb-true (q .incomplete) (rowOf (q .op) .incomplete) (b .1) }
 
 is-counted : (q : Request) → Counted q → isCounted q ≡ true
@@ -108,13 +108,13 @@ module _ (m : ℕ) (frozen : Bool) (c : Channel) where
     ranges-of : InRanges c
     unfolding unitRight
     ranges-of u =
-        let h = both {not (declaredAt c u) || ltb 0 m} (at-unit u) in
-        let k = both {declaredAt c u || isNone (requested (turnAt c u))} (h .1) in
+        let h = both {a = not (declaredAt c u) || ltb 0 m} (at-unit u) in
+        let k = both {a = declaredAt c u || isNone (requested (turnAt c u))} (h .1) in
         hold-ok (declaredAt c u) (turnAt c u) (k .0) (k .1)
 
     pool-of : (u : ℕ) → declaredAt c u ≡ true → 0 < m
     unfolding unitRight
-    pool-of u e = ltb-true 0 m (unless (declaredAt c u) (ltb 0 m) (both {not (declaredAt c u) || ltb 0 m} (at-unit u) .0) e)
+    pool-of u e = ltb-true 0 m (unless (declaredAt c u) (ltb 0 m) (both {a = not (declaredAt c u) || ltb 0 m} (at-unit u) .0) e)
 
   inside : (u : ℕ) → isWorking (turnAt c u) ≡ true → u < size c
   inside = place-inside (c .units) d unitWorks refl
@@ -220,9 +220,9 @@ pub no-declared : (u : ℕ) → declaredAt noChannel u ≡ false
 unfolding freshOf bitsFrom anyOf
 no-declared u = fresh-declared _ u ∙ by-place (bitsFrom 0 0 10) false (λ b. b ≡ false) u (none-at (λ (b : Bool). b) false (bitsFrom 0 0 10) refl u) refl
 
+no-mark : noChannel .mark < size noChannel
+unfolding freshOf freshWith bitsFrom
+no-mark = omega arith
+
 pub no-facts : (m : ℕ) (frozen : Bool) → ChannelFacts m frozen noChannel
-no-facts m frozen = idle-facts m frozen noChannel some no-idle (λ u e. true-not-false e (no-declared u))
-  where
-    some : noChannel .mark < size noChannel
-    unfolding freshOf freshWith bitsFrom
-    some = omega arith
+no-facts m frozen = idle-facts m frozen noChannel no-mark no-idle (λ u e. true-not-false e (no-declared u))

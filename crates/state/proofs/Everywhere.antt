@@ -21,7 +21,7 @@ module _ {A : Type 0} (xs : List A) (d : A) where
     where
       go : Dec (i < length xs) → P (getD xs i d)
       go (yes l) = inside l
-      go (no l) = rw (List·getD-eq-default xs d {i} (omega (arith, l))) beyond
+      go (no l) = rw (List·getD-eq-default xs d {n = i} (omega (arith, l))) beyond
 
   pub all-places : (test : A → Bool) → test d ≡ true → allOf test xs ≡ true → (i : ℕ) → test (getD xs i d) ≡ true
   all-places test e h i = by-place (λ x. test x ≡ true) i (all-at test d xs h i) e
@@ -35,7 +35,7 @@ module _ {A : Type 0} (xs : List A) (d : A) where
     where
       go : Dec (i < length xs) → i < length xs
       go (yes l) = l
-      go (no l) = true-not-false h (ap test (List·getD-eq-default xs d {i} (omega (arith, l))) ∙ e)
+      go (no l) = true-not-false h (ap test (List·getD-eq-default xs d {n = i} (omega (arith, l))) ∙ e)
 
   -- every two places, where the test does not mind the order
   pub pair-places : (test : A → A → Bool) → ((x : A) → test x d ≡ true) → ((x y : A) → test x y ≡ true → test y x ≡ true)
@@ -64,7 +64,7 @@ module _ {A : Type 0} (test : A → Bool) (d : A) where
   unfolding countOf
   some-place [] h none = absurd (omega arith)
   some-place (x ∷ xs) h none =
-      let first : cond (test x) 1 0 ≡ 0 = ap (λ (t : Bool). cond t 1 0) (none 0 (omega arith)) in
+      let first : _≡_ {A = ℕ} (cond (test x) 1 0) 0 = ap (λ (t : Bool). cond t 1 0) (none 0 (omega arith)) in
       some-place xs (omega arith) (λ i l. none (suc i) (omega arith))
 
   pub count-one-place : (xs : List A) → countOf test xs ≤ 1 → (i j : ℕ) → i < length xs → j < length xs
@@ -73,10 +73,10 @@ module _ {A : Type 0} (test : A → Bool) (d : A) where
   count-one-place [] h i j l k p q = absurd (not-suc-le-zero l)
   count-one-place (x ∷ xs) h zero zero l k p q = refl
   count-one-place (x ∷ xs) h zero (suc j) l k p q =
-      let here : cond (test x) 1 0 ≡ 1 = ap (λ (t : Bool). cond t 1 0) p in
+      let here : _≡_ {A = ℕ} (cond (test x) 1 0) 1 = ap (λ (t : Bool). cond t 1 0) p in
       absurd (omega (arith, count-some xs j (le-of-suc-le-suc k) q))
   count-one-place (x ∷ xs) h (suc i) zero l k p q =
-      let here : cond (test x) 1 0 ≡ 1 = ap (λ (t : Bool). cond t 1 0) q in
+      let here : _≡_ {A = ℕ} (cond (test x) 1 0) 1 = ap (λ (t : Bool). cond t 1 0) q in
       absurd (omega (arith, count-some xs i (le-of-suc-le-suc l) p))
   count-one-place (x ∷ xs) h (suc i) (suc j) l k p q =
       ap suc (count-one-place xs (omega arith) i j (le-of-suc-le-suc l) (le-of-suc-le-suc k) p q)

@@ -1,3 +1,5 @@
 pub mod Lookups
 pub mod Everywhere
+pub mod Apart
 pub mod ChannelFacts
+pub mod Facts

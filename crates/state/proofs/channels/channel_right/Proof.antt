@@ -1,31 +1,30 @@
+-- `state::channel_right` meets its contract, from the contracts of its four parts; a channel has ten units. Assumes nothing.
+use mathlib.Core.Path.{_≡_, sym, _∙_}
+use lib.ListN.{length, length-map}
+use Rattle.channel.specs.Units.{unitCount}
+use Rattle.state.specs.Judged.{channelRight}
 use borrow.Author.Needs.{needs}
 use Rattle.state.proofs.channels.channel_right.Statement.{statement}
 use Rattle.state.proofs.channels.channel_right.Tie as tie
-use Rattle.state.proofs.channels.channel_right.Reads as reads
-use Rattle.state.proofs.channels.channel_right.Lts as lts
-use Rattle.state.proofs.channels.units_right.Reads as units-right-reads
-use Rattle.state.proofs.channels.units_served.Reads as units-served-reads
-use Rattle.state.proofs.channels.works_right.Reads as works-right-reads
 
--- src/channels.rt:126:17
 cast-mark : tie.Need-cast-mark
 cast-mark c = search needs
 
--- src/channels.rt:127:9
 units-right-requires : tie.Need-units-right-requires
 units-right-requires c κs = search needs
 
--- src/channels.rt:128:9
 works-right-requires : tie.Need-works-right-requires
 works-right-requires c κs = search needs
 
--- src/channels.rt:129:9
 units-served-requires : tie.Need-units-served-requires
 units-served-requires c κs = search needs
 
--- src/channels.rt:122:1
 returns : tie.Need-returns
-returns c = ?
+unfolding channelRight
+returns c =
+    let long : length (c .before .before .before .before .before .args .c .units) ≡ unitCount =
+    sym (length-map (c .before .before .before .before .before .args .c .units) _) ∙ c .before .before .before .before .before .good .1 .1 .1 .1 .0 .1 .1 .0 .1 .0 .1 in
+    simp (long, c .before .before .units-right .ensures, c .before .works-right .ensures, c .units-served .ensures)
 
 pub channel-right-spec : {M : Type 1} → statement M
 channel-right-spec =
