@@ -3,3 +3,4 @@ pub mod Everywhere
 pub mod Apart
 pub mod ChannelFacts
 pub mod Facts
+pub mod Kept
