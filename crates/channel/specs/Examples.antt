@@ -14,7 +14,8 @@ use Rattle.channel.specs.declared.Asked.{Asked}
 use Rattle.channel.specs.declared.Reported.{Reported}
 use Rattle.channel.specs.Rules.{good, redundancy, resultNumber, refusalNumber}
 use Rattle.channel.specs.Units.{unitCount, turnAt}
-use Rattle.channel.specs.Turns.{workingIn, askOf, reportOf}
+use Rattle.channel.specs.Scans.{workingIn}
+use Rattle.channel.specs.Turns.{askOf, reportOf}
 use Rattle.channel.specs.History.{Station, Event, ask, report, freeze, thaw, step, fresh, run}
 
 -- what is at work after a call: attempt a of unit u, or nothing

@@ -16,7 +16,8 @@ use Rattle.channel.specs.declared.Asked.{Asked}
 use Rattle.channel.specs.declared.Reported.{Reported}
 use Rattle.channel.specs.Rules.{mostAttempts}
 use Rattle.channel.specs.Units.{freshWith}
-use Rattle.channel.specs.Turns.{workingIn, isFound, thawOf, askOf, reportOf}
+use Rattle.channel.specs.Scans.{workingIn, isFound}
+use Rattle.channel.specs.Turns.{thawOf, askOf, reportOf}
 
 -- ---- what is done to a channel
 

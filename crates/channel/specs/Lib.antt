@@ -1,7 +1,7 @@
-pub mod Rules
 pub mod Units
+pub mod Scans
+pub mod Rules
 pub mod Turns
-pub mod Scan
 pub mod History
 pub mod Lifted
 pub mod Examples

@@ -12,7 +12,7 @@ use Rattle.area.proofs.Scans.{along-keeps}
 use Rattle.area.specs.declared.Found.the-variants.{At, Nothing}
 use Rattle.channel.specs.declared.Channel.{Channel}
 use Rattle.channel.specs.Units.{size}
-use Rattle.channel.specs.Turns.{nextUnit, beginOf, stands, scanFrom, working, workingIn}
+use Rattle.channel.specs.Scans.{nextUnit, beginOf, stands, scanFrom, working, workingIn}
 
 pub next-up : (n u : ℕ) → u + 1 < n → nextUnit n u ≡ u + 1
 next-up n u h = rw (lt-ltb (u + 1) n h)

@@ -10,7 +10,8 @@ use Rattle.channel.specs.declared.Turn.{Turn}
 use Rattle.channel.specs.declared.Turn.the-variants.{Waiting}
 use Rattle.channel.specs.declared.Channel.{Channel}
 use Rattle.channel.specs.Units.{size, turnAt, withTurn, acceptsAt}
-use Rattle.channel.specs.Turns.{workingIn, nextTurn, isFound, begunAt, startOf, newRequest, askOf, isOrdinary, nextUnit, markAfter}
+use Rattle.channel.specs.Scans.{workingIn, nextTurn, isFound, nextUnit}
+use Rattle.channel.specs.Turns.{begunAt, startOf, newRequest, askOf, isOrdinary, markAfter}
 
 module _ (c : Channel) (frozen busy : Bool) (known : busy ≡ isFound (workingIn c)) where
   pub start-stays : (frozen || busy) ≡ true → startOf c frozen ≡ c

@@ -20,7 +20,8 @@ use Rattle.channel.specs.declared.Unit.{Unit}
 use Rattle.channel.specs.declared.Channel.{Channel}
 use Rattle.channel.specs.Rules.{mostAttempts, rowOf}
 use Rattle.channel.specs.Units.{size, idleUnit, unitAt, declaredAt, turnAt, withTurn, isIdle, freshWith}
-use Rattle.channel.specs.Turns.{beginOf, startOf, newRequest, isOrdinary}
+use Rattle.channel.specs.Scans.{beginOf}
+use Rattle.channel.specs.Turns.{startOf, newRequest, isOrdinary}
 use Rattle.channel.specs.History.{Station, station, Event, ask, report, freeze, thaw, Answer, refused, accepted, repeated, answered, Step, stepTo, step, fresh, run, oneIf, count, aReport, aReportOf, aPriority, aRequestOf, anAnswerTo, isAlive, holdsPriority, urgentIn, declaredIn, Kept}
 use Rattle.channel.proofs.Laws.Sums.{sum, sum-le, sum-mul, sum-term, count-sum}
 use Rattle.channel.proofs.Theorems.Starts.{isWorking, held, size-with, at-set, busy-inside, declared-inside, turn-busy, Begins, Started, isFrozen, isBusy, isQuiet, begins, started}

@@ -7,7 +7,8 @@ use Prim.Native.Nat.{ℕ}
 use Rattle.area.specs.Lists.{anyOf, firstAlong}
 use Rattle.channel.specs.Rules.{redundancy, rowOf, isAllowed, isPermanent, nextAttempt, endingOf, verdictOf}
 use Rattle.channel.specs.Units.{withTurn, freshWith, acceptsAt}
-use Rattle.channel.specs.Turns.{scanFrom, workingIn, priorityIn, ordinaryIn, nextTurn, startOf, thawOf, askOf, judgeOf, goesOn, repeatOf, markAfter, endOf, bookOf, reportOf}
+use Rattle.channel.specs.Scans.{scanFrom, workingIn, priorityIn, ordinaryIn, nextTurn}
+use Rattle.channel.specs.Turns.{startOf, thawOf, askOf, judgeOf, goesOn, repeatOf, markAfter, endOf, bookOf, reportOf}
 use Rattle.channel.specs.History.{report, step, fresh, run, count, aReport, anAnswerTo}
 use Rattle.channel.specs.Examples.{repeatedFrom, see, sees, table, shown, wanted, twoAsk, allButOne}
 

@@ -4,8 +4,7 @@ use mathlib.Core.Logic.{_≢_}
 use Prim.Native.Nat.{ℕ, zero, suc, _+_, _-_, _≤_, _<_}
 use native.Mathlib.Decide.{decLt}
 use native.Mathlib.Omega.{arith}
-use Rattle.channel.specs.Turns.{nextUnit}
-use Rattle.channel.specs.Scan.{Before, upward, unwrapped, wrapped}
+use Rattle.channel.specs.Scans.{nextUnit, Before, upward, unwrapped, wrapped}
 use Rattle.channel.proofs.Laws.Scans.{next-up, next-wraps}
 
 -- the unit m after w, of n

@@ -16,8 +16,8 @@ use Rattle.channel.specs.declared.Unit.{Unit}
 use Rattle.channel.specs.declared.Channel.{Channel}
 use Rattle.channel.specs.Rules.{mostAttempts, rowOf}
 use Rattle.channel.specs.Units.{size, idleUnit, unitAt, declaredAt, turnAt, withTurn, withMark, isIdle}
-use Rattle.channel.specs.Turns.{nextUnit, beginOf, startOf, newRequest, isOrdinary, markAfter}
-use Rattle.channel.specs.Scan.{Before}
+use Rattle.channel.specs.Scans.{nextUnit, beginOf, Before}
+use Rattle.channel.specs.Turns.{startOf, newRequest, isOrdinary, markAfter}
 use Rattle.channel.specs.History.{Station, station, Event, ask, report, freeze, thaw, Answer, refused, accepted, repeated, answered, Step, stepTo, oneIf, aReport, aPriority, anAnswerTo}
 use Rattle.channel.proofs.Laws.Scans.{next-below, begin-here}
 use Rattle.channel.proofs.Laws.Sums.{sum, sum-at}

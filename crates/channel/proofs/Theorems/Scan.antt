@@ -13,8 +13,7 @@ use Rattle.area.proofs.Walks.{true-not-false}
 use Rattle.area.proofs.Firsts.{First, first-finds, first-misses}
 use Rattle.channel.specs.declared.Channel.{Channel}
 use Rattle.channel.specs.Units.{size, turnAt}
-use Rattle.channel.specs.Turns.{nextUnit, beginOf, stands, scanFrom}
-use Rattle.channel.specs.Scan.{Before, upward, unwrapped, wrapped, Scanned, finds, misses}
+use Rattle.channel.specs.Scans.{nextUnit, beginOf, stands, scanFrom, Before, upward, unwrapped, wrapped, Scanned, finds, misses}
 use Rattle.channel.proofs.Laws.Scans.{begin-below}
 use Rattle.channel.proofs.Theorems.Order.{Next, above, round, next-is, Compared, same, first, later, compare-before}
 

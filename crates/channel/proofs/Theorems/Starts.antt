@@ -19,8 +19,8 @@ use Rattle.channel.specs.declared.Turn.the-variants.{Idle, Waiting, Disp
 use Rattle.channel.specs.declared.Unit.{Unit}
 use Rattle.channel.specs.declared.Channel.{Channel}
 use Rattle.channel.specs.Units.{size, idleUnit, unitAt, declaredAt, turnAt, withTurn, withMark, isIdle}
-use Rattle.channel.specs.Turns.{waitingAs, standingOf, working, priority, ordinary, stands, beginOf, scanFrom, workingIn, priorityIn, ordinaryIn, orElse, nextTurn, isFound, begunTurn, begunAt, startOf, isOrdinary}
-use Rattle.channel.specs.Scan.{Before, Scanned, finds, misses}
+use Rattle.channel.specs.Scans.{waitingAs, standingOf, working, priority, ordinary, stands, beginOf, scanFrom, workingIn, priorityIn, ordinaryIn, orElse, nextTurn, isFound, Before, Scanned, finds, misses}
+use Rattle.channel.specs.Turns.{begunTurn, begunAt, startOf, isOrdinary}
 use Rattle.channel.proofs.Laws.Units.{unit-beyond}
 use Rattle.channel.proofs.Theorems.Order.{Compared, same, first, later, compare-before}
 use Rattle.channel.proofs.Theorems.Scan.{scan-is, scanned-as}

@@ -1,4 +1,4 @@
-use Rattle.channel.specs.Turns.{ordinaryIn}
+use Rattle.channel.specs.Scans.{ordinaryIn}
 use borrow.Author.Needs.{needs}
 use Rattle.channel.proofs.scans.first_ordinary.Statement.{statement}
 use Rattle.channel.proofs.scans.first_ordinary.Tie as tie

@@ -1,4 +1,4 @@
-use Rattle.channel.specs.Turns.{priorityIn}
+use Rattle.channel.specs.Scans.{priorityIn}
 use borrow.Author.Needs.{needs}
 use Rattle.channel.proofs.scans.first_priority.Statement.{statement}
 use Rattle.channel.proofs.scans.first_priority.Tie as tie

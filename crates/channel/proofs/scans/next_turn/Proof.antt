@@ -1,5 +1,5 @@
 use mathlib.Core.Path.{sym, ap, _∙_}
-use Rattle.channel.specs.Turns.{nextTurn}
+use Rattle.channel.specs.Scans.{nextTurn}
 use borrow.Author.Needs.{needs}
 use Rattle.channel.proofs.scans.next_turn.Statement.{statement}
 use Rattle.channel.proofs.scans.next_turn.Tie as tie

@@ -9,7 +9,7 @@ use borrow.Author.Tests.{eq-eqb, ne-eqb}
 use Rattle.area.specs.Lists.{firstAlong}
 use Rattle.area.proofs.Firsts.{first-stop, first-go, first-none}
 use Rattle.channel.specs.Units.{unitCount, size}
-use Rattle.channel.specs.Turns.{nextUnit, beginOf, stands, scanFrom}
+use Rattle.channel.specs.Scans.{nextUnit, beginOf, stands, scanFrom}
 use Rattle.channel.proofs.Laws.Scans.{next-below, begin-below, scan-of}
 use Rattle.channel.proofs.scans.scan.Statement.{statement}
 use Rattle.channel.proofs.scans.scan.Tie as tie

@@ -1,4 +1,4 @@
-use Rattle.channel.specs.Turns.{workingIn}
+use Rattle.channel.specs.Scans.{workingIn}
 use borrow.Author.Needs.{needs}
 use Rattle.channel.proofs.scans.working_unit.Statement.{statement}
 use Rattle.channel.proofs.scans.working_unit.Tie as tie
