@@ -1,11 +1,17 @@
 pub mod Order
 pub mod Scan
+pub mod Turning
 pub mod Starts
 pub mod Calls
 pub mod Sound
 pub mod Progress
 pub mod Attempts
+pub mod Fresh
+pub mod Balance
+pub mod Counts
 pub mod Race
+pub mod Budget
+pub mod Raced
 pub mod Demand
 pub mod Lift
 pub mod Examples

@@ -1,8 +1,8 @@
 -- The code's table judges every request as document 01's table does. Assumes nothing.
 use mathlib.Core.Path.{_≡_, refl, ap, sym, _∙_}
-use mathlib.Core.Bool.{Bool, true, false, not, cond, _&&_, _||_, or-true}
+use mathlib.Core.Bool.{Bool, true, false, cond, _&&_, _||_, or-true}
 use mathlib.Core.List.{List, [], _∷_}
-use Prim.Native.Nat.{ℕ, zero, suc, _+_, _≤_, _<_}
+use Prim.Native.Nat.{ℕ, zero, suc, _≤_, _<_}
 use native.Mathlib.Omega.{arith}
 use lib.Dec.{leb, eqb, leb·zero}
 use lib.ListN.{getD}
@@ -12,7 +12,6 @@ use Rattle.area.specs.Lists.{anyOf}
 use Rattle.channel.specs.declared.Op.{Op}
 use Rattle.channel.specs.declared.Op.the-variants.{Read, Write, Mark}
 use Rattle.channel.specs.declared.Request.{Request}
-use Rattle.channel.specs.declared.Ending.{Ending}
 use Rattle.channel.specs.declared.Ending.the-variants.{MediumEnd}
 use Rattle.channel.specs.declared.Verdict.{Verdict}
 use Rattle.channel.specs.declared.Verdict.the-variants.{Refused, Repeats, Ends}

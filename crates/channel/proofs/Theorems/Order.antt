@@ -1,7 +1,6 @@
 -- Laws of `Before`, the order of a scan: a scan that goes on above w keeps the order of the scan that came to w. Assumes nothing.
-use mathlib.Core.Path.{_≡_, refl, sym, ap}
-use mathlib.Core.Logic.{_≢_}
-use Prim.Native.Nat.{ℕ, zero, suc, _+_, _-_, _≤_, _<_}
+use mathlib.Core.Path.{_≡_}
+use Prim.Native.Nat.{ℕ, _+_, _≤_, _<_}
 use native.Mathlib.Decide.{decLt}
 use native.Mathlib.Omega.{arith}
 use Rattle.channel.specs.Scans.{nextUnit, Before, upward, unwrapped, wrapped}

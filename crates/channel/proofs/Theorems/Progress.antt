@@ -1,12 +1,10 @@
 -- After any accepted call a channel that is not frozen works, or nothing waits. Assumes nothing.
-use mathlib.Core.Path.{_≡_, refl, ap, sym, _∙_}
-use mathlib.Core.Bool.{Bool, true, false, _||_}
+use mathlib.Core.Path.{_≡_, refl}
+use mathlib.Core.Bool.{true, false}
 use mathlib.Core.List.{List, [], _∷_}
 use Prim.Native.Nat.{ℕ}
-use native.Mathlib.Omega.{arith}
-use Rattle.area.proofs.Walks.{true-not-false}
 use Rattle.channel.specs.Units.{turnAt, isIdle}
-use Rattle.channel.specs.History.{Station, Event, Answer, refused, Step, step, run, isAlive}
+use Rattle.channel.specs.History.{Station, Event, refused, Step, step, run, isAlive}
 use Rattle.channel.proofs.Theorems.Starts.{started, start-alive}
 use Rattle.channel.proofs.Theorems.Calls.{Took, refuses, asks, repeats, ends, freezes, thaws, took}
 
