@@ -13,5 +13,6 @@ pub mod Race
 pub mod Budget
 pub mod Raced
 pub mod Demand
+pub mod Limits
 pub mod Lift
 pub mod Examples
