@@ -24,6 +24,10 @@ rules = (0 ∷ 101 ∷ 101 ∷ 0 ∷ 255 ∷ []) ∷ (0 ∷ 27 ∷ 0 ∷ 255 ∷
 abbrev pub limitAt : Op → ℕ → ℕ
 limitAt op outcome = getD (getD rules (opNumber op) []) outcome 0
 
+-- the entry as the code reads it, at the row that it has found
+pub entry-at : (q : Request) (outcome row : ℕ) → row ≡ opNumber (q .op) → getD (getD rules row []) outcome 0 ≡ limitAt (q .op) outcome
+entry-at q outcome row e = ap (λ (i : ℕ). getD (getD rules i []) outcome 0) e
+
 -- the outcome ends the operation, by its entry k of the table
 abbrev pub endsBy : ℕ → Request → ℕ → Bool
 endsBy k q outcome = leb k (q .attempts) || (eqb outcome incompleteWord && leb 1 (q .incomplete))
@@ -92,9 +96,9 @@ module _ (q : Request) (outcome k : ℕ) (below : outcome < 5) (entry : k ≡ li
   is-repeated n e = by-entry ∙ rw (ne-eqb k 255 n, e)
 
 -- an operation that is repeated has room for one attempt more, and for one incomplete word more if it met one
-pub repeat-room : (k : ℕ) (q : Request) (outcome : ℕ) → k ≤ 255 → endsBy k q outcome ≡ false
+pub repeat-room : (q : Request) (outcome k : ℕ) → outcome < 5 → k ≡ limitAt (q .op) outcome → endsBy k q outcome ≡ false
     → (q .attempts < 255) × (outcome ≡ incompleteWord → q .incomplete < 255)
-repeat-room k q outcome fits e = (omega (arith, leb-false k (q .attempts) (or-left (leb k (q .attempts)) _ e)), words)
+repeat-room q outcome k below entry e = (omega (arith, limit-fits (q .op) outcome below, leb-false k (q .attempts) (or-left (leb k (q .attempts)) _ e)), words)
   where
     words : outcome ≡ incompleteWord → q .incomplete < 255
     words h =

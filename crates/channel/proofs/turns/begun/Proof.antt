@@ -1,41 +1,32 @@
+-- `begun` meets its contract: its definition, of what its callees ensure.
+-- Assumes nothing.
 use Rattle.channel.specs.Units.{withTurn}
 use Rattle.channel.specs.Turns.{begunTurn}
-use mathlib.Core.Path.{sym, ap, _∙_}
+use mathlib.Core.Path.{ap, _∙_}
 use borrow.Author.Needs.{needs}
 use Rattle.channel.proofs.turns.begun.Statement.{statement}
 use Rattle.channel.proofs.turns.begun.Tie as tie
-use Rattle.channel.proofs.turns.begun.Reads as reads
-use Rattle.channel.proofs.turns.begun.Lts as lts
-use Rattle.channel.proofs.turns.begun_turn.Reads as begun-turn-reads
-use Rattle.channel.proofs.units.turn_of.Reads as turn-of-reads
-use Rattle.channel.proofs.units.with_turn.Reads as with-turn-reads
 
--- src/calls.rt:62:19
 enum-known-found : tie.Need-enum-known-found
 enum-known-found c = search needs
 
--- src/calls.rt:63:17
 turn-of-requires : tie.Need-turn-of-requires
 turn-of-requires c κs = search needs
 
--- src/calls.rt:64:17
 begun-turn-requires : tie.Need-begun-turn-requires
 begun-turn-requires c κs = search needs
 
--- src/calls.rt:65:13
 with-turn-requires : tie.Need-with-turn-requires
 with-turn-requires c κs = search needs
 
--- src/calls.rt:67:27
 enum-told : tie.Need-enum-told
 enum-told c = search needs
 
--- src/calls.rt:58:1
 returns : tie.Need-returns
-returns c = rw (c .before .before .before .before .found .given .1)
+returns c =
+    rw (c .before .before .before .before .found .given .1)
     (c .with-turn .ensures ∙ ap (withTurn (c .before .before .before .before .before .before .args .c) (c .before .before .before .before .found .given .0 .0)) (c .before .begun-turn .ensures ∙ ap begunTurn (c .before .before .turn-of .ensures)))
 
--- src/calls.rt:58:1
 returns-2 : tie.Need-returns-2
 returns-2 c = rw (c .enum-told .given .1)
 

@@ -1,44 +1,33 @@
-use mathlib.Core.Path.{sym, ap, _∙_}
+-- `channel::book` meets its contract: the definition goes by the same three cases.
+-- Assumes nothing.
 use Rattle.channel.specs.Turns.{bookOf}
 use borrow.Author.Needs.{needs}
 use Rattle.channel.proofs.turns.book.Statement.{statement}
 use Rattle.channel.proofs.turns.book.Tie as tie
-use Rattle.channel.proofs.turns.book.Reads as reads
-use Rattle.channel.proofs.turns.book.Lts as lts
-use Rattle.channel.proofs.turns.end.Reads as end-reads
-use Rattle.channel.proofs.turns.repeat.Reads as repeat-reads
 
--- src/calls.rt:190:32
 enum-told : tie.Need-enum-told
 enum-told c = search needs
 
--- src/calls.rt:191:26
 enum-known-verdict : tie.Need-enum-known-verdict
 enum-known-verdict c = search needs
 
--- src/calls.rt:191:32
 repeat-requires : tie.Need-repeat-requires
 repeat-requires c κs = search needs
 
--- src/calls.rt:192:29
 enum-told-2 : tie.Need-enum-told-2
 enum-told-2 c = search needs
 
--- src/calls.rt:192:29
 end-requires : tie.Need-end-requires
 end-requires c κs = search needs
 
--- src/calls.rt:186:1
 returns : tie.Need-returns
 unfolding bookOf
 returns c = rw (c .enum-told .given .1)
 
--- src/calls.rt:186:1
 returns-2 : tie.Need-returns-2
 unfolding bookOf
 returns-2 c = rw (c .before .before .verdict .given .1) (c .repeat .ensures)
 
--- src/calls.rt:186:1
 returns-3 : tie.Need-returns-3
 unfolding bookOf
 returns-3 c = rw (c .before .enum-told2 .given .1) (c .end .ensures)

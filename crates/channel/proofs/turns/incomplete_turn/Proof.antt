@@ -1,14 +1,11 @@
-use mathlib.Core.Path.{refl}
+-- `incomplete_turn` meets its contract: the definition goes by the same test.
+-- Assumes nothing.
 use Rattle.channel.proofs.turns.incomplete_turn.Statement.{statement}
 use Rattle.channel.proofs.turns.incomplete_turn.Tie as tie
-use Rattle.channel.proofs.turns.incomplete_turn.Reads as reads
-use Rattle.channel.proofs.turns.incomplete_turn.Lts as lts
 
--- src/calls.rt:139:9
 returns : tie.Need-returns
 returns c = rw (c .if1 .taken)
 
--- src/calls.rt:135:1
 returns-2 : tie.Need-returns-2
 returns-2 c = rw (c .if1 .left)
 

@@ -1,6 +1,8 @@
-use mathlib.Core.Path.{_≡_, refl, sym, _∙_, ap}
+-- `channel::fresh` meets its contract: the units before i are as the mask says, and with the rest of the mask they give the whole.
+-- Assumes nothing.
+use mathlib.Core.Path.{_≡_, refl, _∙_, ap}
 use mathlib.Core.List.{List, _++_, map}
-use Prim.Native.Nat.{ℕ, _≤_, _<_, _-_, _+_}
+use Prim.Native.Nat.{_≤_, _-_}
 use native.Mathlib.Omega.{arith}
 use lib.ListN.{length, take, length-set}
 use Rattle.channel.specs.declared.Unit.{Unit}
@@ -8,8 +10,6 @@ use Rattle.channel.specs.Units.{unitCount, idleUnit, bitsFrom, freshWith
 use Rattle.channel.proofs.Laws.Units.{fresh-step, fresh-done}
 use Rattle.channel.proofs.units.fresh.Statement.{statement}
 use Rattle.channel.proofs.units.fresh.Tie as tie
-use Rattle.channel.proofs.units.fresh.Reads as reads
-use Rattle.channel.proofs.units.fresh.Lts as lts
 
 abbrev Inv-loop : tie.InvT-loop
 Inv-loop mask units₀ i₀ units i =
@@ -19,35 +19,27 @@ Inv-loop mask units₀ i₀ units i =
 abbrev μ-loop : tie.MeasureT-loop
 μ-loop mask units₀ i₀ units i = unitCount - i
 
--- src/calls.rt:35:5
 loop-holds : tie.Need-loop-holds Inv-loop μ-loop
 loop-holds c = (omega arith, refl, refl)
 
--- src/calls.rt:37:32
 cast-t8 : tie.Need-cast-t8 Inv-loop μ-loop
 cast-t8 c = omega arith
 
--- src/calls.rt:37:24
 shr-t9 : tie.Need-shr-t9 Inv-loop μ-loop
 shr-t9 c = omega arith
 
--- src/calls.rt:40:9
 mul-units : tie.Need-mul-units Inv-loop μ-loop
 mul-units c = omega arith
 
--- src/calls.rt:40:9
 array-set-from-units : tie.Need-array-set-from-units Inv-loop μ-loop
 array-set-from-units c = omega arith
 
--- src/calls.rt:41:13
 add-i : tie.Need-add-i Inv-loop μ-loop
 add-i c = omega arith
 
--- src/calls.rt:35:5
 loop-less : tie.Need-loop-less Inv-loop μ-loop
 loop-less c = omega arith
 
--- src/calls.rt:35:5
 loop-again : tie.Need-loop-again Inv-loop μ-loop
 loop-again c = (
   omega arith,
@@ -55,10 +47,10 @@ loop-again c = (
   fresh-step (c .before .before .args .mask) unitCount (c .before .loop .units) _ (c .before .loop .i) (c .before .loop .inv .1) (omega arith) (c .before .loop .inv .2),
 )
 
--- src/calls.rt:26:1
 returns : tie.Need-returns Inv-loop μ-loop
 unfolding freshOf freshWith
-returns c = ap (λ (us : List Unit). record { units = us; mark = 0 })
+returns c =
+    ap (λ (us : List Unit). record { units = us; mark = 0 })
     (fresh-done (c .before .before .args .mask) unitCount (c .before .loop .units) _ (c .before .loop .i) (c .before .loop .inv .1) (omega arith) (c .before .loop .inv .2))
 
 pub fresh-spec : {M : Type 1} → statement M

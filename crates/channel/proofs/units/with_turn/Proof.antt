@@ -1,3 +1,5 @@
+-- `with_turn` meets its contract: one store into the array; past the last unit a store changes nothing.
+-- Assumes nothing.
 use mathlib.Core.Path.{refl, sym, _∙_}
 use lib.ListN.{length-map}
 use native.Mathlib.Omega.{arith}
@@ -6,31 +8,24 @@ use Rattle.channel.proofs.Laws.Units.{with-beyond}
 use borrow.Author.Needs.{needs}
 use Rattle.channel.proofs.units.with_turn.Statement.{statement}
 use Rattle.channel.proofs.units.with_turn.Tie as tie
-use Rattle.channel.proofs.units.with_turn.Reads as reads
-use Rattle.channel.proofs.units.with_turn.Lts as lts
 
--- src/looks.rt:87:9
 returns : tie.Need-returns
-returns c = let long = sym (length-map (c .before .args .t1 .units) _) ∙ c .before .good .0 .1 .1 .0 .1 .0 .1 in
+returns c =
+    let long = sym (length-map (c .before .args .t1 .units) _) ∙ c .before .good .0 .1 .1 .0 .1 .0 .1 in
     sym (with-beyond (c .before .args .t1) (c .before .args .unit) (omega arith) (c .before .args .turn))
 
--- src/looks.rt:89:13
 mul-u : tie.Need-mul-u
 mul-u c = search needs
 
--- src/looks.rt:89:13
 element-copy-out-u : tie.Need-element-copy-out-u
 element-copy-out-u c = search needs
 
--- src/looks.rt:95:5
 mul-v : tie.Need-mul-v
 mul-v c = search needs
 
--- src/looks.rt:95:5
 element-set-from-v : tie.Need-element-set-from-v
 element-set-from-v c = search needs
 
--- src/looks.rt:83:1
 returns-2 : tie.Need-returns-2
 unfolding withTurn
 returns-2 c = refl

@@ -1,40 +1,32 @@
+-- `work` meets its contract: the definition goes by the same four cases.
+-- Assumes nothing.
 use mathlib.Core.Path.{sym, ap}
 use Rattle.channel.specs.Units.{workOf}
 use borrow.Author.Needs.{needs}
 use Rattle.channel.proofs.units.work.Statement.{statement}
 use Rattle.channel.proofs.units.work.Tie as tie
-use Rattle.channel.proofs.units.work.Reads as reads
-use Rattle.channel.proofs.units.work.Lts as lts
 
--- src/looks.rt:64:23
 enum-told : tie.Need-enum-told
 enum-told c = search needs
 
--- src/looks.rt:65:29
 enum-told-2 : tie.Need-enum-told-2
 enum-told-2 c = search needs
 
--- src/looks.rt:66:31
 enum-told-3 : tie.Need-enum-told-3
 enum-told-3 c = search needs
 
--- src/looks.rt:67:23
 enum-known-t : tie.Need-enum-known-t
 enum-known-t c = search needs
 
--- src/looks.rt:60:1
 returns : tie.Need-returns
 returns c = search needs
 
--- src/looks.rt:60:1
 returns-2 : tie.Need-returns-2
 returns-2 c = search needs
 
--- src/looks.rt:60:1
 returns-3 : tie.Need-returns-3
 returns-3 c = search needs
 
--- src/looks.rt:60:1
 returns-4 : tie.Need-returns-4
 returns-4 c = sym (ap workOf (c .before .t .given .1))
 
