@@ -3,6 +3,7 @@
 // Whether the pack is frozen is a parameter. The crate knows nothing of files, buffers or words.
 mod rules;
 mod scans;
+mod sound;
 mod turns;
 mod units;
 
@@ -10,6 +11,7 @@ pub use rules::refusal_number;
 pub use rules::result_number;
 pub use scans::working_number;
 pub use scans::working_unit;
+pub use sound::is_sound;
 pub use turns::ask;
 pub use turns::book;
 pub use turns::judge;

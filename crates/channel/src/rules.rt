@@ -5,10 +5,11 @@ use crate::Request;
 use crate::Verdict;
 ghost use mathlib.Core.Path.{_≡_};
 ghost use Prim.Native.Nat.{_<_};
-ghost use Rattle.channel.specs.Rules.{opNumber, incompleteWord, nextAttempt, goodEnding, endingOf, verdictOf, endingNumber, resultNumber, refusalNumber};
+ghost use Rattle.channel.specs.Rules.{opNumber, incompleteWord, rowOf, nextAttempt, goodEnding, endingOf, verdictOf, endingNumber, resultNumber, refusalNumber};
 
 const OUTCOMES: u8 = 5;
 
+const REDUNDANCY: usize = 1;
 const INCOMPLETE_WORD: u8 = 2;
 
 // An outcome that ends the operation at whatever attempt, and one that is not allowed.
@@ -32,6 +33,14 @@ fn row(op: Op) -> usize
         Op::Write => 1,
         Op::Mark => 2,
     }
+}
+
+// The attempt at which a failure of the operation is permanent.
+pub fn attempt_limit(op: Op) -> u8
+    ensures { λ r. ⌜ r ≡ rowOf op .attempts ⌝ }
+{
+    let i = row(op);
+    RULES[i][REDUNDANCY]
 }
 
 // A good end. A read's attempt 4 was in the opposite mode.

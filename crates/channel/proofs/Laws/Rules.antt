@@ -111,3 +111,10 @@ pub ending-last : (op : Op) (attempt outcome : ℕ) → 4 ≤ outcome → ending
 unfolding endingOf
 ending-last op attempt outcome h =
     rw (ne-eqb outcome 0 (omega arith), ne-eqb outcome 1 (omega arith), ne-eqb outcome 2 (omega arith), ne-eqb outcome 3 (omega arith))
+
+-- the limit of a row stands in its column of redundancy
+pub limit-redundancy : (op : Op) → limitAt op 1 ≡ rowOf op .attempts
+unfolding rowOf
+limit-redundancy Read = refl
+limit-redundancy Write = refl
+limit-redundancy Mark = refl

@@ -12,7 +12,8 @@ use Rattle.channel.specs.declared.Channel.{Channel}
 use Rattle.channel.specs.Units.{size, idleUnit, unitAt, declaredAt, withTurn, isIdle, freshWith}
 use Rattle.channel.specs.Turns.{startOf}
 use Rattle.channel.specs.History.{Station, Event, Step, step, fresh, run}
-use Rattle.channel.proofs.Theorems.Turning.{isWorking, held, size-with, at-set, busy-inside, declared-inside}
+use Rattle.channel.specs.Sound.{isWorking}
+use Rattle.channel.proofs.Theorems.Turning.{held, size-with, at-set, busy-inside, declared-inside}
 use Rattle.channel.proofs.Theorems.Starts.{Started, isFrozen, isBusy, isQuiet, begins, started}
 use Rattle.channel.proofs.Theorems.Calls.{endedAt, Took, refuses, asks, repeats, ends, freezes, thaws, took}
 use Rattle.channel.proofs.Theorems.Sound.{HoldOk, Sound}

@@ -20,7 +20,8 @@ use Rattle.channel.specs.Rules.{mostAttempts, incompleteWord, rowOf, isA
 use Rattle.channel.specs.Units.{size, declaredAt, turnAt, withTurn, isIdle}
 use Rattle.channel.specs.Turns.{newRequest}
 use Rattle.channel.specs.History.{Station, Event, Step, step, run}
-use Rattle.channel.proofs.Theorems.Turning.{isWorking, held, at-set, busy-inside, declared-inside}
+use Rattle.channel.specs.Sound.{isWorking}
+use Rattle.channel.proofs.Theorems.Turning.{held, at-set, busy-inside, declared-inside}
 use Rattle.channel.proofs.Theorems.Starts.{Started, isFrozen, isBusy, isQuiet, begins, started}
 use Rattle.channel.proofs.Theorems.Calls.{Took, refuses, asks, repeats, ends, freezes, thaws, took, incomplete-held}
 

@@ -13,7 +13,8 @@ use Rattle.channel.specs.Units.{size, turnAt, withTurn, isIdle}
 use Rattle.channel.specs.Scans.{priority, beginOf, workingIn, priorityIn, ordinaryIn, orElse, nextTurn, isFound, Before, Scanned, finds, misses}
 use Rattle.channel.specs.Turns.{begunTurn, begunAt, startOf, isOrdinary}
 use Rattle.channel.proofs.Theorems.Order.{Compared, same, first, later, compare-before}
-use Rattle.channel.proofs.Theorems.Turning.{isWorking, wantsPriority, wantsTurn, worksTurn, held, beginIn, working-scan, priority-scan, ordinary-scan, at-set, everywhere, busy-inside}
+use Rattle.channel.specs.Sound.{isWorking}
+use Rattle.channel.proofs.Theorems.Turning.{wantsPriority, wantsTurn, worksTurn, held, beginIn, working-scan, priority-scan, ordinary-scan, at-set, everywhere, busy-inside}
 
 -- ---- a start
 

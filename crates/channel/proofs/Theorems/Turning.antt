@@ -15,18 +15,13 @@ use Rattle.channel.specs.declared.Turn.{Turn}
 use Rattle.channel.specs.declared.Turn.the-variants.{Idle, Waiting, Displaced, Working}
 use Rattle.channel.specs.declared.Unit.{Unit}
 use Rattle.channel.specs.declared.Channel.{Channel}
+use Rattle.channel.specs.Sound.{isWorking}
 use Rattle.channel.specs.Units.{size, idleUnit, unitAt, declaredAt, turnAt, withTurn, isIdle}
 use Rattle.channel.specs.Scans.{waitingAs, standingOf, working, priority, ordinary, beginOf, workingIn, priorityIn, ordinaryIn, Scanned}
 use Rattle.channel.proofs.Laws.Units.{unit-beyond}
 use Rattle.channel.proofs.Theorems.Scan.{scan-is, scanned-as}
 
 -- ---- a unit's turn
-
-abbrev pub isWorking : Turn → Bool
-isWorking Idle = false
-isWorking (Waiting q) = false
-isWorking (Displaced q) = false
-isWorking (Working q) = true
 
 -- it waits for a start, as a priority request or as an ordinary one
 abbrev pub wantsPriority : Turn → Bool

@@ -1,0 +1,36 @@
+use mathlib.Core.Path.{sym, _∙_, ap}
+use mathlib.Core.List.{[]}
+use Prim.Native.Nat.{ℕ}
+use native.Mathlib.Omega.{arith}
+use lib.ListN.{getD}
+use Rattle.channel.proofs.Laws.Rules.{rules, row-below, limit-redundancy}
+use borrow.Author.Needs.{needs}
+use Rattle.channel.proofs.rules.attempt_limit.Statement.{statement}
+use Rattle.channel.proofs.rules.attempt_limit.Tie as tie
+use Rattle.channel.proofs.rules.attempt_limit.Reads as reads
+use Rattle.channel.proofs.rules.attempt_limit.Lts as lts
+use Rattle.channel.proofs.rules.row.Reads as row-reads
+
+-- src/rules.rt:42:9
+row-requires : tie.Need-row-requires
+row-requires c κs = search needs
+
+-- src/rules.rt:43:5
+mul-result : tie.Need-mul-result
+mul-result c = omega (arith, c .row .ensures, row-below (c .before .args .op))
+
+-- src/rules.rt:43:5
+index-1-result : tie.Need-index-1-result
+index-1-result c = omega (arith, c .row .ensures, row-below (c .before .args .op))
+
+-- src/rules.rt:43:5
+index-2-result : tie.Need-index-2-result
+index-2-result c = search needs
+
+-- src/rules.rt:39:1
+returns : tie.Need-returns
+returns c = ap (λ (i : ℕ). getD (getD rules i []) 1 0) (c .before .row .ensures) ∙ limit-redundancy (c .before .before .args .op)
+
+pub attempt-limit-spec : {M : Type 1} → statement M
+attempt-limit-spec =
+    tie.close (tie.spec row-requires mul-result index-1-result index-2-result returns)
