@@ -9,6 +9,8 @@ pub mod Attempts
 pub mod Fresh
 pub mod Balance
 pub mod Counts
+pub mod Meaning
+pub mod Soundness
 pub mod Race
 pub mod Budget
 pub mod Raced

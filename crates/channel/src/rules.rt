@@ -10,6 +10,7 @@ ghost use Rattle.channel.specs.Rules.{opNumber, incompleteWord, rowOf, n
 const OUTCOMES: u8 = 5;
 
 const REDUNDANCY: usize = 1;
+
 const INCOMPLETE_WORD: u8 = 2;
 
 // An outcome that ends the operation at whatever attempt, and one that is not allowed.

@@ -44,7 +44,7 @@ not-either : {A : Type 0} (b : Bool) → b ≡ true → not b ≡ true → A
 not-either true p q = true-not-false q refl
 not-either false p q = true-not-false p refl
 
-quiet-idle : (t : Turn) → isWorking t ≡ false → wantsPriority t ≡ false → wantsTurn t ≡ false → isIdle t ≡ true
+pub quiet-idle : (t : Turn) → isWorking t ≡ false → wantsPriority t ≡ false → wantsTurn t ≡ false → isIdle t ≡ true
 quiet-idle Idle a b c = refl
 quiet-idle (Waiting q) a b c = not-both (q .priority) b c
 quiet-idle (Displaced q) a b c = not-both (q .priority) b c

@@ -17,8 +17,11 @@ use Rattle.channel.specs.declared.Unit.{Unit}
 use Rattle.channel.specs.declared.Channel.{Channel}
 use Rattle.channel.specs.Sound.{isWorking}
 use Rattle.channel.specs.Units.{size, idleUnit, unitAt, declaredAt, turnAt, withTurn, isIdle}
-use Rattle.channel.specs.Scans.{waitingAs, standingOf, working, priority, ordinary, beginOf, workingIn, priorityIn, ordinaryIn, Scanned}
+use Rattle.channel.specs.Scans.{waitingAs, standingOf, working, priority, ordinary, beginOf, workingIn, priorityIn, ordinaryIn, Scanned, finds, misses, upward}
 use Rattle.channel.proofs.Laws.Units.{unit-beyond}
+use Rattle.channel.proofs.Laws.Scans.{begin-here}
+use Rattle.area.specs.declared.Found.{Found}
+use Rattle.area.specs.declared.Found.the-variants.{At}
 use Rattle.channel.proofs.Theorems.Scan.{scan-is, scanned-as}
 
 -- ---- a unit's turn
@@ -98,6 +101,21 @@ priority-scan c = scanned-as (λ x. stands-priority (turnAt c x)) (scan-is c pri
 pub ordinary-scan : (c : Channel) → Scanned (λ x. wantsTurn (turnAt c x)) (size c) (beginIn c) (ordinaryIn c)
 unfolding ordinaryIn
 ordinary-scan c = scanned-as (λ x. stands-ordinary (turnAt c x)) (scan-is c ordinary (c .mark))
+
+-- "Among priority requests the lowest unit goes first."
+pub lowest-first : (c : Channel) (u : ℕ) → priorityIn c ≡ At u
+    → (wantsPriority (turnAt c u) ≡ true) × ((y : ℕ) → y < u → wantsPriority (turnAt c y) ≡ false)
+lowest-first c u e = go (priorityIn c) e (priority-scan c)
+  where
+    go : (f : Found) → f ≡ At u → Scanned (λ x. wantsPriority (turnAt c x)) (size c) (beginOf (size c) 0) f
+        → (wantsPriority (turnAt c u) ≡ true) × ((y : ℕ) → y < u → wantsPriority (turnAt c y) ≡ false)
+    go f q (finds x l t g) =
+        let at : x ≡ u = cc in
+        let low : beginOf (size c) 0 ≡ 0 = begin-here (size c) 0 (omega arith) in (
+          rw (← at) t,
+          λ y h. g y (omega arith) (upward (omega arith) (omega arith)),
+        )
+    go f q (misses g) = absurd (let z : _≡_ {A = ℕ} 0 1 = cc in omega arith)
 
 -- ---- another turn at a unit
 

@@ -1,4 +1,6 @@
-use mathlib.Core.Path.{sym, _∙_, ap}
+-- `attempt_limit` meets its contract: the limit stands in the table's column of redundancy.
+-- Assumes nothing.
+use mathlib.Core.Path.{_∙_, ap}
 use mathlib.Core.List.{[]}
 use Prim.Native.Nat.{ℕ}
 use native.Mathlib.Omega.{arith}
@@ -7,27 +9,19 @@ use Rattle.channel.proofs.Laws.Rules.{rules, row-below, limit-redundanc
 use borrow.Author.Needs.{needs}
 use Rattle.channel.proofs.rules.attempt_limit.Statement.{statement}
 use Rattle.channel.proofs.rules.attempt_limit.Tie as tie
-use Rattle.channel.proofs.rules.attempt_limit.Reads as reads
-use Rattle.channel.proofs.rules.attempt_limit.Lts as lts
-use Rattle.channel.proofs.rules.row.Reads as row-reads
 
--- src/rules.rt:42:9
 row-requires : tie.Need-row-requires
 row-requires c κs = search needs
 
--- src/rules.rt:43:5
 mul-result : tie.Need-mul-result
 mul-result c = omega (arith, c .row .ensures, row-below (c .before .args .op))
 
--- src/rules.rt:43:5
 index-1-result : tie.Need-index-1-result
 index-1-result c = omega (arith, c .row .ensures, row-below (c .before .args .op))
 
--- src/rules.rt:43:5
 index-2-result : tie.Need-index-2-result
 index-2-result c = search needs
 
--- src/rules.rt:39:1
 returns : tie.Need-returns
 returns c = ap (λ (i : ℕ). getD (getD rules i []) 1 0) (c .before .row .ensures) ∙ limit-redundancy (c .before .before .args .op)
 

@@ -1,11 +1,11 @@
+-- `verdict` meets its contract: the code's table judges as document 01's table does, and what is repeated has room to count.
+-- Assumes nothing.
 use Rattle.channel.proofs.Laws.Rules.{entry-at, rules, row-below, verdict-beyond, not-allowed, has-ended, is-repeated, repeat-room}
 use mathlib.Core.Path.{sym, _∙_, ap}
 use native.Mathlib.Omega.{arith}
 use Rattle.channel.specs.declared.Verdict.the-variants.{Repeats, Ends}
 use borrow.Author.Needs.{needs}
 use Rattle.channel.proofs.rules.verdict.Statement.{statement}
--- `verdict` meets its contract: the code's table judges as document 01's table does, and what is repeated has room to count.
--- Assumes nothing.
 use Rattle.channel.proofs.rules.verdict.Tie as tie
 
 returns : tie.Need-returns

@@ -1,3 +1,5 @@
+-- `units_sound` meets its contract: what is left of the units gives the answer of the whole.
+-- Assumes nothing.
 use mathlib.Core.Path.{_≡_, refl, sym, _∙_}
 use Prim.Native.Nat.{_≤_, _-_}
 use native.Mathlib.Omega.{arith}
@@ -11,9 +13,6 @@ use Rattle.channel.specs.Sound.{unitSound}
 use mathlib.Core.Bool.{false}
 use Rattle.channel.proofs.sound.units_sound.Statement.{statement}
 use Rattle.channel.proofs.sound.units_sound.Tie as tie
-use Rattle.channel.proofs.sound.units_sound.Reads as reads
-use Rattle.channel.proofs.sound.units_sound.Lts as lts
-use Rattle.channel.proofs.sound.turn_sound.Reads as turn-sound-reads
 
 abbrev Inv-loop : tie.InvT-loop
 Inv-loop c i₀ i = (i ≤ unitCount) × (length (c .units) ≡ unitCount) × (allOf unitSound (c .units) ≡ allOf unitSound (drop i (c .units)))
@@ -21,45 +20,36 @@ Inv-loop c i₀ i = (i ≤ unitCount) × (length (c .units) ≡ unitCount) × (a
 abbrev μ-loop : tie.MeasureT-loop
 μ-loop c i₀ i = unitCount - i
 
--- src/sound.rt:55:5
 loop-holds : tie.Need-loop-holds Inv-loop μ-loop
 loop-holds c = (omega arith, sym (length-map (c .args .t1 .units) _) ∙ c .good .0 .1 .1 .0 .1 .0 .1, refl)
 
--- src/sound.rt:56:17
 mul-u : tie.Need-mul-u Inv-loop μ-loop
 mul-u c = omega arith
 
--- src/sound.rt:56:17
 element-copy-out-u : tie.Need-element-copy-out-u Inv-loop μ-loop
 element-copy-out-u c = omega arith
 
--- src/sound.rt:58:13
 turn-sound-requires : tie.Need-turn-sound-requires Inv-loop μ-loop
 turn-sound-requires c κs = search needs
 
--- src/sound.rt:59:13
 returns : tie.Need-returns Inv-loop μ-loop
 returns c = all-hit unitSound (c .before .before .before .before .before .args .t1 .units) (idleUnit false) (c .before .before .before .before .loop .i) _ (omega (arith, c .before .before .before .before .loop .inv .1)) (c .before .before .before .before .loop .inv .2)
     (sym (c .before .turn-sound .ensures) ∙ not-true _ (c .if1 .taken))
 
--- src/sound.rt:61:13
 add-i : tie.Need-add-i Inv-loop μ-loop
 add-i c = omega arith
 
--- src/sound.rt:55:5
 loop-less : tie.Need-loop-less Inv-loop μ-loop
 loop-less c = omega arith
 
--- src/sound.rt:55:5
 loop-again : tie.Need-loop-again Inv-loop μ-loop
 loop-again c = (
-      omega arith,
-      c .before .before .before .before .loop .inv .1,
-      all-miss unitSound (c .before .before .before .before .before .args .t1 .units) (idleUnit false) (c .before .before .before .before .loop .i) _ (omega (arith, c .before .before .before .before .loop .inv .1)) (c .before .before .before .before .loop .inv .2)
+  omega arith,
+  c .before .before .before .before .loop .inv .1,
+  all-miss unitSound (c .before .before .before .before .before .args .t1 .units) (idleUnit false) (c .before .before .before .before .loop .i) _ (omega (arith, c .before .before .before .before .loop .inv .1)) (c .before .before .before .before .loop .inv .2)
       (sym (c .before .turn-sound .ensures) ∙ not-false _ (c .if1 .left)),
-    )
+)
 
--- src/sound.rt:51:1
 returns-2 : tie.Need-returns-2 Inv-loop μ-loop
 returns-2 c = all-done unitSound (c .before .before .args .t1 .units) (idleUnit false) (c .before .loop .i) _ (omega (arith, c .before .loop .inv .1)) (c .before .loop .inv .2)
 

@@ -1,33 +1,27 @@
+-- `word_limit` meets its contract: the definition goes by the same operation.
+-- Assumes nothing.
 use Rattle.channel.specs.Rules.{rowOf}
 use borrow.Author.Needs.{needs}
 use Rattle.channel.proofs.sound.word_limit.Statement.{statement}
 use Rattle.channel.proofs.sound.word_limit.Tie as tie
-use Rattle.channel.proofs.sound.word_limit.Reads as reads
-use Rattle.channel.proofs.sound.word_limit.Lts as lts
 
--- src/sound.rt:23:21
 enum-told : tie.Need-enum-told
 enum-told c = search needs
 
--- src/sound.rt:24:22
 enum-told-2 : tie.Need-enum-told-2
 enum-told-2 c = search needs
 
--- src/sound.rt:25:21
 enum-told-3 : tie.Need-enum-told-3
 enum-told-3 c = search needs
 
--- src/sound.rt:19:1
 returns : tie.Need-returns
 unfolding rowOf
 returns c = rw (c .enum-told .given .1)
 
--- src/sound.rt:19:1
 returns-2 : tie.Need-returns-2
 unfolding rowOf
 returns-2 c = rw (c .enum-told2 .given .1)
 
--- src/sound.rt:19:1
 returns-3 : tie.Need-returns-3
 unfolding rowOf
 returns-3 c = rw (c .enum-told3 .given .1)

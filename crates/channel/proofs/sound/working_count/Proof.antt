@@ -1,4 +1,6 @@
-use mathlib.Core.Path.{_≡_, refl, sym, _∙_}
+-- `working_count` meets its contract: those counted and those left give the count of the whole.
+-- Assumes nothing.
+use mathlib.Core.Path.{_≡_, sym, _∙_}
 use mathlib.Core.Logic.{⊎-elim}
 use mathlib.Core.Bool.{false}
 use Prim.Native.Nat.{_+_, _≤_, _-_}
@@ -11,9 +13,6 @@ use Rattle.channel.specs.Units.{unitCount, idleUnit}
 use Rattle.channel.specs.Sound.{unitWorks}
 use Rattle.channel.proofs.sound.working_count.Statement.{statement}
 use Rattle.channel.proofs.sound.working_count.Tie as tie
-use Rattle.channel.proofs.sound.working_count.Reads as reads
-use Rattle.channel.proofs.sound.working_count.Lts as lts
-use Rattle.channel.proofs.sound.is_working.Reads as is-working-reads
 
 abbrev Inv-loop : tie.InvT-loop
 Inv-loop c n₀ i₀ n i =
@@ -22,48 +21,38 @@ Inv-loop c n₀ i₀ n i =
 abbrev μ-loop : tie.MeasureT-loop
 μ-loop c n₀ i₀ n i = unitCount - i
 
--- src/sound.rt:83:5
 loop-holds : tie.Need-loop-holds Inv-loop μ-loop
 loop-holds c = (omega arith, sym (length-map (c .args .t1 .units) _) ∙ c .good .0 .1 .1 .0 .1 .0 .1, omega arith, omega arith)
 
--- src/sound.rt:84:17
 mul-u : tie.Need-mul-u Inv-loop μ-loop
 mul-u c = omega arith
 
--- src/sound.rt:84:17
 element-copy-out-u : tie.Need-element-copy-out-u Inv-loop μ-loop
 element-copy-out-u c = omega arith
 
--- src/sound.rt:86:12
 is-working-requires : tie.Need-is-working-requires Inv-loop μ-loop
 is-working-requires c κs = search needs
 
--- src/sound.rt:87:17
 add-n : tie.Need-add-n Inv-loop μ-loop
 add-n c = omega arith
 
--- src/sound.rt:89:13
 add-i : tie.Need-add-i Inv-loop μ-loop
 add-i c = omega arith
 
--- src/sound.rt:83:5
 loop-less : tie.Need-loop-less Inv-loop μ-loop
 loop-less c = omega arith
 
--- src/sound.rt:83:5
 loop-again : tie.Need-loop-again Inv-loop μ-loop
 loop-again c = let us = c .before .before .before .before .before .args .t1 .units in
     let l = c .before .before .before .before .loop in
     ⊎-elim
-    (λ w.
-    (
+    (λ w. (
       omega arith,
       l .inv .1,
       omega (arith, w .1),
       rw (w .1) (count-hit unitWorks us (idleUnit false) (l .i) (l .n) _ (omega (arith, l .inv .1)) (l .inv .3) (sym (c .before .is-working .ensures) ∙ w .0 .taken)),
     ))
-    (λ w.
-    (
+    (λ w. (
       omega arith,
       l .inv .1,
       omega (arith, w .1),
@@ -71,7 +60,6 @@ loop-again c = let us = c .before .before .before .before .before .args .t1 .uni
     ))
     (c .if1 .came)
 
--- src/sound.rt:78:1
 returns : tie.Need-returns Inv-loop μ-loop
 returns c = count-done unitWorks (c .before .before .args .t1 .units) (idleUnit false) (c .before .loop .i) (c .before .loop .n) _ (omega (arith, c .before .loop .inv .1)) (c .before .loop .inv .3)
 
