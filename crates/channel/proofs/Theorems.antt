@@ -17,4 +17,5 @@ pub mod Raced
 pub mod Demand
 pub mod Limits
 pub mod Lift
+pub mod Machine
 pub mod Examples

@@ -45,6 +45,10 @@ pub record Row : Type 0 where
 abbrev pub mostAttempts : ℕ
 mostAttempts = 101
 
+-- the most reports that any operation takes from its acceptance to its answer: one for each attempt
+abbrev pub mostReports : ℕ
+mostReports = mostAttempts
+
 -- "read | 0 1 2 3 | a redundancy or incomplete word at attempt 101, or the second incomplete word"
 -- "write | 0 1 2 4 | redundancy at attempt 27; the first incomplete word"
 -- "mark | 0 1 4 | redundancy at attempt 27"

@@ -7,6 +7,7 @@ ghost use mathlib.Core.Path.{_≡_};
 ghost use Prim.Native.Nat.{_<_};
 ghost use Rattle.channel.specs.Rules.{opNumber, incompleteWord, rowOf, nextAttempt, goodEnding, endingOf, verdictOf, endingNumber, resultNumber, refusalNumber};
 
+// The outcomes are numbered from 0; these two are failures.
 const OUTCOMES: u8 = 5;
 
 const REDUNDANCY: usize = 1;
@@ -18,11 +19,16 @@ const AT_ONCE: u8 = 0;
 
 const NOT_ALLOWED: u8 = 255;
 
+// The attempts of a read, and of a write or mark.
+const READS: u8 = 101;
+
+const WRITES: u8 = 27;
+
 // A row for each operation, indexed by outcome: the attempt from which on the outcome ends the operation.
 const RULES: [[u8; 5]; 3] = [
-    [AT_ONCE, 101, 101, AT_ONCE, NOT_ALLOWED],
-    [AT_ONCE, 27, AT_ONCE, NOT_ALLOWED, AT_ONCE],
-    [AT_ONCE, 27, NOT_ALLOWED, NOT_ALLOWED, AT_ONCE],
+    [AT_ONCE, READS, READS, AT_ONCE, NOT_ALLOWED],
+    [AT_ONCE, WRITES, AT_ONCE, NOT_ALLOWED, AT_ONCE],
+    [AT_ONCE, WRITES, NOT_ALLOWED, NOT_ALLOWED, AT_ONCE],
 ];
 
 // The operation's number, which is its row of the table.

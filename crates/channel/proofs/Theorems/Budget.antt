@@ -11,7 +11,7 @@ use Rattle.channel.specs.declared.Request.{Request}
 use Rattle.channel.specs.declared.Turn.{Turn}
 use Rattle.channel.specs.declared.Turn.the-variants.{Idle, Waiting, Displaced, Working}
 use Rattle.channel.specs.declared.Channel.{Channel}
-use Rattle.channel.specs.Rules.{mostAttempts}
+use Rattle.channel.specs.Rules.{mostReports}
 use Rattle.channel.specs.Units.{size, declaredAt, turnAt, withTurn}
 use Rattle.channel.specs.Turns.{newRequest, isOrdinary}
 use Rattle.channel.specs.History.{oneIf, holdsPriority}
@@ -24,11 +24,11 @@ use Rattle.channel.proofs.Theorems.Race.{Race}
 -- ---- the budget: the attempts that can still be made before u is answered
 
 abbrev left : Request → ℕ
-left q = mostAttempts + 1 - q .attempts
+left q = mostReports + 1 - q .attempts
 
 abbrev own : Option Request → ℕ
-own none = mostAttempts
-own (some q) = cond (q .priority) mostAttempts (left q)
+own none = mostReports
+own (some q) = cond (q .priority) mostReports (left q)
 
 abbrev urge : Option Request → ℕ
 urge none = 0
@@ -74,34 +74,34 @@ budget-start n D c f d long (begins x t b) =
 -- ---- what a call does to the weight of its unit
 
 pub weight-asked : (d t : Bool) (g : Option Request) (op : Op) (p : Bool) → t ≡ true → g ≡ none
-    → weight d t (some (newRequest op p)) + 0 ≤ weight d t g + mostAttempts * oneIf p
+    → weight d t (some (newRequest op p)) + 0 ≤ weight d t g + mostReports * oneIf p
 unfolding weight
 weight-asked d t g op p i j = rw (i, j) (go d p)
   where
-    go : (d p : Bool) → weight d true (some (newRequest op p)) + 0 ≤ weight d true none + mostAttempts * oneIf p
+    go : (d p : Bool) → weight d true (some (newRequest op p)) + 0 ≤ weight d true none + mostReports * oneIf p
     go true true = omega arith
     go true false = omega arith
     go false true = omega arith
     go false false = omega arith
 
 -- a priority operation ends
-pub weight-urgent : (d t : Bool) (g : Option Request) (r : Request) → t ≡ true → g ≡ some r → r .priority ≡ true → r .attempts ≤ mostAttempts
+pub weight-urgent : (d t : Bool) (g : Option Request) (r : Request) → t ≡ true → g ≡ some r → r .priority ≡ true → r .attempts ≤ mostReports
     → weight d t none + 1 ≤ weight d t g + 0
 unfolding weight
 weight-urgent d t g r i j e l = rw (i, j, e) (go d)
   where
-    go : (d : Bool) → 0 + cond d 0 mostAttempts + 1 ≤ left r + cond d 0 mostAttempts + 0
+    go : (d : Bool) → 0 + cond d 0 mostReports + 1 ≤ left r + cond d 0 mostReports + 0
     go true = omega arith
     go false = omega arith
 
 -- an ordinary one ends, and its unit joins D
-pub weight-ended : (d t : Bool) (g : Option Request) (r : Request) → t ≡ true → g ≡ some r → r .priority ≡ false → r .attempts ≤ mostAttempts → d ≡ false
+pub weight-ended : (d t : Bool) (g : Option Request) (r : Request) → t ≡ true → g ≡ some r → r .priority ≡ false → r .attempts ≤ mostReports → d ≡ false
     → weight true t none + 1 ≤ weight d t g + 0
 unfolding weight
 weight-ended d t g r i j e l k = rw (i, j, k, e) (omega arith)
 
 -- an operation is repeated
-pub weight-again : (d t : Bool) (g : Option Request) (r q : Request) → t ≡ true → g ≡ some r → Again r q → q .attempts ≤ mostAttempts
+pub weight-again : (d t : Bool) (g : Option Request) (r q : Request) → t ≡ true → g ≡ some r → Again r q → q .attempts ≤ mostReports
     → (r .priority ≡ false → d ≡ false) → weight d t (some q) + 1 ≤ weight d t g + 0
 unfolding weight
 weight-again d t g r q i j a l f = rw (i, j) (go d (r .priority) refl f)
@@ -114,12 +114,12 @@ weight-again d t g r q i j a l f = rw (i, j) (go d (r .priority) refl f)
 
 -- ---- the budget at first: all attempts of each declared unit, and of each priority request
 
-most-held : (q : Request) (b : Bool) → q .priority ≡ b → Counted q → weight false true (some q) ≤ mostAttempts * (1 + oneIf (q .priority))
+most-held : (q : Request) (b : Bool) → q .priority ≡ b → Counted q → weight false true (some q) ≤ mostReports * (1 + oneIf (q .priority))
 unfolding weight
 most-held q true e k = rw e (omega (arith, k .from))
 most-held q false e k = rw e (omega (arith, k .from))
 
-weight-most : (d : Bool) (t : Turn) → HoldOk d (held t) → weight false d (held t) ≤ mostAttempts * (oneIf d + oneIf (holdsPriority t))
+weight-most : (d : Bool) (t : Turn) → HoldOk d (held t) → weight false d (held t) ≤ mostReports * (oneIf d + oneIf (holdsPriority t))
 unfolding weight
 weight-most false t o = omega arith
 weight-most true Idle o = omega arith
@@ -128,12 +128,12 @@ weight-most true (Displaced q) o = most-held q (q .priority) refl (o .1)
 weight-most true (Working q) o = most-held q (q .priority) refl (o .1)
 
 pub budget-most : (n : ℕ) (c : Channel) → InRanges c
-    → budget n (λ x. false) c ≤ mostAttempts * (sum n (λ x. oneIf (declaredAt c x)) + sum n (λ x. oneIf (holdsPriority (turnAt c x))))
+    → budget n (λ x. false) c ≤ mostReports * (sum n (λ x. oneIf (declaredAt c x)) + sum n (λ x. oneIf (holdsPriority (turnAt c x))))
 unfolding budget
 budget-most n c ok =
-    let a = sum-le n (λ x. weight false (declaredAt c x) (held (turnAt c x))) (λ x. mostAttempts * (oneIf (declaredAt c x) + oneIf (holdsPriority (turnAt c x))))
+    let a = sum-le n (λ x. weight false (declaredAt c x) (held (turnAt c x))) (λ x. mostReports * (oneIf (declaredAt c x) + oneIf (holdsPriority (turnAt c x))))
     (λ x l. weight-most (declaredAt c x) (turnAt c x) (ok x)) in
-    let b = sum-mul n mostAttempts (λ x. oneIf (declaredAt c x)) (λ x. oneIf (holdsPriority (turnAt c x))) in
+    let b = sum-mul n mostReports (λ x. oneIf (declaredAt c x)) (λ x. oneIf (holdsPriority (turnAt c x))) in
     omega arith
 
 -- ... and while u waits: an attempt is left

@@ -9,7 +9,7 @@ use Rattle.channel.specs.declared.Op.{Op}
 use Rattle.channel.specs.declared.Turn.{Turn}
 use Rattle.channel.specs.declared.Turn.the-variants.{Idle, Waiting, Displaced, Working}
 use Rattle.channel.specs.declared.Channel.{Channel}
-use Rattle.channel.specs.Rules.{mostAttempts}
+use Rattle.channel.specs.Rules.{mostReports}
 use Rattle.channel.specs.Units.{size, turnAt, withTurn, freshWith}
 use Rattle.channel.specs.Turns.{startOf, newRequest, isOrdinary}
 use Rattle.channel.specs.History.{Station, Event, ask, accepted, Step, step, fresh, run, oneIf, count, aReport, aPriority, anAnswerTo, holdsPriority, declaredIn, Kept}
@@ -30,7 +30,7 @@ use Rattle.channel.proofs.Theorems.Counts.{declared-most, urgent-most, 
 record Paid (n u : ℕ) (D : ℕ → Bool) (s : Station) (h : List Event) : Type 0 where
   served : ℕ → Bool
   race : Race n u served (run s h .channel)
-  pays : budget n served (run s h .channel) + count aReport s h ≤ budget n D (s .channel) + mostAttempts * count aPriority s h
+  pays : budget n served (run s h .channel) + count aReport s h ≤ budget n D (s .channel) + mostReports * count aPriority s h
 
 one-zero : (b : Bool) (n : ℕ) → oneIf b + n ≡ 0 → b ≡ false
 one-zero true n e = absurd (omega arith)

@@ -6,7 +6,7 @@ use mathlib.Core.List.{List, [], _∷_, _++_}
 use Prim.Native.Nat.{ℕ, _+_, _*_, _≤_, _<_}
 use native.Mathlib.Omega.{arith}
 use Rattle.channel.specs.declared.Op.{Op}
-use Rattle.channel.specs.Rules.{mostAttempts, rowOf}
+use Rattle.channel.specs.Rules.{mostAttempts, mostReports, rowOf}
 use Rattle.channel.specs.History.{Station, Event, ask, Answer, accepted, step, fresh, run, oneIf, count, aReport, aReportOf, aPriority, anAnswerTo, urgentIn, Kept}
 use Rattle.channel.proofs.Theorems.Sound.{Sound, limit-most, sound-step, sound-run}
 use Rattle.channel.proofs.Theorems.Calls.{took}
@@ -56,7 +56,7 @@ limit-at-answer declared before u op priority later e a z =
 
 -- the same of demand 3: the call e that answers is among the first 101 × (U + P) accepted reports
 pub answered-by : {U u : ℕ} {s d : Station} {later : List Event} → Kept U u s d later → (e : Event) → count (anAnswerTo u) d later ≡ 0
-    → count aReport d (later ++ (e ∷ [])) ≤ mostAttempts * (U + (urgentIn (s .channel) + count aPriority d later))
+    → count aReport d (later ++ (e ∷ [])) ≤ mostReports * (U + (urgentIn (s .channel) + count aPriority d later))
 answered-by {d = d} {later = later} k e z =
     let a = k .soon z in
     let b = count-snoc aReport d later e in

@@ -73,7 +73,7 @@ each-ranges c e =
 ranges-each : (c : Channel) → InRanges c → allOf unitSound (c .units) ≡ true
 ranges-each c ok = at-all unitSound (idleUnit false) (c .units) (λ x l. of-hold (declaredAt c x) (turnAt c x) (ok x))
 
-once-one : (c : Channel) → worksOnce c ≡ true → OneWorks c
+pub once-one : (c : Channel) → worksOnce c ≡ true → OneWorks c
 unfolding worksOnce
 once-one c e x y i j =
     count-one-at unitWorks (idleUnit false) (c .units) (leb-true (countOf unitWorks (c .units)) 1 e) x y (inside x i) (inside y j) i j
@@ -87,12 +87,12 @@ once-one c e x y i j =
         works-busy (Displaced q) h = refl
         works-busy (Working q) h = refl
 
-one-once : (c : Channel) → OneWorks c → worksOnce c ≡ true
+pub one-once : (c : Channel) → OneWorks c → worksOnce c ≡ true
 unfolding worksOnce
 one-once c one = le-leb (countOf unitWorks (c .units)) 1 (at-count-one unitWorks (idleUnit false) (c .units) (λ i j h k p q. one i j p q))
 
 -- a channel that does not work and has nobody whose turn it is has no request
-any-awake : (c : Channel) (frozen : Bool) → worksIfAny c frozen ≡ true → Awake (station c frozen)
+pub any-awake : (c : Channel) (frozen : Bool) → worksIfAny c frozen ≡ true → Awake (station c frozen)
 unfolding worksIfAny nextTurn
 any-awake c frozen e u i = go frozen (workingIn c) (priorityIn c) (ordinaryIn c) (working-scan c) (priority-scan c) (ordinary-scan c) e
   where
@@ -123,7 +123,7 @@ turn-busy (Waiting q) h = refl
 turn-busy (Displaced q) h = refl
 turn-busy (Working q) h = refl
 
-awake-any : (c : Channel) (frozen : Bool) → Awake (station c frozen) → worksIfAny c frozen ≡ true
+pub awake-any : (c : Channel) (frozen : Bool) → Awake (station c frozen) → worksIfAny c frozen ≡ true
 unfolding worksIfAny nextTurn
 awake-any c frozen a = go frozen (workingIn c) (priorityIn c) (ordinaryIn c) (priority-scan c) (ordinary-scan c) a
   where

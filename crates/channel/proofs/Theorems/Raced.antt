@@ -11,7 +11,7 @@ use Rattle.channel.specs.declared.Request.{Request}
 use Rattle.channel.specs.declared.Turn.{Turn}
 use Rattle.channel.specs.declared.Turn.the-variants.{Idle, Waiting, Displaced, Working}
 use Rattle.channel.specs.declared.Channel.{Channel}
-use Rattle.channel.specs.Rules.{mostAttempts}
+use Rattle.channel.specs.Rules.{mostReports}
 use Rattle.channel.specs.Units.{size, declaredAt, turnAt, withTurn, withMark}
 use Rattle.channel.specs.Scans.{nextUnit}
 use Rattle.channel.specs.Turns.{startOf, newRequest, isOrdinary, markAfter}
@@ -28,11 +28,11 @@ use Rattle.channel.proofs.Theorems.Budget.{budget, budget-at, budget-st
 pub record Raced (n u : ℕ) (D : ℕ → Bool) (c : Channel) (e : Event) (o : Step) : Type 0 where
   pub served : ℕ → Bool
   pub race : Race n u served (o .after .channel)
-  pub pays : budget n served (o .after .channel) + oneIf (aReport e (o .answer)) ≤ budget n D c + mostAttempts * oneIf (aPriority e (o .answer))
+  pub pays : budget n served (o .after .channel) + oneIf (aReport e (o .answer)) ≤ budget n D c + mostReports * oneIf (aPriority e (o .answer))
 
 -- the change d, and then a start
 then-start : (n u : ℕ) (D E : ℕ → Bool) (c d : Channel) (f : Bool) (e : Event) (a : Answer) → Race n u E d
-    → budget n E d + oneIf (aReport e a) ≤ budget n D c + mostAttempts * oneIf (aPriority e a)
+    → budget n E d + oneIf (aReport e a) ≤ budget n D c + mostReports * oneIf (aPriority e a)
     → Raced n u D c e (stepTo a (station (startOf d f) f))
 then-start n u D E c d f e a h l =
     let b = budget-start n E d f (startOf d f) (h .long) (started d f) in
@@ -65,7 +65,7 @@ raced n u D s e o k h (asks x op p d i) a =
     then-start n u D D c (withTurn c x (Waiting (newRequest op p))) (s .frozen) (ask x op p) accepted
     (race-set n u D c x (Waiting (newRequest op p)) h l (λ q. true-not-false (h .mine) (rw (← q) (ap isOrdinary i))) (λ t. true-not-false t refl))
     (rw (and-true p)
-    (budget-at n D D c x (Waiting (newRequest op p)) 0 (mostAttempts * oneIf p) (h .long) l (λ y ne. refl)
+    (budget-at n D D c x (Waiting (newRequest op p)) 0 (mostReports * oneIf p) (h .long) l (λ y ne. refl)
     (weight-asked (D x) (declaredAt c x) (held (turnAt c x)) op p d (ap held i))))
 raced n u D s e o k h (repeats x oc r q t i j m) a = go t m
   where
@@ -78,7 +78,7 @@ raced n u D s e o k h (repeats x oc r q t i j m) a = go t m
     g : Again r q
     g = verdict-again r oc q j
 
-    tried : q .attempts ≤ mostAttempts
+    tried : q .attempts ≤ mostReports
     tried = omega (arith, g .left, limit-most (q .op))
 
     not-ended : r .priority ≡ false → Dec (x ≡ u) → D x ≡ false
@@ -114,7 +114,7 @@ raced n u D s e o k h (ends x oc r i) a = go (r .priority) refl
     other : x ≢ u
     other = not-here {x = x} {u = u} a
 
-    tried : r .attempts ≤ mostAttempts
+    tried : r .attempts ≤ mostReports
     tried = omega (arith, w .counted .limit, limit-most (r .op))
 
     After : ℕ → Type 0

@@ -12,16 +12,16 @@ use Rattle.channel.specs.declared.Channel.{Channel}
 use Rattle.channel.specs.Units.{unitCount, size, turnAt, withTurn, freshWith, bitsFrom, freshOf}
 use Rattle.channel.specs.Scans.{nextUnit}
 use Rattle.channel.specs.Turns.{startOf, thawOf, askOf, reportOf, isOrdinary, markAfter}
-use Rattle.channel.specs.Sound.{isSound}
-use Rattle.channel.specs.History.{Station, station, Event, ask, report, freeze, thaw, Step, step, fresh}
+use Rattle.channel.specs.Sound.{worksOnce, worksIfAny, isSound}
+use Rattle.channel.specs.History.{refused, Station, station, Event, ask, report, freeze, thaw, Step, step, fresh}
 use Rattle.channel.proofs.Laws.Scans.{next-below}
 use Rattle.channel.proofs.Theorems.Turning.{size-with}
 use Rattle.channel.proofs.Theorems.Starts.{Started, isFrozen, isBusy, isQuiet, begins, started}
 use Rattle.channel.proofs.Theorems.Calls.{Took, refuses, asks, repeats, ends, freezes, thaws, took, endedAt}
 use Rattle.channel.proofs.Theorems.Sound.{one-kept, ranges-kept}
-use Rattle.channel.proofs.Theorems.Progress.{awake-kept}
+use Rattle.channel.proofs.Theorems.Progress.{awake-accepted, awake-kept}
 use Rattle.channel.proofs.Theorems.Fresh.{fresh-size, sound-fresh, awake-fresh}
-use Rattle.channel.proofs.Theorems.Meaning.{sound-means, means-sound}
+use Rattle.channel.proofs.Theorems.Meaning.{sound-means, means-sound, once-one, one-once, awake-any}
 
 -- ---- the mark
 
@@ -56,6 +56,16 @@ mark-kept s e o h (repeats u oc r q t i j m) = mark-start _ (s .frozen) (mark-se
 mark-kept s e o h (ends u oc r i) = mark-start _ (s .frozen) (mark-ended (s .channel) u h)
 mark-kept s e o h freezes = h
 mark-kept s e o h thaws = mark-start (s .channel) false h
+
+-- ---- two of the parts by themselves, whatever else the channel is
+
+-- "each channel works for at most one unanswered request": every call keeps that
+pub once-kept : (s : Station) (e : Event) → worksOnce (s .channel) ≡ true → worksOnce (step s e .after .channel) ≡ true
+once-kept s e h = one-once (step s e .after .channel) (one-kept s e (step s e) (once-one (s .channel) h) (took s e))
+
+-- "After every accepted call, a channel that is idle and not frozen starts an activity .. if any request waits."
+pub live-accepted : (s : Station) (e : Event) → (step s e .answer ≡ refused → ⊥) → worksIfAny (step s e .after .channel) (step s e .after .frozen) ≡ true
+live-accepted s e n = awake-any (step s e .after .channel) (step s e .after .frozen) (awake-accepted s e (step s e) (took s e) n)
 
 -- ---- every call keeps a sound channel sound
 
