@@ -4,3 +4,4 @@ pub mod Pastes
 pub mod Tall
 pub mod Lowest
 pub mod Scans
+pub mod Marks

@@ -1,10 +1,10 @@
 -- Words or'ed together: none is 2^36 or more exactly if the bits above of the whole are zero. Assumes nothing.
+use borrow.Author.Tests.{ltb-true, ltb-false, eq-eqb, ne-eqb}
 use mathlib.Core.Path.{_≡_, refl, sym, ap, _∙_}
 use mathlib.Core.Bool.{Bool, true, false, _&&_, and-assoc, and-true}
 use mathlib.Core.List.{List}
 use Prim.Native.Nat.{ℕ, zero, suc, _+_, _/_, _^_, _≤_, _<_}
 use native.Mathlib.Omega.{arith}
-use borrow.Author.Tests.{ltb-true, ltb-false, eq-eqb, ne-eqb}
 use lib.Bits.{bitOr, or-shr, or-zero-l, or-add-and, and-le-r}
 use lib.Dec.{ltb, eqb, eqb·suc-zero}
 use lib.ListN.{length, getD, drop}

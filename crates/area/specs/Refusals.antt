@@ -1,7 +1,7 @@
 -- Which refusal a call is given (document 01, "Refusal numbers"). Assumes nothing.
-use Prim.Native.Nat.{ℕ}
 use mathlib.Core.Bool.{Bool, cond}
 use mathlib.Core.List.{List, [], _∷_}
+use Prim.Native.Nat.{ℕ}
 
 -- A call's rows of the table, in rising order: a number, and whether it applies.
 abbrev pub Rows : Type 0

@@ -2,8 +2,9 @@
 use mathlib.Core.Path.{_≡_, refl, ap, ap₂, _∙_}
 use mathlib.Core.Bool.{true, false}
 use mathlib.Core.List.{List}
-use Prim.Native.Nat.{ℕ, _+_, _≤_, _<_}
+use Prim.Native.Nat.{ℕ, _+_, _≤_, _<_, min}
 use native.Mathlib.Numerals.{add-one}
+use native.Mathlib.Decide.{decLt}
 use native.Mathlib.Omega.{arith}
 use lib.ListN.{length, getD, drop, drop-of-length-le}
 use lib.Seq.{drop-cons}
@@ -66,7 +67,12 @@ module _ (text : List ℕ) (at s v i : ℕ) (hs : s ≡ at + gap (drop at text))
       ap₂ (λ (x y : ℕ). record { value = x; at = y }) hv hi
       ∙ ap (λ (k : ℕ). record { value = valueFrom 0 (drop k text); at = k + digits (drop k text) }) hs
 
-  pub next-later : at < length text → at < i
-  next-later h =
-      let e : i ≡ at + gap (drop at text) + digits (drop (at + gap (drop at text)) text) = hi ∙ ap (λ (k : ℕ). k + digits (drop k text)) hs in
-      omega (arith, next-moves text at h)
+  pub next-later : min (at + 1) (length text) ≤ i
+  next-later = within (decLt at (length text))
+    where
+      all : i ≡ at + gap (drop at text) + digits (drop (at + gap (drop at text)) text)
+      all = hi ∙ ap (λ (k : ℕ). k + digits (drop k text)) hs
+
+      within : Dec (at < length text) → min (at + 1) (length text) ≤ i
+      within (yes h) = omega (arith, all, next-moves text at h)
+      within (no h) = omega (arith, all, h)

@@ -1,7 +1,7 @@
 -- Decimal numbers in a text of bytes. Assumes nothing.
-use Prim.Native.Nat.{ℕ, _+_, _-_, _*_, _^_, min}
 use mathlib.Core.Bool.{Bool, cond, _&&_}
 use mathlib.Core.List.{List, [], _∷_}
+use Prim.Native.Nat.{ℕ, _+_, _-_, _*_, _^_, min}
 use lib.Dec.{leb}
 use lib.ListN.{drop}
 use Rattle.numbers.specs.declared.Number.{Number}

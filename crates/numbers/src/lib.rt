@@ -1,7 +1,7 @@
 // Decimal numbers in a text, one after the other: how the programs that play stored cases read their input.
 // It knows nothing of what the numbers mean.
 ghost use mathlib.Core.Path.{_≡_};
-ghost use Prim.Native.Nat.{_+_, _≤_, _<_};
+ghost use Prim.Native.Nat.{_+_, _≤_, min, max};
 ghost use lib.ListN.{length, drop};
 ghost use Rattle.numbers.specs.Decimal.{isDigit, tenfold, gap, nextOf};
 
@@ -36,7 +36,7 @@ fn with_digit(v: u64, c: u8) -> u64
 
 // The place of the first digit from `at` on, or the end of the text.
 fn digit_from(text: &[u8], at: usize) -> usize
-    ensures { λ r. ⌜ (r ≡ at + gap (drop at (now (text .entry)))) × (at ≤ r) × (at ≤ length (now (text .entry)) → r ≤ length (now (text .entry))) ⌝ }
+    ensures { λ r. ⌜ (r ≡ at + gap (drop at (now (text .entry)))) × (at ≤ r) × (r ≤ max at (length (now (text .entry)))) ⌝ }
 {
     let mut i = at;
     while i < text.len() {
@@ -49,9 +49,10 @@ fn digit_from(text: &[u8], at: usize) -> usize
 }
 
 // The number whose digits come next from `at` on, and the place after them. At the end of the text it is 0.
+// Before the end it moves on, and it never passes the end.
 pub fn next(text: &[u8], at: usize) -> Number
     ensures { λ r. ⌜ r ≡ nextOf (now (text .entry)) at ⌝ }
-    ensures { λ r. ⌜ (at ≤ r .at) × (at < length (now (text .entry)) → at < r .at) × (at ≤ length (now (text .entry)) → r .at ≤ length (now (text .entry))) ⌝ }
+    ensures { λ r. ⌜ (at ≤ r .at) × (min (at + 1) (length (now (text .entry))) ≤ r .at) × (r .at ≤ max at (length (now (text .entry)))) ⌝ }
 {
     let mut i = digit_from(text, at);
     let mut v: u64 = 0;

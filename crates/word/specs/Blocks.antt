@@ -1,7 +1,7 @@
 -- Sealing a block, and judging one as delivered (document 01, "Files and buffers", "The check word"). Assumes nothing.
-use Prim.Native.Nat.{ℕ, _+_, _-_, _^_}
 use mathlib.Core.Bool.{Bool, not, cond, _&&_, _||_}
 use mathlib.Core.List.{List, [], _∷_}
+use Prim.Native.Nat.{ℕ, _+_, _-_, _^_}
 use lib.Dec.{ltb, eqb}
 use lib.ListN.{length, take, getD, set}
 use Rattle.area.specs.Lists.{allOf}

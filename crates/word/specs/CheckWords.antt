@@ -1,7 +1,7 @@
 -- The check word of a block (document 01, "The check word"). Assumes nothing.
-use Prim.Native.Nat.{ℕ, _+_, _*_, _/_, _%_, _^_, _<_}
 use mathlib.Core.Path.{_≡_}
 use mathlib.Core.Bool.{Bool, cond}
+use Prim.Native.Nat.{ℕ, _+_, _*_, _/_, _%_, _^_, _<_}
 use Rattle.word.specs.Sums.{firstHalf, folded}
 
 -- "the address portion, the low 15 bits", and the bits between it and the first half

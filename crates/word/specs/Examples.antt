@@ -1,8 +1,8 @@
 -- Document 01's marked examples of this crate, P1 to P6, as rows of one table. Law `examples` says that every row holds.
 -- A further example is a row, and where it speaks of something new a kind of row. Assumes nothing.
-use Prim.Native.Nat.{ℕ, _-_, _^_}
 use mathlib.Core.Bool.{Bool, true}
 use mathlib.Core.List.{List, [], _∷_}
+use Prim.Native.Nat.{ℕ, _-_, _^_}
 use lib.Dec.{eqb}
 use Rattle.word.specs.Sums.{logicalSum, folded}
 use Rattle.word.specs.CheckWords.{checkWord, nextNumber}

@@ -1,7 +1,7 @@
 -- Sums of 36-bit words (document 01, "The check word"; the manual, "Block Sequence Numbers and Check Sums"). Assumes nothing.
-use Prim.Native.Nat.{ℕ, _+_, _/_, _%_, _^_}
 use mathlib.Core.Bool.{cond}
 use mathlib.Core.List.{List, [], _∷_}
+use Prim.Native.Nat.{ℕ, _+_, _/_, _%_, _^_}
 use Rattle.area.specs.Lists.{allOf}
 use Rattle.area.specs.Parts.{isWord}
 use Rattle.word.specs.declared.sums.Summed.{Summed}

@@ -1,7 +1,7 @@
 -- The plain total of a list of words, and all its carries put back at once: how the code sums. No public contract cites this file.
 -- Assumes nothing.
-use Prim.Native.Nat.{ℕ, zero, suc, _+_, _%_}
 use mathlib.Core.List.{List, [], _∷_}
+use Prim.Native.Nat.{ℕ, zero, suc, _+_, _%_}
 
 unfoldable pub total : List ℕ → ℕ
 total [] = 0

@@ -1,7 +1,7 @@
 -- `numbers::with_digit` meets its contract. Assumes nothing.
+use borrow.Author.Needs.{needs}
 use native.Mathlib.Omega.{arith}
 use Rattle.numbers.specs.Decimal.{tenfold}
-use borrow.Author.Needs.{needs}
 use Rattle.numbers.proofs.with_digit.Statement.{statement}
 use Rattle.numbers.proofs.with_digit.Tie as tie
 use Rattle.numbers.proofs.with_digit.Reads as reads

@@ -1,10 +1,10 @@
 -- Sealing and judging: when each is refused, what is written, and that the two agree. Assumes nothing.
+use borrow.Author.Tests.{ltb-true, ltb-false, lt-ltb, le-ltb, eq-eqb, ne-eqb, not-false}
 use mathlib.Core.Path.{_≡_, refl, sym, ap, ap₂, _∙_, subst}
 use mathlib.Core.Bool.{Bool, true, false, not, _&&_, _||_, Bool·not-not}
 use mathlib.Core.List.{List}
 use Prim.Native.Nat.{ℕ, _+_, _-_, _^_, _≤_, _<_}
 use native.Mathlib.Omega.{arith}
-use borrow.Author.Tests.{ltb-true, ltb-false, lt-ltb, le-ltb, eq-eqb, ne-eqb, not-false}
 use lib.Dec.{ltb}
 use lib.ListN.{length, take, drop, getD, set, take-append-drop}
 use Rattle.area.specs.Lists.{allOf}

@@ -1,5 +1,6 @@
 -- The logical sum: it is a word, does not depend on the order of the words, may be taken in stretches, and is the plain total with
 -- every carry put back at once. Assumes nothing.
+use borrow.Author.Tests.{ltb-true}
 use mathlib.Core.Path.{_≡_, refl, sym, ap, _∙_, subst}
 use mathlib.Core.Bool.{true, false, _&&_}
 use mathlib.Core.List.{List, [], _∷_, _++_, List·Permᴰ, List·Permᴰ·nil, List·Permᴰ·cons, List·Permᴰ·swap, List·Permᴰ·trans}
@@ -7,7 +8,6 @@ use Prim.Native.Nat.{ℕ, _+_, _-_, _*_, _%_, _^_, _≤_, _<_, zero-le}
 use native.Mathlib.Nat.{add-assoc, add-zero, zero-add, mod-eq-of-lt, mod-add-mod}
 use native.Mathlib.Numerals.{add-one}
 use native.Mathlib.Omega.{arith}
-use borrow.Author.Tests.{ltb-true}
 use lib.Dec.{lit<}
 use lib.Pow.{le-ones}
 use lib.ListN.{length, getD, take, drop, drop-of-length-le, take-append-drop}

@@ -1,11 +1,11 @@
 -- `word::blocks::error_of` meets its contract, by those of the fields. Assumes nothing.
+use borrow.Author.Needs.{needs}
 use mathlib.Core.Path.{ap, ap₂, _∙_}
 use mathlib.Core.Bool.{cond}
 use Prim.Native.Nat.{ℕ, _+_}
 use lib.Dec.{eqb}
 use Rattle.word.specs.CheckWords.{chosen}
 use Rattle.word.specs.Blocks.{errorOf}
-use borrow.Author.Needs.{needs}
 use Rattle.word.proofs.blocks.error_of.Statement.{statement}
 use Rattle.word.proofs.blocks.error_of.Tie as tie
 
@@ -29,7 +29,8 @@ add-result c = search needs
 
 returns : tie.Need-returns
 unfolding errorOf
-returns c = let a = c .before .before .before .before .before .args in
+returns c =
+    let a = c .before .before .before .before .before .args in
     ap₂ _+_
     (c .before .before .before .mismatch .ensures .0 ∙ ap (λ (n : ℕ). chosen (a .sequence) (cond (eqb n (a .number)) 0 1)) (c .before .before .before .before .number-field .ensures .0))
     (c .mismatch2 .ensures .0

@@ -1,9 +1,10 @@
 -- `word::blocks::judge` meets its contract, by the rows of the refusals in their order. Assumes nothing.
+use borrow.Author.Tests.{not-true, not-false}
+use borrow.Author.Needs.{needs}
 use mathlib.Core.Path.{_≡_, sym, ap, ap₂, _∙_}
 use mathlib.Core.Bool.{true, _&&_}
 use Prim.Native.Nat.{ℕ, _-_}
 use native.Mathlib.Omega.{arith}
-use borrow.Author.Tests.{not-true, not-false}
 use lib.ListN.{length, take, getD}
 use lib.Seq.{length-take-le}
 use Rattle.area.specs.Lists.{allOf}
@@ -13,12 +14,12 @@ use Rattle.word.specs.Sums.{logicalSum}
 use Rattle.word.specs.Blocks.{dataWords}
 use Rattle.word.proofs.Laws.Sum.{summed-fits, summed-sum}
 use Rattle.word.proofs.Laws.Block.{judge-bad-number, judge-spoilt, judge-short, judge-error, block-words}
-use borrow.Author.Needs.{needs}
 use Rattle.word.proofs.blocks.judge.Statement.{statement}
 use Rattle.word.proofs.blocks.judge.Tie as tie
 
 returns : tie.Need-returns
-returns c = let a = c .before .before .args in
+returns c =
+    let a = c .before .before .args in
     judge-bad-number (a .block .now) (a .sequence) (a .check) (a .number) (omega arith)
 
 extra-words-requires : tie.Need-extra-words-requires
@@ -49,7 +50,8 @@ are-words-requires : tie.Need-are-words-requires
 are-words-requires c κs = search needs
 
 returns-2 : tie.Need-returns-2
-returns-2 c = let a = c .before .before .before .before .before .before .before .before .before .before .args in
+returns-2 c =
+    let a = c .before .before .before .before .before .before .before .before .before .before .args in
     let block = a .block .now in
     let n = c .before .before .before .before .before .before .data-words .result in
     let fits = summed-fits (take n block) (c .before .before .before .before .logical-sum .result) (c .before .before .before .before .logical-sum .ensures) in
@@ -57,7 +59,8 @@ returns-2 c = let a = c .before .before .before .before .before .before .before 
     (sym (block-words block n) ∙ ap₂ _&&_ (sym fits) (sym (c .before .before .are-words .ensures)) ∙ not-true _ (c .if2 .taken))
 
 returns-3 : tie.Need-returns-3
-returns-3 c = let a = c .before .before .before .before .before .before .before .before .before .before .before .args in
+returns-3 c =
+    let a = c .before .before .before .before .before .before .before .before .before .before .before .args in
     let block = a .block .now in
     let n = c .before .before .before .before .before .before .before .data-words .result in
     let fits = summed-fits (take n block) (c .before .before .before .before .before .logical-sum .result) (c .before .before .before .before .before .logical-sum .ensures) in
@@ -71,7 +74,8 @@ error-of-requires : tie.Need-error-of-requires
 error-of-requires c κs = search needs
 
 returns-4 : tie.Need-returns-4
-returns-4 c = let a = c .before .before .before .before .before .before .before .before .before .before .before .before .before .args in
+returns-4 c =
+    let a = c .before .before .before .before .before .before .before .before .before .before .before .before .before .args in
     let block = a .block .now in
     let n = c .before .before .before .before .before .before .before .before .before .data-words .result in
     let fits = summed-fits (take n block) (c .before .before .before .before .before .before .before .logical-sum .result) (c .before .before .before .before .before .before .before .logical-sum .ensures) in

@@ -1,21 +1,20 @@
 -- `word::blocks::sealed_word` meets its contract, by the rows of the refusals in their order. Where check sums are not chosen no word is
 -- summed, and the check word does not depend on the sum. Assumes nothing.
-use Rattle.word.proofs.Laws.Block.{seal-bad-number}
-use lib.Seq.{length-take-le}
+use borrow.Author.Tests.{not-true, not-false}
+use borrow.Author.Needs.{needs}
 use mathlib.Core.Path.{_≡_, sym, ap, _∙_}
 use mathlib.Core.Bool.{true, false, not, _&&_}
 use Prim.Native.Nat.{ℕ, _+_, _≤_}
 use native.Mathlib.Omega.{arith}
-use borrow.Author.Tests.{not-true, not-false}
+use lib.Seq.{length-take-le}
 use lib.ListN.{length, take}
 use Rattle.area.specs.Lists.{allOf}
 use Rattle.area.specs.Parts.{isWord}
 use Rattle.word.specs.Sums.{logicalSum}
 use Rattle.word.specs.CheckWords.{checkWord}
 use Rattle.word.specs.Blocks.{extra}
-use Rattle.word.proofs.Laws.Sum.{summed-fits, summed-sum}
 use Rattle.word.proofs.Laws.Block.{seal-bad-number, seal-no-room, seal-spoilt, seal-accepted, seal-summed, seal-word}
-use borrow.Author.Needs.{needs}
+use Rattle.word.proofs.Laws.Sum.{summed-fits, summed-sum}
 use Rattle.word.proofs.blocks.sealed_word.Statement.{statement}
 use Rattle.word.proofs.blocks.sealed_word.Tie as tie
 
@@ -23,18 +22,21 @@ extra-words-requires : tie.Need-extra-words-requires
 extra-words-requires c κs = search needs
 
 returns : tie.Need-returns
-returns c = let a = c .before .before .before .args in
+returns c =
+    let a = c .before .before .before .args in
     (sym (seal-bad-number (a .block .now) (a .n) (a .sequence) (a .check) (a .number) (omega arith)), λ z. absurd (omega arith))
 
 returns-2 : tie.Need-returns-2
-returns-2 c = let a = c .before .before .before .before .args in
+returns-2 c =
+    let a = c .before .before .before .before .args in
     (sym (seal-no-room (a .block .now) (a .n) (a .sequence) (a .check) (a .number) (omega arith)), λ z. absurd (omega arith))
 
 sub-if3 : tie.Need-sub-if3
 sub-if3 c = search needs
 
 returns-3 : tie.Need-returns-3
-returns-3 c = let a = c .before .before .before .before .before .args in
+returns-3 c =
+    let a = c .before .before .before .before .before .args in
     (sym (seal-no-room (a .block .now) (a .n) (a .sequence) (a .check) (a .number) (omega (arith, c .before .before .before .extra-words .ensures .0))), λ z. absurd (omega arith))
 
 summed-words-requires : tie.Need-summed-words-requires
@@ -50,7 +52,8 @@ check-word-requires : tie.Need-check-word-requires
 check-word-requires c κs = search needs
 
 returns-4 : tie.Need-returns-4
-returns-4 c = let a = c .before .before .before .before .before .before .before .before .before .before .args in
+returns-4 c =
+    let a = c .before .before .before .before .before .before .before .before .before .before .args in
     let k = c .before .before .before .before .summed-words .result in
     let at = ap (λ (j : ℕ). take j (a .block .now)) (c .before .before .before .before .summed-words .ensures .0) in
     let sums = summed-sum (take k (a .block .now)) (c .before .before .logical-sum .result) (c .before .before .logical-sum .ensures) in
@@ -66,7 +69,8 @@ returns-4 c = let a = c .before .before .before .before .before .before .before 
     )
 
 returns-5 : tie.Need-returns-5
-returns-5 c = let a = c .before .before .before .before .before .before .before .before .before .args in
+returns-5 c =
+    let a = c .before .before .before .before .before .before .before .before .before .args in
     let k = c .before .before .before .summed-words .result in
     let at = ap (λ (j : ℕ). take j (a .block .now)) (c .before .before .before .summed-words .ensures .0) in
     let tall : allOf isWord (take k (a .block .now)) ≡ false = sym (summed-fits (take k (a .block .now)) (c .before .logical-sum .result) (c .before .logical-sum .ensures)) ∙ c .if4 .left in

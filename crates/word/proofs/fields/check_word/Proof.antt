@@ -1,4 +1,5 @@
 -- `word::fields::check_word` meets its contract: the two fields do not meet, so the `|` is a sum. Assumes nothing.
+use borrow.Author.Needs.{needs}
 use mathlib.Core.Path.{ap, ap₂, _∙_}
 use Prim.Native.Nat.{ℕ, _+_, _*_, _<_, _^_}
 use native.Mathlib.Omega.{arith}
@@ -6,7 +7,6 @@ use lib.Dec.{lit≤}
 use lib.Bits.{and-mask, mask-lt}
 use Rattle.word.specs.CheckWords.{address, chosen, checkWord}
 use Rattle.word.proofs.Laws.CheckWord.{placed}
-use borrow.Author.Needs.{needs}
 use Rattle.word.proofs.fields.check_word.Statement.{statement}
 use Rattle.word.proofs.fields.check_word.Tie as tie
 
@@ -21,7 +21,8 @@ field-requires-2 c κs = search needs
 
 returns : tie.Need-returns
 unfolding checkWord address
-returns c = let a = c .before .before .before .args in
+returns c =
+    let a = c .before .before .before .args in
     let hi = c .before .field .ensures in
     let lo = c .field2 .ensures in
     let high : c .before .field .result < 2 ^ 18 = omega (arith, c .before .before .folded .ensures .1) in

@@ -45,14 +45,16 @@ stretch-sum-requires : tie.Need-stretch-sum-requires Inv-loop μ-loop
 stretch-sum-requires c κs = simp (length-take, length-drop) (omega arith)
 
 returns : tie.Need-returns Inv-loop μ-loop
-returns c = let ws = c .before .before .before .before .before .before .before .before .args .words .now in
+returns c =
+    let ws = c .before .before .before .before .before .before .before .before .args .words .now in
     let at = c .before .before .before .before .before .before .loop in
     let part = take (c .before .before .before .before .stretch-end .result - at .at) (drop (at .at) ws) in
     let tall : allOf isWord part ≡ false = sym (summed-fits part (c .before .before .stretch-sum .result) (c .before .before .stretch-sum .ensures)) ∙ not-true _ (c .if1 .taken) in
     summed-tall ws (sym (at .inv .2) ∙ stretch-words ws (at .at) (c .before .before .before .before .stretch-end .result) (omega arith) ∙ ap (λ (t : Bool). t && allOf isWord (drop (c .before .before .before .before .stretch-end .result) ws)) tall)
 
 carry-back-requires : tie.Need-carry-back-requires Inv-loop μ-loop
-carry-back-requires c κs = let ws = c .before .before .before .before .before .before .before .before .args .words .now in
+carry-back-requires c κs =
+    let ws = c .before .before .before .before .before .before .before .before .args .words .now in
     let part = take (c .before .before .before .before .stretch-end .result - c .before .before .before .before .before .before .loop .at) (drop (c .before .before .before .before .before .before .loop .at) ws) in
     (search needs, c .before .before .before .before .before .before .loop .inv .1, summed-lt part (c .before .before .stretch-sum .result) (c .before .before .stretch-sum .ensures))
 
@@ -60,7 +62,8 @@ loop-less : tie.Need-loop-less Inv-loop μ-loop
 loop-less c = search needs
 
 loop-again : tie.Need-loop-again Inv-loop μ-loop
-loop-again c = let ws = c .before .before .before .before .before .before .before .before .before .args .words .now in
+loop-again c =
+    let ws = c .before .before .before .before .before .before .before .before .before .args .words .now in
     let at = c .before .before .before .before .before .before .before .loop in
     let end = c .before .before .before .before .before .stretch-end .result in
     let part = take (end - at .at) (drop (at .at) ws) in
@@ -76,7 +79,8 @@ loop-again c = let ws = c .before .before .before .before .before .before .befor
     )
 
 returns-2 : tie.Need-returns-2 Inv-loop μ-loop
-returns-2 c = let ws = c .before .before .before .args .words .now in
+returns-2 c =
+    let ws = c .before .before .before .args .words .now in
     let at = c .before .loop in
     let h : length ws ≤ at .at = omega arith in
     summed-of ws (at .sum) (sym (at .inv .2) ∙ all-end isWord ws (at .at) h) (sym (sum-done ws (at .sum) (at .at) h) ∙ at .inv .3)

@@ -1,5 +1,6 @@
 -- `word::sums::stretch_sum` meets its contract: the total of so few words does not wrap. Assumes nothing.
 use borrow.Author.Tests.{eq-eqb, ne-eqb}
+use borrow.Author.Needs.{needs}
 use mathlib.Core.Path.{_≡_, sym, ap, _∙_}
 use mathlib.Core.Bool.{true}
 use Prim.Native.Nat.{_-_, _^_}
@@ -7,7 +8,6 @@ use Rattle.area.specs.Lists.{allOf}
 use Rattle.area.specs.Parts.{isWord}
 use Rattle.word.specs.Totals.{reduced}
 use Rattle.word.proofs.Laws.Sum.{total-fits, summed-of, summed-tall}
-use borrow.Author.Needs.{needs}
 use Rattle.word.proofs.sums.stretch_sum.Statement.{statement}
 use Rattle.word.proofs.sums.stretch_sum.Tie as tie
 
@@ -18,7 +18,8 @@ put-back-requires : tie.Need-put-back-requires
 put-back-requires c κs = search needs
 
 returns : tie.Need-returns
-returns c = let ws = c .before .before .before .before .before .args .words .now in
+returns c =
+    let ws = c .before .before .before .before .before .args .words .now in
     let all : allOf isWord ws ≡ true = sym (c .before .before .before .tallied .ensures .1) ∙ eq-eqb _ _ (c .before .if1 .taken) in
     summed-of ws (c .put-back .result) all
     (c .put-back .ensures .0 ∙ ap (reduced (2 ^ 36 - 1)) (c .before .before .before .tallied .ensures .0) ∙ total-fits ws all (c .before .before .before .before .before .pre))

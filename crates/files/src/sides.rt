@@ -1,0 +1,197 @@
+// Which of a file's buffers is meant, and the file with something else in one of them.
+use crate::Buffer;
+use crate::File;
+use crate::Side;
+use crate::Slot;
+use crate::slots::is_empty;
+use crate::slots::is_full;
+use crate::slots::is_part;
+use crate::slots::is_taken;
+ghost use mathlib.Core.Path.{_≡_};
+ghost use Prim.Native.Nat.{_<_};
+ghost use Rattle.files.specs.Sides.{bufferAt, slotAt, startAt, isSide, lower, emptySide, takenSide, partSide, oldest as oldestOf, withSlot, nextBlock, turnedBy, filledAt, emptiedAt, withoutOldest};
+
+// The buffer that is meant; an empty one for none.
+pub fn buffer_at(f: File, k: Side) -> Buffer
+    ensures { λ r. ⌜ r ≡ bufferAt f k ⌝ }
+{
+    match k {
+        Side::Low => f.low,
+        Side::High => f.high,
+        Side::Neither => Buffer {
+            number: 0,
+            slot: Slot::Empty,
+        },
+    }
+}
+
+// What that buffer holds.
+pub fn slot_at(f: File, k: Side) -> Slot
+    ensures { λ r. ⌜ r ≡ slotAt f k ⌝ }
+{
+    let b = buffer_at(f, k);
+    b.slot
+}
+
+// Where that buffer begins in an area with w words for each buffer.
+pub fn start_at(f: File, w: u16, k: Side) -> usize
+    ensures { λ r. ⌜ (r ≡ startAt f w k) × (r < 16777216) ⌝ }
+{
+    let b = buffer_at(f, k);
+    (b.number as usize) * (w as usize)
+}
+
+pub fn is_side(k: Side) -> bool
+    ensures { λ r. ⌜ r ≡ isSide k ⌝ }
+{
+    match k {
+        Side::Low => true,
+        Side::High => true,
+        Side::Neither => false,
+    }
+}
+
+// The lower of the buffers that pass a test, by whether each does.
+fn lower_of(low: bool, high: bool) -> Side
+    ensures { λ r. ⌜ r ≡ lower low high ⌝ }
+{
+    if low {
+        return Side::Low;
+    }
+    if high {
+        return Side::High;
+    }
+    Side::Neither
+}
+
+// The lowest empty buffer. A single file has no second one.
+pub fn empty_side(f: File) -> Side
+    ensures { λ r. ⌜ r ≡ emptySide f ⌝ }
+{
+    let low = f.low;
+    let high = f.high;
+    let x = low.slot;
+    let y = high.slot;
+    let a = is_empty(x);
+    let b = is_empty(y);
+    lower_of(a, f.double & b)
+}
+
+// The buffer that a read has taken.
+pub fn taken_side(f: File) -> Side
+    ensures { λ r. ⌜ r ≡ takenSide f ⌝ }
+{
+    let low = f.low;
+    let high = f.high;
+    let x = low.slot;
+    let y = high.slot;
+    let a = is_taken(x);
+    let b = is_taken(y);
+    lower_of(a, b)
+}
+
+// The part-filled buffer.
+pub fn part_side(f: File) -> Side
+    ensures { λ r. ⌜ r ≡ partSide f ⌝ }
+{
+    let low = f.low;
+    let high = f.high;
+    let x = low.slot;
+    let y = high.slot;
+    let a = is_part(x);
+    let b = is_part(y);
+    lower_of(a, b)
+}
+
+// The buffer with the oldest full block.
+pub fn oldest(f: File) -> Side
+    ensures { λ r. ⌜ r ≡ oldestOf f ⌝ }
+{
+    let low = f.low;
+    let high = f.high;
+    let x = low.slot;
+    let y = high.slot;
+    let a = is_full(x);
+    let b = is_full(y);
+    lower_of(a & !(b & f.turned), b)
+}
+
+// The file with x in that buffer, the order of its full blocks and its next block number.
+pub fn with_slot(f: File, k: Side, x: Slot, turned: bool, block: u16) -> File
+    ensures { λ r. ⌜ r ≡ withSlot f k x turned block ⌝ }
+{
+    let mut g = f;
+    match k {
+        Side::Low => {
+            let b = Buffer {
+                number: f.low.number,
+                slot: x,
+            };
+            g.low = b;
+            g.turned = turned;
+            g.block = block;
+            g
+        }
+        Side::High => {
+            let b = Buffer {
+                number: f.high.number,
+                slot: x,
+            };
+            g.high = b;
+            g.turned = turned;
+            g.block = block;
+            g
+        }
+        Side::Neither => f,
+    }
+}
+
+// The block number after n: one more, and 0 after 32,767.
+fn next_block(n: u16) -> u16
+    ensures { λ r. ⌜ r ≡ nextBlock n ⌝ }
+{
+    (((n as u32) + 1) % 32768) as u16
+}
+
+// Whether a block that becomes full in that buffer leaves the older one of two in the high buffer.
+fn turned_by(f: File, k: Side) -> bool
+    ensures { λ r. ⌜ r ≡ turnedBy f k ⌝ }
+{
+    let high = f.high;
+    let y = high.slot;
+    let full = is_full(y);
+    match k {
+        Side::Low => full,
+        Side::High => false,
+        Side::Neither => false,
+    }
+}
+
+// A block of this many data words, with this check error, is full in that buffer, the youngest; the block number goes up by one.
+pub fn filled_at(f: File, k: Side, words: u16, error: u8) -> File
+    ensures { λ r. ⌜ r ≡ filledAt f k words error ⌝ }
+{
+    let turned = turned_by(f, k);
+    let next = next_block(f.block);
+    let x = Slot::Full {
+        words: words,
+        at: 0,
+        error: error,
+    };
+    with_slot(f, k, x, turned, next)
+}
+
+// That buffer is empty.
+pub fn emptied_at(f: File, k: Side) -> File
+    ensures { λ r. ⌜ r ≡ emptiedAt f k ⌝ }
+{
+    with_slot(f, k, Slot::Empty, false, f.block)
+}
+
+// The oldest full block is dropped, used up or not: what a skip does, and a write that is done with its block.
+pub fn without_oldest(f: File) -> File
+    ensures { λ r. ⌜ r ≡ withoutOldest f ⌝ }
+{
+    let k = oldest(f);
+    emptied_at(f, k)
+}

@@ -1,0 +1,128 @@
+// What a slot is, and the numbers in it; 0 where it has none.
+use crate::Slot;
+ghost use mathlib.Core.Path.{_≡_};
+ghost use Rattle.files.specs.Slots.{isEmpty, isTaken, isPart, isFull, partWords, fullWords, fullPlace, fullError};
+
+pub fn is_empty(x: Slot) -> bool
+    ensures { λ r. ⌜ r ≡ isEmpty x ⌝ }
+{
+    match x {
+        Slot::Empty => true,
+        Slot::Taken => false,
+        Slot::Part(_) => false,
+        Slot::Full {
+            words: _,
+            at: _,
+            error: _,
+        } => false,
+    }
+}
+
+pub fn is_taken(x: Slot) -> bool
+    ensures { λ r. ⌜ r ≡ isTaken x ⌝ }
+{
+    match x {
+        Slot::Empty => false,
+        Slot::Taken => true,
+        Slot::Part(_) => false,
+        Slot::Full {
+            words: _,
+            at: _,
+            error: _,
+        } => false,
+    }
+}
+
+pub fn is_part(x: Slot) -> bool
+    ensures { λ r. ⌜ r ≡ isPart x ⌝ }
+{
+    match x {
+        Slot::Empty => false,
+        Slot::Taken => false,
+        Slot::Part(_) => true,
+        Slot::Full {
+            words: _,
+            at: _,
+            error: _,
+        } => false,
+    }
+}
+
+pub fn is_full(x: Slot) -> bool
+    ensures { λ r. ⌜ r ≡ isFull x ⌝ }
+{
+    match x {
+        Slot::Empty => false,
+        Slot::Taken => false,
+        Slot::Part(_) => false,
+        Slot::Full {
+            words: _,
+            at: _,
+            error: _,
+        } => true,
+    }
+}
+
+// The words of a part-filled buffer.
+pub fn part_words(x: Slot) -> u16
+    ensures { λ r. ⌜ r ≡ partWords x ⌝ }
+{
+    match x {
+        Slot::Empty => 0,
+        Slot::Taken => 0,
+        Slot::Part(n) => n,
+        Slot::Full {
+            words: _,
+            at: _,
+            error: _,
+        } => 0,
+    }
+}
+
+// The data words of a full block.
+pub fn full_words(x: Slot) -> u16
+    ensures { λ r. ⌜ r ≡ fullWords x ⌝ }
+{
+    match x {
+        Slot::Empty => 0,
+        Slot::Taken => 0,
+        Slot::Part(_) => 0,
+        Slot::Full {
+            words,
+            at: _,
+            error: _,
+        } => words,
+    }
+}
+
+// The place of get in a full block.
+pub fn full_place(x: Slot) -> u16
+    ensures { λ r. ⌜ r ≡ fullPlace x ⌝ }
+{
+    match x {
+        Slot::Empty => 0,
+        Slot::Taken => 0,
+        Slot::Part(_) => 0,
+        Slot::Full {
+            words: _,
+            at,
+            error: _,
+        } => at,
+    }
+}
+
+// The check error of a full block that has not been told yet.
+pub fn full_error(x: Slot) -> u8
+    ensures { λ r. ⌜ r ≡ fullError x ⌝ }
+{
+    match x {
+        Slot::Empty => 0,
+        Slot::Taken => 0,
+        Slot::Part(_) => 0,
+        Slot::Full {
+            words: _,
+            at: _,
+            error,
+        } => error,
+    }
+}

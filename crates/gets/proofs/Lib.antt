@@ -1,0 +1,2 @@
+pub mod Onces
+pub mod Lines

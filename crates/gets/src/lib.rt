@@ -1,0 +1,26 @@
+// Get, on one file: what it finds in the oldest full block, and the file after it.
+// The words that it shows are named by start and length within the lent area; the part itself is cut out by whoever has the area.
+mod answers;
+mod looks;
+
+pub use answers::got_error;
+pub use answers::got_number;
+pub use answers::got_start;
+pub use answers::got_words;
+use files::File;
+pub use looks::get;
+
+// What get finds. A record or a leftover is named by where its words begin in the area, and how many they are.
+pub enum Got {
+    Record { start: usize, words: usize },
+    Leftover { start: usize, words: usize },
+    Error(u8),
+    End,
+    Nothing,
+}
+
+// What get finds, and the file after it.
+pub struct Finding {
+    pub got: Got,
+    pub file: File,
+}

@@ -1,0 +1,54 @@
+-- Which buffers of a pool are free, and which file serves a unit (document 01, "Sizes"). Assumes nothing.
+use Prim.Native.Nat.{ℕ, suc, _-_}
+use mathlib.Core.Bool.{Bool, true, false, not, _&&_, _||_}
+use mathlib.Core.List.{List}
+use lib.Dec.{eqb}
+use lib.ListN.{getD}
+use Rattle.area.specs.declared.Found.{Found}
+use Rattle.area.specs.declared.Found.the-variants.{At, Nothing}
+use Rattle.area.specs.Lists.{anyOf, firstAlong, countAlong}
+use Rattle.files.specs.declared.File.{File}
+use Rattle.files.specs.Opening.{closedFile}
+
+-- "Files 0 to 15."
+abbrev pub fileCount : ℕ
+fileCount = 16
+
+-- "A pool has m buffers of W words, m from 1 to 32"
+abbrev pub bufferLimit : ℕ
+bufferLimit = 32
+
+-- an open file holds its low buffer, and its high one if it is double
+abbrev pub heldBy : ℕ → File → Bool
+heldBy b f = f .opened && (eqb (f .low .number) b || (f .double && eqb (f .high .number) b))
+
+abbrev pub isHeld : List File → ℕ → Bool
+isHeld fs b = anyOf (heldBy b) fs
+
+-- free: held by no open file
+abbrev pub isFree : List File → ℕ → Bool
+isFree fs b = not (isHeld fs b)
+
+-- "The lowest-numbered free buffers are taken": the lowest of the buffers k up to m that is free
+unfoldable pub lowestFree : ℕ → List File → ℕ → Found
+lowestFree m fs k = firstAlong suc (isFree fs) (m - k) k
+
+-- how many buffers of the pool are free
+unfoldable pub freeCount : ℕ → List File → ℕ
+freeCount m fs = countAlong suc (isFree fs) m 0
+
+-- "An open file is bound to one unit"
+abbrev pub serves : ℕ → ℕ → File → Bool
+serves channel unit f = f .opened && (eqb (f .channel) channel && eqb (f .unit) unit)
+
+-- the file number that serves a unit
+unfoldable pub servingFile : List File → ℕ → ℕ → Found
+servingFile fs channel unit = firstAlong suc (λ i. serves channel unit (getD fs i closedFile)) fileCount 0
+
+abbrev pub isFound : Found → Bool
+isFound (At i) = true
+isFound Nothing = false
+
+-- refusal 4, "unit already bound"
+abbrev pub isBound : List File → ℕ → ℕ → Bool
+isBound fs channel unit = isFound (servingFile fs channel unit)

@@ -1,0 +1,23 @@
+// The files over one pool of buffers: which buffers are free, which file serves a unit, and when the files are sound, each by itself and
+// every two of them. It knows nothing of channels and requests, and only numbers the buffers.
+mod free;
+mod pairs;
+mod sound;
+mod units;
+
+pub use free::free_count;
+pub use free::holds;
+pub use free::is_held;
+pub use free::lowest_free;
+pub use pairs::are_apart;
+pub use pairs::files_sound;
+pub use sound::file_sound;
+pub use sound::taken_count;
+pub use units::is_bound;
+pub use units::serves;
+pub use units::serving_file;
+
+// How many files there are, and how many buffers a pool may have.
+pub const FILES: usize = 16;
+
+pub const BUFFERS: usize = 32;
