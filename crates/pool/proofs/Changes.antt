@@ -46,19 +46,19 @@ full-used (Part n) e = refl
 full-used (Full n at err) e = refl
 
 module _ (m w : ℕ) (f : File) (S : Sound m w f) where
-  own-empty : isSide (emptySide f) ≡ true → owns f (emptySide f) ≡ true
+  pub own-empty : isSide (emptySide f) ≡ true → owns f (emptySide f) ≡ true
   unfolding emptySide
   own-empty =
       lower-cases (λ k. isSide k ≡ true → owns f k ≡ true) (isEmpty (f .low .slot)) (f .double && isEmpty (f .high .slot))
       (λ a s. refl) (λ a b s. and-left (f .double) _ b) (λ a b s. true-not-false s refl)
 
-  own-taken : isSide (takenSide f) ≡ true → owns f (takenSide f) ≡ true
+  pub own-taken : isSide (takenSide f) ≡ true → owns f (takenSide f) ≡ true
   own-taken s = owns-used m w f (takenSide f) S s (taken-used (slotAt f (takenSide f)) (taken-there f s))
 
-  own-part : isSide (partSide f) ≡ true → owns f (partSide f) ≡ true
+  pub own-part : isSide (partSide f) ≡ true → owns f (partSide f) ≡ true
   own-part s = owns-used m w f (partSide f) S s (part-used (slotAt f (partSide f)) (part-there f s))
 
-  own-oldest : isSide (oldest f) ≡ true → owns f (oldest f) ≡ true
+  pub own-oldest : isSide (oldest f) ≡ true → owns f (oldest f) ≡ true
   own-oldest s = owns-used m w f (oldest f) S s (full-used (slotAt f (oldest f)) (full-there f s))
 
   -- a taken buffer is an input file's, a part-filled one an output file's
@@ -203,7 +203,7 @@ get-sound m w f S i =
 -- ---- output
 
 -- a part-filled block's words
-part-numbers : (o : Bool) (size rlen : ℕ) (x : Slot) → slotFits o size rlen x ≡ true → isPart x ≡ true → (rlen ≤ partWords x) × (partWords x + rlen ≤ size)
+pub part-numbers : (o : Bool) (size rlen : ℕ) (x : Slot) → slotFits o size rlen x ≡ true → isPart x ≡ true → (rlen ≤ partWords x) × (partWords x + rlen ≤ size)
 part-numbers o size rlen Empty h p = true-not-false p refl
 part-numbers o size rlen Taken h p = true-not-false p refl
 part-numbers o size rlen (Part n) h p =
@@ -212,10 +212,10 @@ part-numbers o size rlen (Part n) h p =
 part-numbers o size rlen (Full n at e) h p = true-not-false p refl
 
 module _ (m w : ℕ) (f : File) (S : Sound m w f) where
-  one-record : 1 ≤ f .rlen
+  pub one-record : 1 ≤ f .rlen
   one-record = leb-true 1 (f .rlen) (and-left (leb 1 (f .rlen)) _ (S .sizes))
 
-  within : f .rlen ≤ f .size
+  pub within : f .rlen ≤ f .size
   within = leb-true (f .rlen) (f .size) (and-left (leb (f .rlen) (f .size)) _ (and-right (leb 1 (f .rlen)) _ (S .sizes)))
 
   pub sealed-sound : isSide (partSide f) ≡ true → Sound m w (sealed f)
