@@ -2,3 +2,5 @@ pub mod Facts
 pub mod Kept
 pub mod Changes
 pub mod Puts
+pub mod Tallies
+pub mod Shares
