@@ -4,3 +4,5 @@ pub mod Changes
 pub mod Puts
 pub mod Tallies
 pub mod Shares
+pub mod Replaced
+pub mod Inside
