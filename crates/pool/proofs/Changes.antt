@@ -187,7 +187,7 @@ found-sound m w f S i = go (oldest f) (aged f) (own-oldest m w f S)
           taken = omega (arith, beside m w f k S (o t) .0); part = omega (arith, beside m w f k S (o t) .1);
           order = order-stays m w f k n p S t; number = S .number }))
 
-same-passed : (f : File) → passed f .output ≡ f .output
+pub same-passed : (f : File) → passed f .output ≡ f .output
 unfolding passed withoutOldest
 same-passed f = go (isUsedUp (slotAt f (oldest f)))
   where

@@ -6,3 +6,4 @@ pub mod Tallies
 pub mod Shares
 pub mod Replaced
 pub mod Inside
+pub mod Events
