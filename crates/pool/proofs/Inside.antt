@@ -75,11 +75,13 @@ module _ (m w : ℕ) (f : File) (S : Sound m w f) where
       none : (t : Bool) → gotStart (foundNone t) + gotWords (foundNone t) ≤ m * w
       none true = omega arith
       none false = omega arith
+
       within : (start r n at e : ℕ) (s t : Bool) → leb r (n - at) ≡ t → at ≤ n → start + n ≤ m * w
           → gotStart (cond s (Error e) (cond t (Record (start + at) r) (Leftover (start + at) (n - at)))) + gotWords (cond s (Error e) (cond t (Record (start + at) r) (Leftover (start + at) (n - at)))) ≤ m * w
       within start r n at e true t q p l = omega arith
       within start r n at e false true q p l = omega (arith, leb-true r (n - at) q)
       within start r n at e false false q p l = omega arith
+
       go : (k : Side) → Aged f k → (isSide k ≡ true → owns f k ≡ true)
           → gotStart (cond (isSide k) (foundIn (startAt f w k) (f .rlen) (slotAt f k)) (foundNone (f .marked))) + gotWords (cond (isSide k) (foundIn (startAt f w k) (f .rlen) (slotAt f k)) (foundNone (f .marked))) ≤ m * w
       go Neither (noBlock e) o = none (f .marked)

@@ -57,7 +57,8 @@ module _ (m w : ℕ) (f : File) (S : Sound m w f) where
       record {
         own = own-part m w f S s;
         fit = part-numbers (f .output) (f .size) (f .rlen) (slotAt f (partSide f)) (slot-fits m w f (partSide f) S) (part-there f s) .1;
-        alone = one-zero (isPart (other f (partSide f))) (omega (arith, part-sides f (partSide f) s, S .part)) }
+        alone = one-zero (isPart (other f (partSide f))) (omega (arith, part-sides f (partSide f) s, S .part));
+      }
     where
       one-most : (b : Bool) → oneIf b ≤ 1
       one-most true = omega arith
@@ -134,6 +135,7 @@ put-sound m w f S o s = subst (Sound m w) (sym (put-is f s P)) (go (ltb (f .size
   where
     P : PutAt f (putSide f)
     P = put-at m w f S s
+
     go : (t : Bool) → ltb (f .size) (wordsAfter f + f .rlen) ≡ t → Sound m w (cond t (filledAt f (putSide f) (wordsAfter f) 0) (withSlot f (putSide f) (Part (wordsAfter f)) false (f .block)))
     go true e = filled m w f (putSide f) (wordsAfter f) 0 S (P .own) (omega (arith, one-record m w f S)) (P .fit) (omega arith) (λ q. refl)
     go false e =
@@ -142,8 +144,13 @@ put-sound m w f S o s = subst (Sound m w) (sym (put-is f s P)) (go (ltb (f .size
         let none : oneIf (isPart (other f (putSide f))) ≡ 0 = ap oneIf (P .alone) in
         changed m w f (putSide f) (Part (wordsAfter f)) false (f .block) S
         (record {
-          own = P .own; slot = part-slot (f .output) (wordsAfter f) (omega arith) room; taken = omega (arith, beside m w f (putSide f) S (P .own) .0); part = omega arith;
-          order = λ q. true-not-false q refl; number = S .number })
+          own = P .own;
+          slot = part-slot (f .output) (wordsAfter f) (omega arith) room;
+          taken = omega (arith, beside m w f (putSide f) S (P .own) .0);
+          part = omega arith;
+          order = λ q. true-not-false q refl;
+          number = S .number;
+        })
       where
         part-slot : (b : Bool) (n : ℕ) → f .rlen ≤ n → n + f .rlen ≤ f .size → slotFits b (f .size) (f .rlen) (Part n) ≡ true
         part-slot true n h l = and-both _ true (and-both (leb (f .rlen) n) _ (le-leb (f .rlen) n h) (le-leb (n + f .rlen) (f .size) l)) refl

@@ -13,6 +13,7 @@ use Rattle.area.specs.declared.Found.the-variants.{At, Nothing}
 use Rattle.area.specs.Lists.{anyOf, allOf, allPairs, firstAlong, along}
 use Rattle.area.proofs.Walks.{by-test, true-not-false, and-left, and-right, and-both, or-either, at-all, none-at}
 use Rattle.area.proofs.Firsts.{first-misses}
+use Rattle.area.proofs.Marks.{along-suc, all-set, pairs-set, pairs-alike}
 use Rattle.files.specs.declared.Slot.{Slot}
 use Rattle.files.specs.declared.Side.{Side}
 use Rattle.files.specs.declared.Side.the-variants.{Low, High, Neither}
@@ -22,7 +23,6 @@ use Rattle.files.specs.Sides.{withSlot}
 use Rattle.files.specs.Opening.{secondNumber, openedFile, closedFile}
 use Rattle.pool.specs.Free.{fileCount, heldBy, isHeld, isFree, serves, servingFile, isFound, isBound}
 use Rattle.pool.specs.Soundness.{shareBuffer, shareUnit, apart, isBlank, fileSound, filesSound}
-use Rattle.pool.proofs.Tallies.{all-set, pairs-set, pairs-alike}
 use Rattle.pool.proofs.Shares.{held-shared}
 
 -- ---- a file that holds what another held
@@ -41,8 +41,14 @@ alike-self f = record { opened = refl; channel = refl; unit = refl; double = ref
 
 pub alike-then : (f g h : File) → Alike f g → Alike g h → Alike f h
 alike-then f g h A B = record {
-  opened = B .opened ∙ A .opened; channel = B .channel ∙ A .channel; unit = B .unit ∙ A .unit; double = B .double ∙ A .double;
-  output = B .output ∙ A .output; low = B .low ∙ A .low; high = B .high ∙ A .high }
+  opened = B .opened ∙ A .opened;
+  channel = B .channel ∙ A .channel;
+  unit = B .unit ∙ A .unit;
+  double = B .double ∙ A .double;
+  output = B .output ∙ A .output;
+  low = B .low ∙ A .low;
+  high = B .high ∙ A .high;
+}
 
 pub alike-slot : (f : File) (k : Side) (x : Slot) (t : Bool) (b : ℕ) → Alike f (withSlot f k x t b)
 alike-slot f Low x t b = record { opened = refl; channel = refl; unit = refl; double = refl; output = refl; low = refl; high = refl }
@@ -158,11 +164,6 @@ opened-apart q a b h e d u =
     neither true k = ap₂ (λ (x y : Bool). x || y) e (k refl)
     neither false k = ap (λ (x : Bool). x || false) e
 
-along-suc : (j u : ℕ) → along suc j u ≡ u + j
-unfolding along
-along-suc zero u = omega arith
-along-suc (suc j) u = along-suc j (suc u) ∙ omega arith
-
 -- a unit that is not bound is served by no file
 pub unbound : (fs : List File) (c u j : ℕ) → isBound fs c u ≡ false → j < fileCount → serves c u (getD fs j closedFile) ≡ false
 unfolding servingFile
@@ -170,6 +171,7 @@ unbound fs c u j n l = go (servingFile fs c u) refl n
   where
     at : along suc j 0 ≡ j
     at = along-suc j 0 ∙ omega arith
+
     go : (x : Found) → servingFile fs c u ≡ x → isFound x ≡ false → serves c u (getD fs j closedFile) ≡ false
     go (At i) e k = true-not-false refl k
     go Nothing e k =

@@ -9,13 +9,12 @@ use borrow.Author.Tests.{ltb-true, eqb-true, eq-eqb, ne-eqb, not-true}
 use lib.Dec.{eqb, ltb}
 use Rattle.area.specs.Lists.{anyOf, allOf, allPairs, countOf, countAlong}
 use Rattle.area.proofs.Walks.{by-test, true-not-false, and-left, and-right, and-both, or-either, or-left, or-right}
-use Rattle.area.proofs.Marks.{cond-true, cond-false}
+use Rattle.area.proofs.Marks.{cond-true, cond-false, count-rest, count-zero, count-either, count-one, any-none, count-alone}
 use Rattle.files.specs.declared.File.{File}
 use Rattle.files.specs.Opening.{buffersFor}
 use Rattle.pool.specs.Free.{heldBy, isHeld, isFree, freeCount, serves, holders, holding, allHolding}
 use Rattle.pool.specs.Soundness.{isNoBuffer, shareBuffer, shareUnit, apart, fileSound, filesSound}
 use Rattle.pool.proofs.Facts.{Sound, facts}
-use Rattle.pool.proofs.Tallies.{count-rest, count-zero, count-either, count-one, any-none, count-alone}
 
 -- ---- two files that are apart
 
@@ -31,11 +30,14 @@ held-shared f g b h k =
   where
     or-first : (a c : Bool) → a ≡ true → (a || c) ≡ true
     or-first a c e = ap (λ (t : Bool). t || c) e
+
     or-second : (a c : Bool) → c ≡ true → (a || c) ≡ true
     or-second true c e = refl
     or-second false c e = e
+
     at-low : eqb (f .low .number) b ≡ true → heldBy (f .low .number) g ≡ true
     at-low e = ap (λ (n : ℕ). heldBy n g) (eqb-true (f .low .number) b e) ∙ k
+
     at-high : eqb (f .high .number) b ≡ true → heldBy (f .high .number) g ≡ true
     at-high e = ap (λ (n : ℕ). heldBy n g) (eqb-true (f .high .number) b e) ∙ k
 
@@ -74,10 +76,12 @@ file-holding m w f h = go (f .opened) refl
   where
     shut : f .opened ≡ false → (b : ℕ) → heldBy b f ≡ false
     shut o b = ap (λ (t : Bool). t && (eqb (f .low .number) b || (f .double && eqb (f .high .number) b))) o
+
     second : Sound m w f → f .double ≡ true → (f .low .number < f .high .number) × (f .high .number < m)
     second S d =
         let e : (ltb (f .low .number) (f .high .number) && ltb (f .high .number) m) ≡ true = sym (cond-true _ (isNoBuffer (f .high)) d) ∙ S .second in
         (ltb-true (f .low .number) (f .high .number) (and-left (ltb (f .low .number) (f .high .number)) _ e), ltb-true (f .high .number) m (and-right (ltb (f .low .number) (f .high .number)) _ e))
+
     go : (t : Bool) → f .opened ≡ t → countAlong suc (λ b. heldBy b f) m 0 ≡ cond t (buffersFor (f .double)) 0
     go false o = count-zero (λ b. heldBy b f) m 0 (shut o)
     go true o =

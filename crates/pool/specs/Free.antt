@@ -2,7 +2,7 @@
 use Prim.Native.Nat.{ℕ, suc, _+_, _-_}
 use mathlib.Core.Bool.{Bool, true, false, not, cond, _&&_, _||_}
 use mathlib.Core.List.{List, [], _∷_}
-use lib.Dec.{eqb}
+use lib.Dec.{leb, eqb}
 use lib.ListN.{getD}
 use Rattle.area.specs.declared.Found.{Found}
 use Rattle.area.specs.declared.Found.the-variants.{At, Nothing}
@@ -14,9 +14,19 @@ use Rattle.files.specs.Opening.{buffersFor, closedFile}
 abbrev pub fileCount : ℕ
 fileCount = 16
 
--- "A pool has m buffers of W words, m from 1 to 32"
+-- "A pool has m buffers of W words, m from 1 to 32, W from 1 to 1,024."
 abbrev pub bufferLimit : ℕ
 bufferLimit = 32
+
+abbrev pub wordLimit : ℕ
+wordLimit = 1024
+
+abbrev pub poolFits : ℕ → ℕ → Bool
+poolFits m w = (leb 1 m && leb m bufferLimit) && (leb 1 w && leb w wordLimit)
+
+-- "Before the first fresh start: no buffers (m and W are 0)": that pool is sound too
+abbrev pub poolSound : ℕ → ℕ → Bool
+poolSound m w = poolFits m w || (eqb m 0 && eqb w 0)
 
 -- an open file holds its low buffer, and its high one if it is double
 abbrev pub heldBy : ℕ → File → Bool
