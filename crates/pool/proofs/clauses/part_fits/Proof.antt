@@ -1,7 +1,7 @@
 -- `pool::part_fits` meets its contract, case by case. Assumes nothing.
 use borrow.Author.Needs.{needs}
-use Rattle.pool.proofs.sound.part_fits.Statement.{statement}
-use Rattle.pool.proofs.sound.part_fits.Tie as tie
+use Rattle.pool.proofs.clauses.part_fits.Statement.{statement}
+use Rattle.pool.proofs.clauses.part_fits.Tie as tie
 
 enum-told : tie.Need-enum-told
 enum-told c = search needs

@@ -1,7 +1,7 @@
 -- `pool::is_no_buffer` meets its contract, from the contract of `is_empty`. Assumes nothing.
 use borrow.Author.Needs.{needs}
-use Rattle.pool.proofs.sound.is_no_buffer.Statement.{statement}
-use Rattle.pool.proofs.sound.is_no_buffer.Tie as tie
+use Rattle.pool.proofs.clauses.is_no_buffer.Statement.{statement}
+use Rattle.pool.proofs.clauses.is_no_buffer.Tie as tie
 
 is-empty-requires : tie.Need-is-empty-requires
 is-empty-requires c κs = search needs

@@ -1,7 +1,7 @@
 -- `pool::is_unread` meets its contract, from the contracts of `full_error` and `full_place`. Assumes nothing.
 use borrow.Author.Needs.{needs}
-use Rattle.pool.proofs.sound.is_unread.Statement.{statement}
-use Rattle.pool.proofs.sound.is_unread.Tie as tie
+use Rattle.pool.proofs.clauses.is_unread.Statement.{statement}
+use Rattle.pool.proofs.clauses.is_unread.Tie as tie
 
 full-place-requires : tie.Need-full-place-requires
 full-place-requires c κs = search needs

@@ -1,7 +1,7 @@
 -- `pool::place_fits` meets its contract, case by case. Assumes nothing.
 use borrow.Author.Needs.{needs}
-use Rattle.pool.proofs.sound.place_fits.Statement.{statement}
-use Rattle.pool.proofs.sound.place_fits.Tie as tie
+use Rattle.pool.proofs.clauses.place_fits.Statement.{statement}
+use Rattle.pool.proofs.clauses.place_fits.Tie as tie
 
 enum-told : tie.Need-enum-told
 enum-told c = search needs
