@@ -1,68 +1,69 @@
+use borrow.Author.Needs.{needs}
+use borrow.Author.Tests.{not-true, not-false}
+use mathlib.Core.Path.{_≡_, refl, sym, _∙_}
+use mathlib.Core.Bool.{false}
+use Prim.Native.Nat.{_≤_, _<_, _-_}
+use native.Mathlib.Omega.{arith}
+use lib.ListN.{length, drop}
+use Rattle.area.specs.Numbered.{allFrom}
+use Rattle.area.proofs.Numbered.{from-hit, from-miss, from-done}
+use Rattle.channel.specs.Units.{unitCount, idleUnit}
+use Rattle.state.specs.Judged.{unitServed}
 use Rattle.state.proofs.channels.units_served.Statement.{statement}
 use Rattle.state.proofs.channels.units_served.Tie as tie
 use Rattle.state.proofs.channels.units_served.Reads as reads
 use Rattle.state.proofs.channels.units_served.Lts as lts
-use Rattle.pool.proofs.is_bound.Reads as is-bound-reads
-use Rattle.state.proofs.turns.is_none.Reads as is-none-reads
-use Rattle.state.proofs.turns.requested.Reads as requested-reads
+use Rattle.state.proofs.channels.unit_served.Reads as unit-served-reads
 
 abbrev Inv-loop : tie.InvT-loop
-Inv-loop files number c u₀ u = ?
+Inv-loop files number units u₀ u = (u ≤ unitCount) × (length units ≡ unitCount) × (allFrom (unitServed files number) 0 units ≡ allFrom (unitServed files number) u (drop u units))
 
 abbrev μ-loop : tie.MeasureT-loop
-μ-loop files number c u₀ u = ?
+μ-loop files number units u₀ u = unitCount - u
 
--- src/channels.rt:83:5
+-- src/channels.rt:95:5
 loop-holds : tie.Need-loop-holds Inv-loop μ-loop
-loop-holds c = ?
+loop-holds c = (search needs, search needs, refl)
 
--- src/channels.rt:83:12
+-- src/channels.rt:95:12
 cast-loop : tie.Need-cast-loop Inv-loop μ-loop
-cast-loop c = ?
+cast-loop c = omega arith
 
--- src/channels.rt:84:25
+-- src/channels.rt:96:23
 cast-x : tie.Need-cast-x Inv-loop μ-loop
-cast-x c = ?
+cast-x c = omega arith
 
--- src/channels.rt:84:17
+-- src/channels.rt:96:17
 mul-x : tie.Need-mul-x Inv-loop μ-loop
-mul-x c = ?
+mul-x c = omega arith
 
--- src/channels.rt:84:17
-element-copy-out-x : tie.Need-element-copy-out-x Inv-loop μ-loop
-element-copy-out-x c = ?
+-- src/channels.rt:96:17
+array-copy-out-x : tie.Need-array-copy-out-x Inv-loop μ-loop
+array-copy-out-x c = omega arith
 
--- src/channels.rt:86:28
-requested-requires : tie.Need-requested-requires Inv-loop μ-loop
-requested-requires c κs = ?
+-- src/channels.rt:97:13
+unit-served-requires : tie.Need-unit-served-requires Inv-loop μ-loop
+unit-served-requires c κs = search needs
 
--- src/channels.rt:86:13
-is-none-requires : tie.Need-is-none-requires Inv-loop μ-loop
-is-none-requires c κs = ?
-
--- src/channels.rt:88:17
-is-bound-requires : tie.Need-is-bound-requires Inv-loop μ-loop
-is-bound-requires c κs = ?
-
--- src/channels.rt:89:17
+-- src/channels.rt:98:13
 returns : tie.Need-returns Inv-loop μ-loop
-returns c = ?
+returns c = let h : c .before .before .before .before .loop .u < length (c .before .before .before .before .before .args .t3) = omega arith in from-hit _ _ _ _ _ h (c .before .before .before .before .loop .inv .2) (sym (c .before .unit-served .ensures) ∙ not-true _ (c .if1 .taken))
 
--- src/channels.rt:92:9
+-- src/channels.rt:100:9
 add-u : tie.Need-add-u Inv-loop μ-loop
-add-u c = ?
+add-u c = omega arith
 
--- src/channels.rt:83:5
+-- src/channels.rt:95:5
 loop-less : tie.Need-loop-less Inv-loop μ-loop
-loop-less c = ?
+loop-less c = omega arith
 
--- src/channels.rt:83:5
+-- src/channels.rt:95:5
 loop-again : tie.Need-loop-again Inv-loop μ-loop
-loop-again c = ?
+loop-again c = let h : c .before .before .before .before .loop .u < length (c .before .before .before .before .before .args .t3) = omega arith in (omega arith, c .before .before .before .before .loop .inv .1, from-miss _ _ _ _ _ h (c .before .before .before .before .loop .inv .2) (sym (c .before .unit-served .ensures) ∙ not-false _ (c .if1 .left)))
 
--- src/channels.rt:79:1
+-- src/channels.rt:91:1
 returns-2 : tie.Need-returns-2 Inv-loop μ-loop
-returns-2 c = ?
+returns-2 c = let h : length (c .before .before .args .t3) ≤ c .before .loop .u = omega arith in from-done _ _ (idleUnit false) _ _ h (c .before .loop .inv .2)
 
 pub units-served-spec : {M : Type 1} → statement M
 units-served-spec =
@@ -74,10 +75,8 @@ units-served-spec =
     cast-loop
     cast-x
     mul-x
-    element-copy-out-x
-    requested-requires
-    is-none-requires
-    is-bound-requires
+    array-copy-out-x
+    unit-served-requires
     returns
     add-u
     loop-less

@@ -1,3 +1,4 @@
+use Rattle.state.specs.Judged.{fileFits}
 use borrow.Author.Needs.{needs}
 use Rattle.state.proofs.fits.file_fits.Statement.{statement}
 use Rattle.state.proofs.fits.file_fits.Tie as tie
@@ -39,7 +40,8 @@ file-ready-requires c κs = search needs
 
 -- src/fits.rt:33:1
 returns : tie.Need-returns
-returns c = ?
+unfolding fileFits
+returns c = simp (c .before .before .before .before .before .before .channel-in .ensures, c .before .before .before .before .is-declared .ensures, c .before .before .before .turn-of .ensures, c .before .before .requested .ensures, c .before .file-ready .ensures)
 
 pub file-fits-spec : {M : Type 1} → statement M
 file-fits-spec =

@@ -1,3 +1,4 @@
+use Rattle.state.specs.Places.{beforeStart}
 use borrow.Author.Needs.{needs}
 use Rattle.state.proofs.places.before_start.Statement.{statement}
 use Rattle.state.proofs.places.before_start.Tie as tie
@@ -16,7 +17,8 @@ closed-file-requires c κs = search needs
 
 -- src/places.rt:13:1
 returns : tie.Need-returns
-returns c = ?
+unfolding beforeStart
+returns c = simp (c .before .fresh .ensures, c .closed-file .ensures)
 
 pub before-start-spec : {M : Type 1} → statement M
 before-start-spec = tie.close (tie.spec fresh-requires closed-file-requires returns)

@@ -1,3 +1,9 @@
+use Prim.Native.Nat.{_≤_}
+use mathlib.Core.Path.{_≡_, refl, sym, _∙_}
+use lib.ListN.{length, length-map}
+use native.Mathlib.Omega.{arith}
+use Rattle.state.specs.Places.{channelCount, noChannel}
+use Rattle.state.proofs.Lookups.{channel-beyond, any-default}
 use borrow.Author.Needs.{needs}
 use Rattle.state.proofs.places.channel_at.Statement.{statement}
 use Rattle.state.proofs.places.channel_at.Tie as tie
@@ -11,7 +17,8 @@ fresh-requires c κs = search needs
 
 -- src/places.rt:55:9
 returns : tie.Need-returns
-returns c = ?
+returns c = let long : length (c .before .before .args .t1 .channels) ≡ channelCount = sym (length-map (c .before .before .args .t1 .channels) _) ∙ c .before .before .good .0 .1 .1 .1 .1 .1 .0 .1 .0 .1 in
+    c .fresh .ensures ∙ sym (channel-beyond (c .before .before .args .t1 .channels) (c .before .before .args .c) (omega arith))
 
 -- src/places.rt:57:13
 mul-x : tie.Need-mul-x
@@ -23,7 +30,8 @@ element-copy-out-x c = search needs
 
 -- src/places.rt:51:1
 returns-2 : tie.Need-returns-2
-returns-2 c = ?
+returns-2 c = let long : length (c .before .before .args .t1 .channels) ≡ channelCount = sym (length-map (c .before .before .args .t1 .channels) _) ∙ c .before .before .good .0 .1 .1 .1 .1 .1 .0 .1 .0 .1 in
+    any-default (c .before .before .args .t1 .channels) (c .before .before .args .c) _ noChannel (omega arith)
 
 pub channel-at-spec : {M : Type 1} → statement M
 channel-at-spec = tie.close (tie.spec fresh-requires returns mul-x element-copy-out-x returns-2)

@@ -1,3 +1,4 @@
+use mathlib.Core.Path.{sym, _∙_}
 use borrow.Author.Needs.{needs}
 use Rattle.state.proofs.turns.fits_output.Statement.{statement}
 use Rattle.state.proofs.turns.fits_output.Tie as tie
@@ -19,7 +20,7 @@ enum-told c = search needs
 
 -- src/turns.rt:96:1
 returns : tie.Need-returns
-returns c = ?
+returns c = rw (c .before .before .x .given .1) (c .op-fits .ensures)
 
 -- src/turns.rt:96:1
 returns-2 : tie.Need-returns-2

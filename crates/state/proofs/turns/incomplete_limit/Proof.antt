@@ -1,3 +1,4 @@
+use Rattle.channel.specs.Rules.{rowOf}
 use borrow.Author.Needs.{needs}
 use Rattle.state.proofs.turns.incomplete_limit.Statement.{statement}
 use Rattle.state.proofs.turns.incomplete_limit.Tie as tie
@@ -18,15 +19,18 @@ enum-told-3 c = search needs
 
 -- src/turns.rt:140:1
 returns : tie.Need-returns
-returns c = ?
+unfolding rowOf
+returns c = rw (c .enum-told .given .1)
 
 -- src/turns.rt:140:1
 returns-2 : tie.Need-returns-2
-returns-2 c = ?
+unfolding rowOf
+returns-2 c = rw (c .enum-told2 .given .1)
 
 -- src/turns.rt:140:1
 returns-3 : tie.Need-returns-3
-returns-3 c = ?
+unfolding rowOf
+returns-3 c = rw (c .enum-told3 .given .1)
 
 pub incomplete-limit-spec : {M : Type 1} → statement M
 incomplete-limit-spec =

@@ -16,7 +16,7 @@ incomplete-limit-requires c κs = search needs
 
 -- src/turns.rt:151:1
 returns : tie.Need-returns
-returns c = ?
+returns c = simp (c .before .before .before .before .attempt-limit .ensures, c .before .before .before .incomplete-limit .ensures)
 
 pub is-counted-spec : {M : Type 1} → statement M
 is-counted-spec = tie.close (tie.spec attempt-limit-requires incomplete-limit-requires returns)

@@ -26,15 +26,15 @@ returns c = search needs
 
 -- src/turns.rt:15:1
 returns-2 : tie.Need-returns-2
-returns-2 c = ?
+returns-2 c = rw (c .before .t .given .1)
 
 -- src/turns.rt:15:1
 returns-3 : tie.Need-returns-3
-returns-3 c = ?
+returns-3 c = rw (c .before .t2 .given .1)
 
 -- src/turns.rt:15:1
 returns-4 : tie.Need-returns-4
-returns-4 c = ?
+returns-4 c = rw (c .before .t3 .given .1)
 
 pub requested-spec : {M : Type 1} → statement M
 requested-spec =

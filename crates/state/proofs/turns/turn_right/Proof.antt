@@ -39,15 +39,15 @@ returns c = search needs
 
 -- src/turns.rt:160:1
 returns-2 : tie.Need-returns-2
-returns-2 c = ?
+returns-2 c = rw (c .before .before .t .given .1) (c .is-counted .ensures)
 
 -- src/turns.rt:160:1
 returns-3 : tie.Need-returns-3
-returns-3 c = ?
+returns-3 c = rw (c .before .before .t2 .given .1) (c .is-counted2 .ensures)
 
 -- src/turns.rt:160:1
 returns-4 : tie.Need-returns-4
-returns-4 c = ?
+returns-4 c = rw (c .before .before .t3 .given .1) (c .is-counted3 .ensures)
 
 pub turn-right-spec : {M : Type 1} → statement M
 turn-right-spec =

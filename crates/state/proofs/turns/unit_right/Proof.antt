@@ -1,3 +1,4 @@
+use Rattle.state.specs.Judged.{unitRight}
 use borrow.Author.Needs.{needs}
 use Rattle.state.proofs.turns.unit_right.Statement.{statement}
 use Rattle.state.proofs.turns.unit_right.Tie as tie
@@ -21,7 +22,8 @@ turn-right-requires c κs = search needs
 
 -- src/turns.rt:172:1
 returns : tie.Need-returns
-returns c = ?
+unfolding unitRight
+returns c = simp (c .before .before .before .before .requested .ensures, c .before .before .before .is-none .ensures, c .before .before .turn-right .ensures)
 
 pub unit-right-spec : {M : Type 1} → statement M
 unit-right-spec =
