@@ -1,4 +1,5 @@
 -- Laws of the answers: a refused call gives back what was passed, an accepted one what it makes. Assumes nothing.
+use mathlib.Core.Logic.{_≢_}
 use mathlib.Core.Path.{_≡_, refl, sym, ap, _∙_}
 use mathlib.Core.Bool.{true, false, cond}
 use Prim.Native.Nat.{ℕ}

@@ -1,5 +1,5 @@
 -- The free buffers as plain statements: which is the lowest, and that as many are found as are counted. Assumes nothing.
-use mathlib.Core.Path.{_≡_, refl, sym, ap, ap₂, _∙_}
+use mathlib.Core.Path.{_≡_, refl, sym, ap, ap₂, subst, _∙_}
 use mathlib.Core.Bool.{Bool, true, false, cond}
 use mathlib.Core.List.{List}
 use Prim.Native.Nat.{ℕ, zero, suc, _+_, _-_, _≤_, _<_}
@@ -11,7 +11,7 @@ use Rattle.area.proofs.Walks.{by-test, true-not-false}
 use Rattle.area.proofs.Firsts.{First, first-finds, first-misses}
 use Rattle.files.specs.declared.File.{File}
 use Rattle.pool.specs.Free.{isFree, lowestFree, freeCount}
-use Rattle.opening.specs.Open.{lowestNumber}
+use Rattle.opening.specs.Open.{numberOf, lowestNumber}
 
 along-suc : (j u : ℕ) → along suc j u ≡ u + j
 unfolding along
@@ -79,17 +79,40 @@ module _ (test : ℕ → Bool) where
       zero-more : (k : ℕ) → 0 + k ≡ k
       zero-more k = omega arith
 
--- one is found if one is free at all
-pub some-free : (m : ℕ) (fs : List File) → 1 ≤ freeCount m fs → Lowest m fs 0 (lowestNumber m fs 0)
-unfolding freeCount
-some-free m fs h = go (lowestFree m fs 0) refl
-  where
-    none : lowestFree m fs 0 ≡ Nothing → countAlong suc (isFree fs) m 0 ≡ 0
-    none e = misses m e
-      where
-        misses : (n : ℕ) → lowestFree n fs 0 ≡ Nothing → countAlong suc (isFree fs) n 0 ≡ 0
-        misses n q = ?
+-- as many of the lowest are found as are counted free
+module _ (m : ℕ) (fs : List File) where
+  from-zero : (n : ℕ) → n - 0 ≡ n
+  from-zero n = omega arith
 
-    go : (x : Found) → lowestFree m fs 0 ≡ x → Lowest m fs 0 (lowestNumber m fs 0)
-    go (At b) e = ?
-    go Nothing e = ?
+  lowest-number : (k b : ℕ) → lowestFree m fs k ≡ At b → lowestNumber m fs k ≡ b
+  lowest-number k b e = ap numberOf e
+
+  pub first-free : 1 ≤ freeCount m fs → Lowest m fs 0 (lowestNumber m fs 0)
+  unfolding freeCount lowestFree
+  first-free h = go (lowestFree m fs 0) refl
+    where
+      go : (x : Found) → lowestFree m fs 0 ≡ x → Lowest m fs 0 (lowestNumber m fs 0)
+      go (At b) e = subst (Lowest m fs 0) (sym (lowest-number 0 b e)) (lowest-finds m fs 0 b e)
+      go Nothing e =
+          let none : countAlong suc (isFree fs) m 0 ≡ 0 = ap (λ (n : ℕ). countAlong suc (isFree fs) n 0) (sym (from-zero m)) ∙ misses-count (isFree fs) (m - 0) 0 e in
+          absurd (omega (arith, none))
+
+  pub second-free : 2 ≤ freeCount m fs → Lowest m fs (lowestNumber m fs 0 + 1) (lowestNumber m fs (lowestNumber m fs 0 + 1))
+  unfolding freeCount lowestFree
+  second-free h = go (lowestFree m fs 0) refl
+    where
+      then : (b : ℕ) → lowestFree m fs 0 ≡ At b → (x : Found) → lowestFree m fs (b + 1) ≡ x → Lowest m fs (b + 1) (lowestNumber m fs (b + 1))
+      then b e (At a) q = subst (Lowest m fs (b + 1)) (sym (lowest-number (b + 1) a q)) (lowest-finds m fs (b + 1) a q)
+      then b e Nothing q =
+          let rest = misses-count (isFree fs) (m - (b + 1)) (b + 1) q in
+          let one = finds-count (isFree fs) (m - 0) 0 b e .1 in
+          let same : countAlong suc (isFree fs) (0 + (m - 0) - (b + 1)) (b + 1) ≡ countAlong suc (isFree fs) (m - (b + 1)) (b + 1) =
+          (let p : 0 + (m - 0) - (b + 1) ≡ m - (b + 1) = omega arith in ap (λ (n : ℕ). countAlong suc (isFree fs) n (b + 1)) p) in
+          let all : countAlong suc (isFree fs) m 0 ≡ countAlong suc (isFree fs) (m - 0) 0 = ap (λ (n : ℕ). countAlong suc (isFree fs) n 0) (sym (from-zero m)) in
+          absurd (omega (arith, rest, one, same, all))
+
+      go : (x : Found) → lowestFree m fs 0 ≡ x → Lowest m fs (lowestNumber m fs 0 + 1) (lowestNumber m fs (lowestNumber m fs 0 + 1))
+      go (At b) e = subst (λ (k : ℕ). Lowest m fs (k + 1) (lowestNumber m fs (k + 1))) (sym (lowest-number 0 b e)) (then b e (lowestFree m fs (b + 1)) refl)
+      go Nothing e =
+          let none : countAlong suc (isFree fs) m 0 ≡ 0 = ap (λ (n : ℕ). countAlong suc (isFree fs) n 0) (sym (from-zero m)) ∙ misses-count (isFree fs) (m - 0) 0 e in
+          absurd (omega (arith, none))

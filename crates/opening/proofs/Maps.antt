@@ -7,10 +7,10 @@ use native.Mathlib.Omega.{arith}
 use lib.ListN.{length, getD, take, drop, set, drop-of-length-le}
 use lib.Seq.{drop-cons, drop-set-lt, take-suc-set, take-all}
 
-module _ {A : Type 0} (f : A → A) (whole xs : List A) (d : A) (i : ℕ) where
-  pub map-step : i < length xs → whole ≡ take i xs ++ map f (drop i xs)
+module _ {A : Type 0} (f : A → A) (whole xs : List A) (i : ℕ) where
+  pub map-step : (d : A) → i < length xs → whole ≡ take i xs ++ map f (drop i xs)
       → whole ≡ take (i + 1) (set xs i (f (getD xs i d))) ++ map f (drop (i + 1) (set xs i (f (getD xs i d))))
-  map-step h inv =
+  map-step d h inv =
       let left : drop i xs ≡ getD xs i d ∷ drop (suc i) xs = drop-cons xs i d h in
       let more : take (suc i) (set xs i (f (getD xs i d))) ≡ take i xs ++ (f (getD xs i d) ∷ []) = take-suc-set xs i (f (getD xs i d)) h in
       let rest : drop (suc i) (set xs i (f (getD xs i d))) ≡ drop (suc i) xs = drop-set-lt (suc i) xs i (f (getD xs i d)) (omega arith) in

@@ -2,12 +2,12 @@
 use Prim.Native.Nat.{ℕ, _*_, _^_}
 use mathlib.Core.Bool.{Bool, false, not, _&&_, _||_}
 use mathlib.Core.List.{[], _∷_}
-use lib.Dec.{leb, ltb}
+use lib.Dec.{ltb}
 use lib.ListN.{replicate}
 use Rattle.area.specs.Refusals.{Rows, lowest}
 use Rattle.channel.specs.Units.{unitCount, freshOf}
 use Rattle.files.specs.Opening.{closedFile}
-use Rattle.pool.specs.Free.{fileCount, bufferLimit}
+use Rattle.pool.specs.Free.{fileCount, poolFits}
 use Rattle.state.specs.declared.State.{State}
 use Rattle.opening.specs.declared.Called.{Called}
 use Rattle.opening.specs.declared.Masks.{Masks}
@@ -22,15 +22,11 @@ isMask mask = ltb mask (2 ^ unitCount)
 abbrev pub areMasks : Masks → Bool
 areMasks k = isMask (k .a) && (isMask (k .b) && (isMask (k .c) && (isMask (k .d) && isMask (k .e))))
 
--- "m from 1 to 32, W from 1 to 1,024"
-abbrev pub poolAsked : ℕ → ℕ → Bool
-poolAsked m w = (leb 1 m && leb m bufferLimit) && (leb 1 w && leb w 1024)
-
 -- "An area under m×W is refused 1.": the m and W that are asked for
 unfoldable pub freshRows : ℕ → ℕ → Masks → ℕ → Rows
 freshRows m w k n =
-    -- "an argument is outside its range, the area is short"
-    (1, not (poolAsked m w) || (not (areMasks k) || ltb n (m * w))) ∷ []
+    -- "an argument is outside its range, the area is short": m from 1 to 32, W from 1 to 1,024, masks of units
+    (1, not (poolFits m w) || (not (areMasks k) || ltb n (m * w))) ∷ []
 
 abbrev pub freshRefusal : ℕ → ℕ → Masks → ℕ → ℕ
 freshRefusal m w k n = lowest (freshRows m w k n)

@@ -3,13 +3,13 @@ use crate::Called;
 use crate::Masks;
 use channel::UNITS;
 use files::closed_file;
-use pool::BUFFERS;
 use pool::FILES;
+use pool::pool_fits;
 use state::State;
 use state::lowest_of;
 ghost use mathlib.Core.Path.{_≡_};
 ghost use lib.ListN.{length};
-ghost use Rattle.opening.specs.Fresh.{isMask, areMasks, poolAsked, freshRefusal, freshState, freshBy};
+ghost use Rattle.opening.specs.Fresh.{isMask, areMasks, freshRefusal, freshState, freshBy};
 
 // Masks are below this: they have no bit above the last unit.
 const MASKS: u32 = 1 << UNITS;
@@ -32,18 +32,11 @@ fn are_masks(masks: Masks) -> bool
     a & (b & (c & (d & e)))
 }
 
-// A pool has 1 to 32 buffers of 1 to 1,024 words.
-fn pool_asked(m: u8, w: u16) -> bool
-    ensures { λ r. ⌜ r ≡ poolAsked m w ⌝ }
-{
-    ((1 <= m) & ((m as usize) <= BUFFERS)) & ((1 <= w) & (w <= 1024))
-}
-
 // The refusal of a fresh start with an area of n words, 0 for none.
 pub fn fresh_refusal(m: u8, w: u16, masks: Masks, n: usize) -> u8
     ensures { λ r. ⌜ r ≡ freshRefusal m w masks n ⌝ }
 {
-    let pool = pool_asked(m, w);
+    let pool = pool_fits(m, w);
     let units = are_masks(masks);
     let short = n < (m as usize) * (w as usize);
     let c1 = !pool | (!units | short);
