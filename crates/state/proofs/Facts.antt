@@ -205,7 +205,7 @@ module _ (s : State) where
         let p = F .served c u n in
         at-any (serves c u) closedFile (s .files) (p .place) (place-inside (s .files) closedFile (serves c u) refl (p .place) (p .bound)) (p .bound)
 
-    facts-judged : judged s ≡ true
+    pub facts-judged : judged s ≡ true
     unfolding judged filesSound fileFits channelRight unitServed
     facts-judged =
         and-both (poolInRange (s .m) (s .w)) _ (F .pool)

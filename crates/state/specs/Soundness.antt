@@ -13,6 +13,7 @@ use Rattle.channel.specs.declared.Unit.{Unit}
 use Rattle.channel.specs.declared.Channel.{Channel}
 use Rattle.channel.specs.declared.Work.{Work}
 use Rattle.channel.specs.Rules.{rowOf}
+use Rattle.channel.specs.Sound.{unitWorks}
 use Rattle.channel.specs.Units.{size, declaredAt, turnAt}
 use Rattle.files.specs.declared.File.{File}
 use Rattle.files.specs.Input.{hasFull}
@@ -20,7 +21,7 @@ use Rattle.pool.specs.Free.{serves, bufferLimit}
 use Rattle.pool.specs.Soundness.{inRange, hasBuffers, oneIf, takenCount, fullRight, partRight, placeRight, restIsZero, isBlank, shareBuffer, shareUnit}
 use Rattle.state.specs.declared.State.{State}
 use Rattle.state.specs.Places.{channelIn}
-use Rattle.state.specs.Requests.{requested, isNone, isRead, isWrite, fitsOutput, isWorking, isWaiting}
+use Rattle.state.specs.Requests.{requested, isNone, isRead, isWrite, fitsOutput, isWaiting}
 
 -- ---- what the clauses speak of
 
@@ -95,9 +96,6 @@ unfoldable pub requestsFit : State → Bool
 requestsFit s = allFrom (channelFits (s .files)) 0 (s .channels)
 
 -- ---- "each channel works for at most one unanswered request, and for one if it is not frozen and any waits"
-
-abbrev pub unitWorks : Unit → Bool
-unitWorks x = isWorking (x .turn)
 
 abbrev pub unitWaits : Unit → Bool
 unitWaits x = isWaiting (x .turn)
