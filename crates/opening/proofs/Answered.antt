@@ -1,7 +1,7 @@
 -- Laws of the answers: a refused call gives back what was passed, an accepted one what it makes. Assumes nothing.
 use mathlib.Core.Logic.{_≢_}
 use mathlib.Core.Path.{_≡_, refl, sym, ap, _∙_}
-use mathlib.Core.Bool.{true, false, cond}
+use mathlib.Core.Bool.{Bool, true, false, not, cond}
 use Prim.Native.Nat.{ℕ}
 use lib.Dec.{eqb}
 use borrow.Author.Tests.{eq-eqb, ne-eqb}
@@ -11,6 +11,10 @@ use Rattle.state.specs.Places.{withFile}
 use Rattle.opening.specs.declared.Called.{Called}
 use Rattle.opening.specs.declared.FileChange.{FileChange}
 use Rattle.opening.specs.Answers.{called, fileChange}
+
+pub not-so : (b : Bool) → not b ≡ false → b ≡ true
+not-so true e = refl
+not-so false e = sym e
 
 -- "A refusal .. changes nothing."
 pub state-refused : (n : ℕ) (s t : State) → n ≢ 0 → called n s t .state ≡ s

@@ -1,5 +1,5 @@
 -- A loop that replaces each element x of a list by f x: what is done and what is left give the whole. Assumes nothing.
-use mathlib.Core.Path.{_≡_, refl, sym, ap, _∙_}
+use mathlib.Core.Path.{_≡_, refl, sym, ap, ap₂, _∙_}
 use mathlib.Core.List.{List, [], _∷_, _++_, map, append-assoc, append-nil}
 use Prim.Native.Nat.{ℕ, suc, _+_, _≤_, _<_}
 use native.Mathlib.Numerals.{add-one}
@@ -20,3 +20,8 @@ module _ {A : Type 0} (f : A → A) (whole xs : List A) (i : ℕ) where
   map-done h inv =
       let none : drop i xs ≡ [] = drop-of-length-le xs h in
       sym (take-all i xs h) ∙ (sym (append-nil (take i xs)) ∙ sym (inv ∙ ap (λ (ys : List A). take i xs ++ map f ys) none))
+
+-- to do twice what is done once is to do it once
+pub map-twice : {A : Type 0} (f : A → A) → ((x : A) → f (f x) ≡ f x) → (xs : List A) → map f (map f xs) ≡ map f xs
+map-twice f each [] = refl
+map-twice f each (x ∷ xs) = ap₂ _∷_ (each x) (map-twice f each xs)

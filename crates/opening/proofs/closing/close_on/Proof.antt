@@ -1,27 +1,20 @@
+-- `opening::close_on` meets its contract, from the contracts of `close_refusal` and `closed_file`. Assumes nothing.
 use Rattle.opening.specs.Close.{closeOn}
 use Rattle.opening.proofs.Answered.{changes-refused, changes-accepted}
 use borrow.Author.Needs.{needs}
 use Rattle.opening.proofs.closing.close_on.Statement.{statement}
 use Rattle.opening.proofs.closing.close_on.Tie as tie
-use Rattle.opening.proofs.closing.close_on.Reads as reads
-use Rattle.opening.proofs.closing.close_on.Lts as lts
-use Rattle.files.proofs.closed_file.Reads as closed-file-reads
-use Rattle.opening.proofs.closing.close_refusal.Reads as close-refusal-reads
 
--- src/closing.rt:47:9
 close-refusal-requires : tie.Need-close-refusal-requires
 close-refusal-requires c κs = search needs
 
--- src/closing.rt:49:9
 returns : tie.Need-returns
 unfolding closeOn
 returns c = changes-refused _ _ _ _ (c .before .close-refusal .ensures) (c .if1 .taken)
 
--- src/closing.rt:54:9
 closed-file-requires : tie.Need-closed-file-requires
 closed-file-requires c κs = search needs
 
--- src/closing.rt:44:1
 returns-2 : tie.Need-returns-2
 unfolding closeOn
 returns-2 c = changes-accepted _ _ _ _ _ (c .before .before .close-refusal .ensures) (c .before .if1 .left) (c .closed-file .ensures)

@@ -1,27 +1,20 @@
+-- `opening::freeze` meets its contract, from the contracts of `state_refusal` and `frozen_state`. Assumes nothing.
 use Rattle.opening.specs.Freeze.{freezeBy}
 use Rattle.opening.proofs.Answered.{answers-refused, answers-accepted}
 use borrow.Author.Needs.{needs}
 use Rattle.opening.proofs.freezing.freeze.Statement.{statement}
 use Rattle.opening.proofs.freezing.freeze.Tie as tie
-use Rattle.opening.proofs.freezing.freeze.Reads as reads
-use Rattle.opening.proofs.freezing.freeze.Lts as lts
-use Rattle.opening.proofs.freezing.frozen_state.Reads as frozen-state-reads
-use Rattle.opening.proofs.freezing.state_refusal.Reads as state-refusal-reads
 
--- src/freezing.rt:80:9
 state-refusal-requires : tie.Need-state-refusal-requires
 state-refusal-requires c κs = search needs
 
--- src/freezing.rt:82:9
 returns : tie.Need-returns
 unfolding freezeBy
 returns c = answers-refused _ _ _ _ (c .before .state-refusal .ensures) (c .if1 .taken)
 
--- src/freezing.rt:87:9
 frozen-state-requires : tie.Need-frozen-state-requires
 frozen-state-requires c κs = search needs
 
--- src/freezing.rt:77:1
 returns-2 : tie.Need-returns-2
 unfolding freezeBy
 returns-2 c = answers-accepted _ _ _ _ _ (c .before .before .state-refusal .ensures) (c .before .if1 .left) (c .frozen-state .ensures)

@@ -1,27 +1,20 @@
+-- `opening::thaw` meets its contract, from the contracts of `state_refusal` and `thawed_state`. Assumes nothing.
 use Rattle.opening.specs.Freeze.{thawBy}
 use Rattle.opening.proofs.Answered.{answers-refused, answers-accepted}
 use borrow.Author.Needs.{needs}
 use Rattle.opening.proofs.freezing.thaw.Statement.{statement}
 use Rattle.opening.proofs.freezing.thaw.Tie as tie
-use Rattle.opening.proofs.freezing.thaw.Reads as reads
-use Rattle.opening.proofs.freezing.thaw.Lts as lts
-use Rattle.opening.proofs.freezing.state_refusal.Reads as state-refusal-reads
-use Rattle.opening.proofs.freezing.thawed_state.Reads as thawed-state-reads
 
--- src/freezing.rt:98:9
 state-refusal-requires : tie.Need-state-refusal-requires
 state-refusal-requires c κs = search needs
 
--- src/freezing.rt:100:9
 returns : tie.Need-returns
 unfolding thawBy
 returns c = answers-refused _ _ _ _ (c .before .state-refusal .ensures) (c .if1 .taken)
 
--- src/freezing.rt:105:9
 thawed-state-requires : tie.Need-thawed-state-requires
 thawed-state-requires c κs = search needs
 
--- src/freezing.rt:95:1
 returns-2 : tie.Need-returns-2
 unfolding thawBy
 returns-2 c = answers-accepted _ _ _ _ _ (c .before .before .state-refusal .ensures) (c .before .if1 .left) (c .thawed-state .ensures)

@@ -1,16 +1,12 @@
+-- `opening::thawed_state` meets its contract, from the contract of `all_started`. Assumes nothing.
 use Rattle.opening.specs.Freeze.{thawedState}
 use borrow.Author.Needs.{needs}
 use Rattle.opening.proofs.freezing.thawed_state.Statement.{statement}
 use Rattle.opening.proofs.freezing.thawed_state.Tie as tie
-use Rattle.opening.proofs.freezing.thawed_state.Reads as reads
-use Rattle.opening.proofs.freezing.thawed_state.Lts as lts
-use Rattle.opening.proofs.freezing.all_started.Reads as all-started-reads
 
--- src/freezing.rt:66:9
 all-started-requires : tie.Need-all-started-requires
 all-started-requires c κs = search needs
 
--- src/freezing.rt:61:1
 returns : tie.Need-returns
 unfolding thawedState
 returns c = simp (c .all-started .ensures)

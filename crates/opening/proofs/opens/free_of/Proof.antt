@@ -1,33 +1,24 @@
+-- `opening::free_of` meets its contract, from the contracts of `free_count` and `lowest_number`. Assumes nothing.
 use Rattle.opening.specs.Open.{freeOf}
 use borrow.Author.Needs.{needs}
 use Rattle.opening.proofs.opens.free_of.Statement.{statement}
 use Rattle.opening.proofs.opens.free_of.Tie as tie
-use Rattle.opening.proofs.opens.free_of.Reads as reads
-use Rattle.opening.proofs.opens.free_of.Lts as lts
-use Rattle.opening.proofs.opens.lowest_number.Reads as lowest-number-reads
-use Rattle.pool.proofs.free_count.Reads as free-count-reads
 
--- src/opens.rt:60:9
 free-count-requires : tie.Need-free-count-requires
 free-count-requires c κs = search needs
 
--- src/opens.rt:61:9
 lowest-number-requires : tie.Need-lowest-number-requires
 lowest-number-requires c κs = search needs
 
--- src/opens.rt:62:41
 cast-lowest-number : tie.Need-cast-lowest-number
 cast-lowest-number c = search needs
 
--- src/opens.rt:62:40
 add-lowest-number : tie.Need-add-lowest-number
 add-lowest-number c = search needs
 
--- src/opens.rt:62:9
 lowest-number-requires-2 : tie.Need-lowest-number-requires-2
 lowest-number-requires-2 c κs = search needs
 
--- src/opens.rt:57:1
 returns : tie.Need-returns
 unfolding freeOf
 returns c = simp (c .lowest-number2 .ensures, c .before .lowest-number .ensures, c .before .before .free-count .ensures .0)

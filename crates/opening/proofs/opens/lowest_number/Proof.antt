@@ -1,34 +1,26 @@
+-- `opening::lowest_number` meets its contract, from the contract of `lowest_free`. Assumes nothing.
 use mathlib.Core.Path.{sym, ap, _∙_}
 use native.Mathlib.Omega.{arith}
 use Rattle.opening.proofs.Frees.{lowest-finds}
 use borrow.Author.Needs.{needs}
 use Rattle.opening.proofs.opens.lowest_number.Statement.{statement}
 use Rattle.opening.proofs.opens.lowest_number.Tie as tie
-use Rattle.opening.proofs.opens.lowest_number.Reads as reads
-use Rattle.opening.proofs.opens.lowest_number.Lts as lts
-use Rattle.pool.proofs.lowest_free.Reads as lowest-free-reads
 
--- src/opens.rt:49:9
 lowest-free-requires : tie.Need-lowest-free-requires
 lowest-free-requires c κs = search needs
 
--- src/opens.rt:51:19
 enum-known-x : tie.Need-enum-known-x
 enum-known-x c = search needs
 
--- src/opens.rt:51:25
 cast-result : tie.Need-cast-result
 cast-result c = omega (arith, lowest-finds _ _ _ _ (sym (c .before .before .before .lowest-free .ensures) ∙ c .before .x .given .1) .below)
 
--- src/opens.rt:52:27
 enum-told : tie.Need-enum-told
 enum-told c = search needs
 
--- src/opens.rt:46:1
 returns : tie.Need-returns
 returns c = rw (← c .before .before .before .lowest-free .ensures, c .before .x .given .1)
 
--- src/opens.rt:46:1
 returns-2 : tie.Need-returns-2
 returns-2 c = rw (← c .before .before .lowest-free .ensures, c .enum-told .given .1)
 

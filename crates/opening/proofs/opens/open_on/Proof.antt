@@ -1,27 +1,20 @@
+-- `opening::open_on` meets its contract, from the contracts of `open_refusal` and `opened_file`. Assumes nothing.
 use Rattle.opening.specs.Open.{openOn}
 use Rattle.opening.proofs.Answered.{changes-refused, changes-accepted}
 use borrow.Author.Needs.{needs}
 use Rattle.opening.proofs.opens.open_on.Statement.{statement}
 use Rattle.opening.proofs.opens.open_on.Tie as tie
-use Rattle.opening.proofs.opens.open_on.Reads as reads
-use Rattle.opening.proofs.opens.open_on.Lts as lts
-use Rattle.files.proofs.opened_file.Reads as opened-file-reads
-use Rattle.opening.proofs.opens.open_refusal.Reads as open-refusal-reads
 
--- src/opens.rt:105:9
 open-refusal-requires : tie.Need-open-refusal-requires
 open-refusal-requires c κs = search needs
 
--- src/opens.rt:107:9
 returns : tie.Need-returns
 unfolding openOn
 returns c = changes-refused _ _ _ _ (c .before .open-refusal .ensures) (c .if1 .taken)
 
--- src/opens.rt:112:9
 opened-file-requires : tie.Need-opened-file-requires
 opened-file-requires c κs = search needs
 
--- src/opens.rt:94:1
 returns-2 : tie.Need-returns-2
 unfolding openOn
 returns-2 c = changes-accepted _ _ _ _ _ (c .before .before .open-refusal .ensures) (c .before .if1 .left) (c .opened-file .ensures)

