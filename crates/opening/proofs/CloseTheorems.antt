@@ -7,27 +7,25 @@ use mathlib.Core.List.{List}
 use Prim.Native.Nat.{ℕ, _≤_, _<_}
 use native.Mathlib.Decide.{ℕ-discrete, decLt}
 use native.Mathlib.Omega.{arith}
-use lib.Dec.{leb, eqb}
+use lib.Dec.{leb}
 use lib.ListN.{length, getD}
 use lib.Seq.{getD-set-same}
-use borrow.Author.Tests.{eqb-true, not-true}
-use Rattle.area.specs.Lists.{anyOf}
 use Rattle.area.specs.Refusals.{Rows, lowest}
-use Rattle.area.proofs.Walks.{by-test, true-not-false, and-left, and-right, and-both, or-either, or-first, or-second, or-right}
+use Rattle.area.proofs.Walks.{by-test, true-not-false, or-right}
 use Rattle.area.proofs.Bools.{Somewhere, any-at}
 use Rattle.area.proofs.Exactly.{Exactly, NoneApplies, here, later, exactly}
 use Rattle.channel.specs.Units.{turnAt, isIdle, hasRequest}
 use Rattle.files.specs.declared.File.{File}
 use Rattle.files.specs.Opening.{closedFile}
-use Rattle.pool.specs.Free.{fileCount, heldBy, isHeld, isFree, freeCount}
-use Rattle.pool.specs.Soundness.{shareBuffer, apart}
+use Rattle.pool.specs.Free.{fileCount, heldBy, isHeld, isFree}
+use Rattle.pool.proofs.Shares.{apart-holds}
 use Rattle.state.specs.declared.State.{State}
 use Rattle.state.specs.Places.{fileAt, channelAt, withFile}
 use Rattle.state.specs.Requests.{requested, isNone}
 use Rattle.state.specs.Soundness.{sound}
 use Rattle.state.proofs.ChannelFacts.{none-idle}
 use Rattle.state.proofs.Facts.{SoundFacts, sound-facts, facts-sound}
-use Rattle.state.proofs.Kept.{close-kept, place-of}
+use Rattle.state.proofs.Kept.{close-kept as close-facts, place-of}
 use Rattle.opening.specs.Close.{closeRows, closeOff, closeOn, closeChange, closeBy}
 use Rattle.opening.specs.Open.{openBy}
 use Rattle.opening.proofs.Answered.{not-so, state-refused, state-accepted, file-accepted}
@@ -53,22 +51,6 @@ module _ (s : State) (file : ℕ) where
   pub close-frame : OnlyFile s file (closeBy s file .state)
   unfolding closeBy
   close-frame = store-frame (closeChange s file .refusal) s file (closeChange s file .file)
-
--- of two files that are apart, one holds what the other does not
-holds-apart : (f g : File) (b : ℕ) → apart f g ≡ true → heldBy b f ≡ true → heldBy b g ≡ false
-unfolding apart
-holds-apart f g b a h =
-    by-test (λ t. heldBy b g ≡ t → t ≡ false) (heldBy b g)
-    (λ t q. true-not-false (and-both (f .opened) _ (and-left (f .opened) _ h) (shared q)) (not-true (shareBuffer f g) (and-left (not (shareBuffer f g)) _ a)))
-    (λ t q. refl) refl
-  where
-    shared : heldBy b g ≡ true → (heldBy (f .low .number) g || (f .double && heldBy (f .high .number) g)) ≡ true
-    shared q =
-        or-either (eqb (f .low .number) b) _ (and-right (f .opened) _ h)
-        (λ e. or-first (heldBy (f .low .number) g) _ (ap (λ (n : ℕ). heldBy n g) (eqb-true (f .low .number) b e) ∙ q))
-        (λ e.
-        or-second (heldBy (f .low .number) g) _
-        (and-both (f .double) _ (and-left (f .double) _ e) (ap (λ (n : ℕ). heldBy n g) (eqb-true (f .high .number) b (and-right (f .double) _ e)) ∙ q)))
 
 module _ (s : State) (file : ℕ) (yes₀ : closeBy s file .refusal ≡ 0) where
   none : NoneApplies (rows s file)
@@ -98,9 +80,8 @@ module _ (s : State) (file : ℕ) (yes₀ : closeBy s file .refusal ≡ 0) where
   unfolding withFile
   close-file = ap (λ (t : State). fileAt t file) close-state ∙ getD-set-same (s .files) file closedFile closedFile (place-of s file was-open)
 
-  -- a sound state stays sound
-  pub close-keeps : sound (closeBy s file .state) ≡ true
-  close-keeps = ap sound close-state ∙ facts-sound (withFile s file closedFile) (close-kept s file (sound-facts s good) was-open quiet)
+  pub close-sound : sound (closeBy s file .state) ≡ true
+  close-sound = ap sound close-state ∙ facts-sound (withFile s file closedFile) (close-facts s file (sound-facts s good) was-open quiet)
 
   -- "Closing gives all back": a buffer that the file held is free afterwards
   pub close-frees : (b : ℕ) → heldBy b (fileAt s file) ≡ true → isFree (closeBy s file .state .files) b ≡ true
@@ -112,7 +93,7 @@ module _ (s : State) (file : ℕ) (yes₀ : closeBy s file .refusal ≡ 0) where
       nobody j (yes e) = ap (λ (k : ℕ). heldBy b (fileAt (closeBy s file .state) k)) e ∙ ap (heldBy b) close-file
       nobody j (no ne) =
           ap (heldBy b) (close-frame s file .files j ne)
-          ∙ holds-apart (fileAt s file) (fileAt s j) b (sound-facts s good .apart file j (λ e. ne (sym e))) h
+          ∙ apart-holds b (fileAt s file) (fileAt s j) (sound-facts s good .apart file j (λ e. ne (sym e))) h
 
       held : Somewhere (heldBy b) (closeBy s file .state .files) closedFile → not true ≡ true
       held p = true-not-false (p .passes) (nobody (p .place) (ℕ-discrete (p .place) file))
@@ -133,3 +114,11 @@ module _ (s : State) (file : ℕ) (yes₀ : closeBy s file .refusal ≡ 0) where
       compare (yes l) k = true-not-false (taken .free) (lower (lowOf t) l)
       compare (no l) (yes k) = true-not-false (close-frees b h) (taken .lower b (omega arith) k)
       compare (no l) (no k) = omega (arith, l, k)
+
+-- a sound state stays sound
+pub close-kept : (s : State) (file : ℕ) → sound s ≡ true → sound (closeBy s file .state) ≡ true
+close-kept s file h = go (ℕ-discrete (closeBy s file .refusal) 0)
+  where
+    go : Dec (closeBy s file .refusal ≡ 0) → sound (closeBy s file .state) ≡ true
+    go (yes e) = close-sound s file e
+    go (no ne) = ap sound (close-refused s file ne) ∙ h

@@ -5,6 +5,7 @@ use mathlib.Core.Logic.{_≢_}
 use mathlib.Core.Bool.{Bool, true, false, not, cond, _&&_, _||_}
 use mathlib.Core.List.{List}
 use Prim.Native.Nat.{ℕ, _+_, _≤_, _<_}
+use native.Mathlib.Decide.{ℕ-discrete}
 use native.Mathlib.Omega.{arith}
 use lib.Dec.{leb, ltb, eqb}
 use lib.ListN.{length, getD, set}
@@ -26,7 +27,7 @@ use Rattle.state.specs.Places.{channelCount, fileAt, channelAt, withFile}
 use Rattle.state.specs.Soundness.{sound}
 use Rattle.state.proofs.Everywhere.{by-place}
 use Rattle.state.proofs.Facts.{sound-facts, facts-sound}
-use Rattle.state.proofs.Kept.{open-kept}
+use Rattle.state.proofs.Kept.{open-kept as open-facts}
 use Rattle.opening.specs.Open.{isSet, wishOf, lowestNumber, freeOf, openRows, openOff, openOn, openChange, openBy}
 use Rattle.opening.proofs.Answered.{not-so, state-refused, state-accepted, file-accepted}
 use Rattle.opening.proofs.Frames.{OnlyFile, store-frame}
@@ -126,13 +127,12 @@ module _ (s : State) (file channel unit flags size rlen : ℕ) (yes₀ : openBy 
         by-place (s .files) closedFile (λ f. serves channel unit f ≡ false) j
         (λ l. unbound (s .files) channel unit j (open-accepted .unbound) (omega (arith, l, whole))) refl
 
-    -- a sound state stays sound
-    pub open-keeps : sound (openBy s file channel unit flags size rlen .state) ≡ true
+    pub open-sound : sound (openBy s file channel unit flags size rlen .state) ≡ true
     unfolding openedFile
-    open-keeps =
+    open-sound =
         ap sound open-state
         ∙ facts-sound (withFile s file made)
-        (open-kept s file made (sound-facts s (open-accepted .good)) place (open-accepted .shut) refl
+        (open-facts s file made (sound-facts s (open-accepted .good)) place (open-accepted .shut) refl
         (opened-sound (s .m) (s .w) (wishOf channel unit flags size rlen) (lowOf s) (highOf s) (open-accepted .sizes) (open-lowest .below) (λ d. (omega (arith, open-next d .from), open-next d .below)))
         refl (open-accepted .known)
         (record {
@@ -163,3 +163,12 @@ module _ (s : State) (file channel unit flags size rlen : ℕ) (yes₀ : openBy 
         second : (b : Bool) → b ≡ true → (b && eqb (cond b (highOf s) 0) (highOf s)) ≡ true
         second true e = eq-eqb (highOf s) (highOf s) refl
         second false e = true-not-false e refl
+
+-- a sound state stays sound
+pub open-kept : (s : State) (file channel unit flags size rlen : ℕ) → length (s .files) ≡ fileCount → sound s ≡ true
+    → sound (openBy s file channel unit flags size rlen .state) ≡ true
+open-kept s file channel unit flags size rlen whole h = go (ℕ-discrete (openBy s file channel unit flags size rlen .refusal) 0)
+  where
+    go : Dec (openBy s file channel unit flags size rlen .refusal ≡ 0) → sound (openBy s file channel unit flags size rlen .state) ≡ true
+    go (yes e) = open-sound s file channel unit flags size rlen e whole
+    go (no ne) = ap sound (open-refused s file channel unit flags size rlen ne) ∙ h
