@@ -1,12 +1,12 @@
 -- Put on a sound output file: what it comes to, that its words fit, and that the file after it is sound. Assumes nothing.
 use mathlib.Core.Path.{_≡_, refl, sym, ap, subst, _∙_}
-use mathlib.Core.Bool.{Bool, true, false, not, cond, _&&_, _||_}
-use Prim.Native.Nat.{ℕ, _+_, _-_, _≤_, _<_}
+use mathlib.Core.Bool.{Bool, true, false, cond}
+use Prim.Native.Nat.{ℕ, _+_, _-_, _≤_}
 use native.Mathlib.Omega.{arith}
-use borrow.Author.Tests.{leb-true, le-leb, ltb-true, ltb-false}
+use borrow.Author.Tests.{le-leb, ltb-false}
 use lib.Dec.{leb, ltb}
-use Rattle.area.proofs.Walks.{by-test, true-not-false, and-both}
-use Rattle.area.proofs.Marks.{cond-true, cond-false}
+use Rattle.area.proofs.Walks.{true-not-false, and-both}
+use Rattle.area.proofs.Marks.{cond-true}
 use Rattle.files.specs.declared.Slot.{Slot}
 use Rattle.files.specs.declared.Slot.the-variants.{Empty, Taken, Part, Full}
 use Rattle.files.specs.declared.Side.{Side}
@@ -16,9 +16,9 @@ use Rattle.files.specs.Slots.{isEmpty, isPart, partWords}
 use Rattle.files.specs.Sides.{slotAt, isSide, lower, emptySide, partSide, withSlot, filledAt}
 use Rattle.files.specs.Output.{putSide, wordsAfter, added, partLength, isComplete, sealed, afterPut}
 use Rattle.files.proofs.Which.{lower-cases, empty-there, part-there}
-use Rattle.pool.specs.Soundness.{oneIf, partsHeld}
+use Rattle.pool.specs.Soundness.{oneIf}
 use Rattle.pool.proofs.Facts.{slotFits, Sound}
-use Rattle.pool.proofs.Kept.{other, owns, slot-fits, part-sides, owned-side, Change, changed, beside, filled}
+use Rattle.pool.proofs.Kept.{other, owns, slot-fits, part-sides, changed, beside, filled}
 use Rattle.pool.proofs.Changes.{own-empty, own-part, part-numbers, one-record, within}
 
 -- the buffer k that a put adds to: it is the file's, has room for r words, and the one beside it is not part-filled
