@@ -3,7 +3,7 @@ use mathlib.Core.Path.{_≡_, refl, sym, ap, subst, _∙_}
 use mathlib.Core.Bool.{Bool, true, false, cond}
 use Prim.Native.Nat.{ℕ, _+_, _-_, _≤_}
 use native.Mathlib.Omega.{arith}
-use borrow.Author.Tests.{le-leb, ltb-false}
+use borrow.Author.Tests.{le-leb, le-ltb, ltb-false}
 use lib.Dec.{leb, ltb}
 use Rattle.area.proofs.Walks.{true-not-false, and-both}
 use Rattle.area.proofs.Marks.{cond-true}
@@ -155,3 +155,17 @@ put-sound m w f S o s = subst (Sound m w) (sym (put-is f s P)) (go (ltb (f .size
         part-slot : (b : Bool) (n : ℕ) → f .rlen ≤ n → n + f .rlen ≤ f .size → slotFits b (f .size) (f .rlen) (Part n) ≡ true
         part-slot true n h l = and-both _ true (and-both (leb (f .rlen) n) _ (le-leb (f .rlen) n h) (le-leb (n + f .rlen) (f .size) l)) refl
         part-slot false n h l = and-both _ true (and-both (leb (f .rlen) n) _ (le-leb (f .rlen) n h) (le-leb (n + f .rlen) (f .size) l)) refl
+
+-- a block is sealed by the put that leaves less than r of B, and not by the next: in a sound file no part-filled block has less than r left
+pub sealed-in-time : (m w : ℕ) (f : File) → Sound m w f → isComplete f ≡ false
+unfolding isComplete partLength
+sealed-in-time m w f S = le-ltb (f .size) (partWords (slotAt f (partSide f)) + f .rlen) (go (isSide (partSide f)) refl)
+  where
+    none : (k : Side) → isSide k ≡ false → partWords (slotAt f k) ≡ 0
+    none Low s = true-not-false refl s
+    none High s = true-not-false refl s
+    none Neither s = refl
+
+    go : (t : Bool) → isSide (partSide f) ≡ t → partWords (slotAt f (partSide f)) + f .rlen ≤ f .size
+    go true s = at-part m w f S s .fit
+    go false s = omega (arith, none (partSide f) s, within m w f S)
