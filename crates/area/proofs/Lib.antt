@@ -2,4 +2,6 @@ pub mod Walks
 pub mod Firsts
 pub mod Pastes
 pub mod Tall
+pub mod Lowest
+pub mod Scans
 pub mod Marks

@@ -1,13 +1,13 @@
 -- Laws of parts and of `paste`. Assumes nothing.
+use borrow.Author.Tests.{le-leb, lt-leb}
 use mathlib.Core.Path.{_≡_, refl, sym, ap, _∙_}
 use mathlib.Core.List.{List, [], _++_, append-assoc}
 use Prim.Native.Nat.{ℕ, _+_, _-_, _≤_, _<_}
 use native.Mathlib.Omega.{arith}
-use borrow.Author.Tests.{le-leb, lt-leb}
 use lib.ListN.{length, take, drop, length-append, length-take, length-drop, drop-of-length-le, take-append-drop}
-use lib.Seq as Seq
 use lib.Seq.{take-at, drop-at, take-all, take-length, take-nil, length-take-le}
-use Rattle.area.specs.Parts.{partOf, paste, pasteFits, pastedIn}
+use lib.Seq as Seq
+use Rattle.area.specs.Parts.{partOf, paste, pastedIn}
 
 module _ {A : Type 0} where
   -- ---- parts

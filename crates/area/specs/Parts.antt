@@ -1,7 +1,7 @@
 -- Words, and parts of an area of words (document 01, "Sizes"). Assumes nothing.
-use Prim.Native.Nat.{ℕ, _+_, _^_}
 use mathlib.Core.Bool.{Bool, cond}
 use mathlib.Core.List.{List, _++_}
+use Prim.Native.Nat.{ℕ, _+_, _^_}
 use lib.Dec.{leb, ltb}
 use lib.ListN.{length, take, drop}
 

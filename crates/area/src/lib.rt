@@ -2,7 +2,6 @@
 // Here too is the one home of the general laws on lists that the crates above cite.
 // It knows nothing of blocks, buffers or files.
 ghost use mathlib.Core.Path.{_≡_};
-ghost use lib.ListN.{length};
 ghost use Rattle.area.specs.Lists.{allOf};
 ghost use Rattle.area.specs.Parts.{isWord, partOf, pasteFits, pastedIn};
 

@@ -1,0 +1,77 @@
+-- A channel's units and what can be seen of them (document 01, "Sizes" and "Requests, reports, turns"). Assumes nothing.
+-- A definition here and in `Turns` goes by the list of the channel's units, however many they are.
+use Prim.Native.Nat.{ℕ, zero, suc, _+_, _/_, _%_, _^_}
+use mathlib.Core.Bool.{Bool, true, false, not, _&&_}
+use mathlib.Core.List.{List, [], _∷_, map}
+use lib.Dec.{eqb}
+use lib.ListN.{length, getD, set}
+use Rattle.channel.specs.declared.Turn.{Turn}
+use Rattle.channel.specs.declared.Turn.the-variants.{Idle, Waiting, Displaced, Working}
+use Rattle.channel.specs.declared.Unit.{Unit}
+use Rattle.channel.specs.declared.Channel.{Channel}
+use Rattle.channel.specs.declared.Work.{Work}
+use Rattle.channel.specs.declared.Work.the-variants.{At, Nothing}
+
+-- "Units 0 to 9 on each"
+abbrev pub unitCount : ℕ
+unitCount = 10
+
+abbrev pub size : Channel → ℕ
+size c = length (c .units)
+
+-- a unit without a request
+abbrev pub idleUnit : Bool → Unit
+idleUnit declared = record { declared = declared; turn = Idle }
+
+-- a number that is no unit's stands for a unit that is not declared
+abbrev pub unitAt : Channel → ℕ → Unit
+unitAt c u = getD (c .units) u (idleUnit false)
+
+abbrev pub declaredAt : Channel → ℕ → Bool
+declaredAt c u = unitAt c u .declared
+
+abbrev pub turnAt : Channel → ℕ → Turn
+turnAt c u = unitAt c u .turn
+
+-- the channel with another turn at unit u
+unfoldable pub withTurn : Channel → ℕ → Turn → Channel
+withTurn c u t = record { units = set (c .units) u (record { declared = declaredAt c u; turn = t }); mark = c .mark }
+
+abbrev pub withMark : Channel → ℕ → Channel
+withMark c m = record { units = c .units; mark = m }
+
+-- "A fresh start .. drops all requests .. and resets the scans"; the units of the list are declared
+unfoldable pub freshWith : List Bool → Channel
+freshWith declared = record { units = map idleUnit declared; mark = 0 }
+
+-- "bit u for unit u", of n units from u on
+unfoldable pub bitsFrom : ℕ → ℕ → ℕ → List Bool
+bitsFrom mask u zero = []
+bitsFrom mask u (suc n) = eqb (mask / 2 ^ u % 2) 1 ∷ bitsFrom mask (u + 1) n
+
+unfoldable pub freshOf : ℕ → Channel
+freshOf mask = freshWith (bitsFrom mask 0 unitCount)
+
+abbrev pub isIdle : Turn → Bool
+isIdle Idle = true
+isIdle (Waiting q) = false
+isIdle (Displaced q) = false
+isIdle (Working q) = false
+
+-- "A unit holds one unanswered request at most"
+unfoldable pub hasRequest : Channel → ℕ → Bool
+hasRequest c u = not (isIdle (turnAt c u))
+
+-- a request is accepted for a unit that is declared and has none
+unfoldable pub acceptsAt : Channel → ℕ → Bool
+acceptsAt c u = declaredAt c u && isIdle (turnAt c u)
+
+abbrev pub workOf : Turn → Work
+workOf Idle = Nothing
+workOf (Waiting q) = Nothing
+workOf (Displaced q) = Nothing
+workOf (Working q) = At (q .op)
+
+-- the operation that unit u is worked for, if it is
+unfoldable pub operationAt : Channel → ℕ → Work
+operationAt c u = workOf (turnAt c u)

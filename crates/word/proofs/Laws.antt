@@ -1,0 +1,6 @@
+pub mod Carry
+pub mod Sum
+pub mod CheckWord
+pub mod Block
+pub mod Agree
+pub mod Examples

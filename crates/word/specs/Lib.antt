@@ -1,0 +1,5 @@
+pub mod Sums
+pub mod CheckWords
+pub mod Blocks
+pub mod Totals
+pub mod Examples

@@ -1,0 +1,598 @@
+//! One channel with its ten units (document 01, "Requests, reports, turns" and "Outcomes and
+//! attempts").
+
+/// "Units 0 to 9 on each".
+pub const UNITS: usize = 10;
+
+/// What a request asks of its unit.
+#[derive(Clone, Copy, Debug, PartialEq, Eq)]
+pub enum Operation {
+    Read,
+    Write,
+    Mark,
+}
+
+/// "Numbers: 0 good, 1 redundancy, 2 incomplete word, 3 file mark, 4 end of medium."
+#[derive(Clone, Copy, Debug, PartialEq, Eq)]
+pub enum Outcome {
+    Good,
+    Redundancy,
+    IncompleteWord,
+    FileMark,
+    EndOfMedium,
+}
+
+/// "results are 00 repeated, 01 good, 02 good in opposite mode, 03 mark, 04 end of medium,
+/// 05 permanent redundancy, 06 permanent incomplete word".
+#[derive(Clone, Copy, Debug, PartialEq, Eq)]
+pub enum Booked {
+    Repeated,
+    Good,
+    GoodInOppositeMode,
+    Mark,
+    EndOfMedium,
+    PermanentRedundancy,
+    PermanentIncompleteWord,
+}
+
+/// Where an unanswered request stands in the order of turns.
+#[derive(Clone, Copy, Debug, PartialEq, Eq)]
+pub enum Turn {
+    /// Accepted and never started.
+    Waiting,
+    /// Started, incomplete, and waiting again because of a priority request or a freeze.
+    Displaced,
+    /// The channel works for it.
+    Working,
+}
+
+/// An unanswered request of a unit.
+#[derive(Clone, Debug, PartialEq, Eq)]
+pub struct Request {
+    pub operation: Operation,
+    pub priority: bool,
+    pub turn: Turn,
+    /// The number of the attempt that is at work or due.
+    pub attempt: u64,
+    pub incomplete_words: u64,
+}
+
+/// A channel: "A unit holds one unanswered request at most; requests are not stacked."
+#[derive(Clone, Debug, PartialEq, Eq)]
+pub struct Channel {
+    pub declared: [bool; UNITS],
+    pub requests: [Option<Request>; UNITS],
+    /// The unit at which the next scan for ordinary requests begins.
+    pub scan_begin: usize,
+    pub frozen: bool,
+}
+
+impl Operation {
+    /// "operation(0 read, 1 write, 2 mark)".
+    pub fn of(number: u64) -> Option<Operation> {
+        match number {
+            0 => Some(Operation::Read),
+            1 => Some(Operation::Write),
+            2 => Some(Operation::Mark),
+            _ => None,
+        }
+    }
+
+    pub fn number(self) -> u64 {
+        self as u64
+    }
+
+    /// The column "Allowed" of the table.
+    pub fn allows(self, outcome: Outcome) -> bool {
+        use Outcome::*;
+        match self {
+            Operation::Read => matches!(outcome, Good | Redundancy | IncompleteWord | FileMark),
+            Operation::Write => matches!(outcome, Good | Redundancy | IncompleteWord | EndOfMedium),
+            Operation::Mark => matches!(outcome, Good | Redundancy | EndOfMedium),
+        }
+    }
+
+    /// The attempt at which a redundancy is permanent, from the column "Permanent after".
+    pub fn last_attempt(self) -> u64 {
+        match self {
+            Operation::Read => 101,
+            Operation::Write | Operation::Mark => 27,
+        }
+    }
+}
+
+impl Outcome {
+    pub fn of(number: u64) -> Option<Outcome> {
+        match number {
+            0 => Some(Outcome::Good),
+            1 => Some(Outcome::Redundancy),
+            2 => Some(Outcome::IncompleteWord),
+            3 => Some(Outcome::FileMark),
+            4 => Some(Outcome::EndOfMedium),
+            _ => None,
+        }
+    }
+}
+
+impl Booked {
+    pub fn number(self) -> u64 {
+        self as u64
+    }
+}
+
+impl Request {
+    /// Each request counts from attempt 1 with no incomplete words.
+    pub fn new(operation: Operation, priority: bool) -> Request {
+        Request { operation, priority, turn: Turn::Waiting, attempt: 1, incomplete_words: 0 }
+    }
+
+    /// What a report of an allowed outcome means for this request as it stands.
+    pub fn result_of(&self, outcome: Outcome) -> Booked {
+        match outcome {
+            Outcome::Good if self.in_opposite_mode() => Booked::GoodInOppositeMode,
+            Outcome::Good => Booked::Good,
+            Outcome::FileMark => Booked::Mark,
+            Outcome::EndOfMedium => Booked::EndOfMedium,
+            Outcome::Redundancy if self.redundancy_is_permanent() => Booked::PermanentRedundancy,
+            Outcome::IncompleteWord if self.incomplete_word_is_permanent() => Booked::PermanentIncompleteWord,
+            // "Other failures repeat the operation."
+            Outcome::Redundancy | Outcome::IncompleteWord => Booked::Repeated,
+        }
+    }
+
+    /// "Read attempt 4 is in the opposite mode; if it is good the answer says so."
+    fn in_opposite_mode(&self) -> bool {
+        self.operation == Operation::Read && self.attempt == 4
+    }
+
+    /// "a redundancy ... at attempt 101" for a read, "redundancy at attempt 27" for the others.
+    fn redundancy_is_permanent(&self) -> bool {
+        self.attempt == self.operation.last_attempt()
+    }
+
+    /// For a read "a redundancy or incomplete word at attempt 101, or the second incomplete word";
+    /// for a write "the first incomplete word".
+    fn incomplete_word_is_permanent(&self) -> bool {
+        let first_is_allowed = self.operation == Operation::Read;
+        !first_is_allowed || self.incomplete_words == 1 || self.attempt == self.operation.last_attempt()
+    }
+}
+
+impl Channel {
+    /// A channel as a fresh start leaves it: it "drops all requests, thaws and resets the scans".
+    pub fn fresh(declared: [bool; UNITS]) -> Channel {
+        Channel { declared, requests: Default::default(), scan_begin: 0, frozen: false }
+    }
+
+    /// The unanswered request of a unit; `unit` may be any number.
+    pub fn request(&self, unit: u64) -> Option<&Request> {
+        self.requests.get(usize::try_from(unit).ok()?)?.as_ref()
+    }
+
+    /// The request of a unit for which the channel works; `unit` may be any number.
+    pub fn working_request(&self, unit: u64) -> Option<&Request> {
+        self.request(unit).filter(|request| request.turn == Turn::Working)
+    }
+
+    /// The unit that the channel works for.
+    pub fn working_unit(&self) -> Option<usize> {
+        (0..UNITS).find(|&unit| self.working_request(unit as u64).is_some())
+    }
+
+    /// Takes a request of a declared unit that has none, and starts it if the channel is idle.
+    pub fn ask(&mut self, unit: usize, operation: Operation, priority: bool) {
+        self.requests[unit] = Some(Request::new(operation, priority));
+        self.start_if_idle();
+    }
+
+    /// Books a report: "Each activity ends with one report of channel, unit and outcome."
+    /// 11: "the channel is not working for that unit"; 12: "outcome not allowed for the operation".
+    pub fn report(&mut self, unit: u64, outcome: u64) -> Result<Booked, u64> {
+        let request = self.working_request(unit).ok_or(11_u64)?;
+        let outcome =
+            Outcome::of(outcome).filter(|&outcome| request.operation.allows(outcome)).ok_or(12_u64)?;
+        let booked = request.result_of(outcome);
+        let unit = unit as usize;
+        if booked == Booked::Repeated {
+            self.repeat(unit, outcome);
+            self.start(Some(unit));
+        } else {
+            self.end(unit);
+            self.start(None);
+        }
+        Ok(booked)
+    }
+
+    /// "Freeze stops starts".
+    pub fn freeze(&mut self) {
+        self.frozen = true;
+    }
+
+    /// "Thaw lets starts happen."
+    pub fn thaw(&mut self) {
+        self.frozen = false;
+        self.start_if_idle();
+    }
+
+    /// "After every accepted call, a channel that is idle and not frozen starts an activity, by the
+    /// order below, if any request waits."
+    pub fn start_if_idle(&mut self) {
+        if self.working_unit().is_none() {
+            self.start(None);
+        }
+    }
+
+    /// A failure that is not permanent: the request is incomplete, with one attempt more.
+    fn repeat(&mut self, unit: usize, outcome: Outcome) {
+        if let Some(request) = &mut self.requests[unit] {
+            request.attempt += 1;
+            request.incomplete_words += u64::from(outcome == Outcome::IncompleteWord);
+            request.turn = Turn::Displaced;
+        }
+    }
+
+    /// The request is answered: "The scan for ordinary ones begins one unit above that of the last
+    /// ordinary operation to end on the channel, wraps after 9".
+    fn end(&mut self, unit: usize) {
+        let ended = self.requests[unit].take();
+        if ended.is_some_and(|request| !request.priority) {
+            self.scan_begin = (unit + 1) % UNITS;
+        }
+    }
+
+    /// Starts the next activity of a channel that is idle; `incomplete` is the unit whose
+    /// operation has just failed and is to be repeated. In a freeze it "waits like a displaced one".
+    fn start(&mut self, incomplete: Option<usize>) {
+        if self.frozen {
+            return;
+        }
+        let Some(unit) = self.next_unit(incomplete) else {
+            return;
+        };
+        if let Some(request) = &mut self.requests[unit] {
+            request.turn = Turn::Working;
+        }
+    }
+
+    /// "a waiting priority request starts, displacing an incomplete ordinary one; else the
+    /// incomplete operation continues; else a scan starts a waiting or displaced one".
+    fn next_unit(&self, incomplete: Option<usize>) -> Option<usize> {
+        // "League: a priority operation is not displaced": an incomplete one goes first.
+        let incomplete_priority = incomplete.filter(|&unit| self.has_priority_request(unit));
+        incomplete_priority.or_else(|| self.lowest_priority_unit()).or(incomplete).or_else(|| self.scan())
+    }
+
+    /// "Among priority requests the lowest unit goes first."
+    fn lowest_priority_unit(&self) -> Option<usize> {
+        (0..UNITS).find(|&unit| self.has_priority_request(unit))
+    }
+
+    /// The scan "wraps after 9, and comes to that unit last": ten units from its beginning.
+    fn scan(&self) -> Option<usize> {
+        (0..UNITS).map(|step| (self.scan_begin + step) % UNITS).find(|&unit| self.requests[unit].is_some())
+    }
+
+    fn has_priority_request(&self, unit: usize) -> bool {
+        self.requests[unit].as_ref().is_some_and(|request| request.priority)
+    }
+}
+
+#[cfg(test)]
+mod tests {
+    use super::*;
+    use Operation::{Mark, Read, Write};
+
+    const GOOD: u64 = 0;
+    const REDUNDANCY: u64 = 1;
+    const INCOMPLETE: u64 = 2;
+    const FILE_MARK: u64 = 3;
+    const END_OF_MEDIUM: u64 = 4;
+
+    /// A fresh channel with all units.
+    fn fresh() -> Channel {
+        Channel::fresh([true; UNITS])
+    }
+
+    /// A fresh channel that works for unit 0, with `failures` redundancies behind it.
+    fn after_redundancies(operation: Operation, failures: u64) -> Channel {
+        let mut channel = fresh();
+        channel.ask(0, operation, false);
+        for _ in 0..failures {
+            assert_eq!(channel.report(0, REDUNDANCY), Ok(Booked::Repeated));
+        }
+        channel
+    }
+
+    fn working(channel: &Channel) -> u64 {
+        channel.working_unit().expect("a working unit") as u64
+    }
+
+    /// Ends the working operation well, and gives its unit.
+    fn end_next(channel: &mut Channel) -> u64 {
+        let unit = working(channel);
+        assert!(matches!(channel.report(unit, GOOD), Ok(Booked::Good | Booked::GoodInOppositeMode)));
+        unit
+    }
+
+    fn turn(channel: &Channel, unit: u64) -> Turn {
+        channel.request(unit).expect("a request").turn
+    }
+
+    fn counts(channel: &Channel, unit: u64) -> (u64, u64) {
+        let request = channel.request(unit).expect("a request");
+        (request.attempt, request.incomplete_words)
+    }
+
+    #[test]
+    fn p7_100_read_redundancies_repeat_and_the_101st_is_permanent() {
+        let mut channel = after_redundancies(Read, 100);
+        assert_eq!(channel.report(0, REDUNDANCY), Ok(Booked::PermanentRedundancy));
+        assert_eq!(channel.request(0), None);
+    }
+
+    #[test]
+    fn p8_26_write_redundancies_repeat_and_the_27th_is_permanent() {
+        for operation in [Write, Mark] {
+            let mut channel = after_redundancies(operation, 26);
+            assert_eq!(channel.report(0, REDUNDANCY), Ok(Booked::PermanentRedundancy));
+        }
+    }
+
+    #[test]
+    fn p9_ordinary_2_0_1_asked_in_that_order_run_in_that_order() {
+        let mut channel = fresh();
+        for unit in [2, 0, 1] {
+            channel.ask(unit, Read, false);
+        }
+        let order = [end_next(&mut channel), end_next(&mut channel), end_next(&mut channel)];
+        assert_eq!(order, [2, 0, 1]);
+        assert_eq!(channel.working_unit(), None);
+    }
+
+    #[test]
+    fn p10_a_priority_request_displaces_and_the_displaced_one_makes_attempt_2() {
+        let mut channel = fresh();
+        channel.ask(1, Read, false);
+        channel.ask(0, Read, true);
+        assert_eq!(channel.working_unit(), Some(1));
+        assert_eq!(channel.report(1, REDUNDANCY), Ok(Booked::Repeated));
+        assert_eq!(channel.working_unit(), Some(0));
+        assert_eq!(turn(&channel, 1), Turn::Displaced);
+        assert_eq!(channel.report(0, GOOD), Ok(Booked::Good));
+        assert_eq!(channel.working_unit(), Some(1));
+        assert_eq!(counts(&channel, 1), (2, 0));
+    }
+
+    #[test]
+    fn p12_a_report_repeated_after_its_answer_is_11() {
+        let mut channel = after_redundancies(Read, 0);
+        assert_eq!(channel.report(0, GOOD), Ok(Booked::Good));
+        assert_eq!(channel.report(0, GOOD), Err(11));
+    }
+
+    /// The whole table "Allowed"; 12 changes nothing.
+    #[test]
+    fn outcomes_allowed_for_each_operation() {
+        for (operation, allowed) in
+            [(Read, [0, 1, 2, 3].as_slice()), (Write, &[0, 1, 2, 4]), (Mark, &[0, 1, 4])]
+        {
+            for outcome in [0, 1, 2, 3, 4, 5, 255, u64::MAX] {
+                let mut channel = after_redundancies(operation, 0);
+                let before = channel.clone();
+                let refused = channel.report(0, outcome) == Err(12);
+                assert_eq!(refused, !allowed.contains(&outcome), "{operation:?} {outcome}");
+                assert_eq!(refused, channel == before);
+            }
+        }
+    }
+
+    #[test]
+    fn reports_of_any_other_unit_are_11() {
+        let mut channel = after_redundancies(Read, 0);
+        channel.ask(5, Write, false);
+        let before = channel.clone();
+        for unit in [1, 5, 9, 10, 11, 255, u64::MAX] {
+            assert_eq!(channel.report(unit, 77), Err(11));
+        }
+        assert_eq!(channel, before);
+    }
+
+    #[test]
+    fn e1_every_failure_uses_an_attempt_and_the_second_incomplete_word_is_permanent() {
+        let mut channel = after_redundancies(Read, 1);
+        assert_eq!(channel.report(0, INCOMPLETE), Ok(Booked::Repeated));
+        assert_eq!(channel.report(0, REDUNDANCY), Ok(Booked::Repeated));
+        assert_eq!(counts(&channel, 0), (4, 1));
+        assert_eq!(channel.report(0, INCOMPLETE), Ok(Booked::PermanentIncompleteWord));
+    }
+
+    #[test]
+    fn e1_the_result_at_attempt_101_names_the_last_outcome() {
+        let mut channel = after_redundancies(Read, 100);
+        assert_eq!(channel.report(0, INCOMPLETE), Ok(Booked::PermanentIncompleteWord));
+        let mut channel = after_redundancies(Read, 99);
+        assert_eq!(channel.report(0, INCOMPLETE), Ok(Booked::Repeated));
+        assert_eq!(channel.report(0, REDUNDANCY), Ok(Booked::PermanentRedundancy));
+    }
+
+    #[test]
+    fn the_first_incomplete_word_of_a_write_is_permanent() {
+        let mut channel = after_redundancies(Write, 0);
+        assert_eq!(channel.report(0, INCOMPLETE), Ok(Booked::PermanentIncompleteWord));
+    }
+
+    #[test]
+    fn e2_only_a_good_read_at_attempt_4_is_in_opposite_mode() {
+        for attempt in [1, 2, 3, 4, 5, 6] {
+            let mut channel = after_redundancies(Read, attempt - 1);
+            let expected = if attempt == 4 { Booked::GoodInOppositeMode } else { Booked::Good };
+            assert_eq!(channel.report(0, GOOD), Ok(expected));
+        }
+        assert_eq!(after_redundancies(Read, 3).report(0, FILE_MARK), Ok(Booked::Mark));
+        assert_eq!(after_redundancies(Write, 3).report(0, GOOD), Ok(Booked::Good));
+        assert_eq!(after_redundancies(Mark, 3).report(0, GOOD), Ok(Booked::Good));
+        let mut channel = after_redundancies(Read, 2);
+        assert_eq!(channel.report(0, INCOMPLETE), Ok(Booked::Repeated));
+        assert_eq!(channel.report(0, GOOD), Ok(Booked::GoodInOppositeMode));
+    }
+
+    #[test]
+    fn e6_the_next_request_counts_from_attempt_1() {
+        let mut channel = after_redundancies(Read, 9);
+        channel.report(0, INCOMPLETE).expect("booked");
+        assert_eq!(end_next(&mut channel), 0);
+        channel.ask(0, Read, false);
+        assert_eq!(counts(&channel, 0), (1, 0));
+    }
+
+    #[test]
+    fn end_of_medium_ends_writes_and_marks() {
+        assert_eq!(after_redundancies(Write, 0).report(0, END_OF_MEDIUM), Ok(Booked::EndOfMedium));
+        assert_eq!(after_redundancies(Mark, 0).report(0, END_OF_MEDIUM), Ok(Booked::EndOfMedium));
+    }
+
+    #[test]
+    fn d1_the_scan_begins_above_the_last_ordinary_end_wraps_and_comes_to_it_last() {
+        let mut channel = fresh();
+        for unit in [5, 3, 7, 9, 5] {
+            if channel.request(unit as u64).is_none() {
+                channel.ask(unit, Write, false);
+            }
+        }
+        assert_eq!(end_next(&mut channel), 5);
+        channel.ask(5, Write, false);
+        let order: Vec<u64> = (0..4).map(|_| end_next(&mut channel)).collect();
+        assert_eq!(order, [7, 9, 3, 5]);
+        assert_eq!(channel.scan_begin, 6);
+    }
+
+    #[test]
+    fn d1_every_answer_of_an_ordinary_request_moves_the_scan_and_a_priority_one_does_not() {
+        let mut channel = fresh();
+        channel.ask(9, Write, false);
+        assert_eq!(channel.report(9, INCOMPLETE), Ok(Booked::PermanentIncompleteWord));
+        assert_eq!(channel.scan_begin, 0);
+        channel.ask(4, Read, false);
+        channel.freeze();
+        assert_eq!(channel.report(4, FILE_MARK), Ok(Booked::Mark));
+        assert_eq!(channel.scan_begin, 5);
+        channel.thaw();
+        channel.ask(8, Read, true);
+        assert_eq!(channel.report(8, REDUNDANCY), Ok(Booked::Repeated));
+        assert_eq!(channel.report(8, GOOD), Ok(Booked::Good));
+        assert_eq!(channel.scan_begin, 5);
+    }
+
+    #[test]
+    fn d1_a_displaced_operation_has_not_ended() {
+        let mut channel = fresh();
+        channel.ask(6, Read, false);
+        channel.ask(2, Read, false);
+        channel.ask(9, Read, true);
+        channel.report(6, REDUNDANCY).expect("booked");
+        assert_eq!(channel.scan_begin, 0);
+        assert_eq!(end_next(&mut channel), 9);
+        assert_eq!(end_next(&mut channel), 2);
+        assert_eq!(end_next(&mut channel), 6);
+    }
+
+    #[test]
+    fn d3_a_running_priority_operation_goes_on_after_a_failure() {
+        let mut channel = fresh();
+        channel.ask(8, Read, true);
+        channel.ask(1, Read, true);
+        channel.ask(0, Read, false);
+        channel.report(8, REDUNDANCY).expect("booked");
+        assert_eq!(channel.working_unit(), Some(8));
+        let order: Vec<u64> = (0..3).map(|_| end_next(&mut channel)).collect();
+        assert_eq!(order, [8, 1, 0]);
+    }
+
+    #[test]
+    fn an_incomplete_ordinary_operation_goes_on_before_waiting_ordinary_ones() {
+        let mut channel = fresh();
+        channel.ask(8, Read, false);
+        channel.ask(1, Read, false);
+        channel.report(8, REDUNDANCY).expect("booked");
+        assert_eq!(channel.working_unit(), Some(8));
+    }
+
+    #[test]
+    fn priority_requests_go_by_lowest_unit_and_never_break_into_an_activity() {
+        let mut channel = fresh();
+        channel.ask(3, Read, false);
+        for unit in [7, 2, 5] {
+            channel.ask(unit, Mark, true);
+            assert_eq!(channel.working_unit(), Some(3));
+        }
+        let order: Vec<u64> = (0..4).map(|_| end_next(&mut channel)).collect();
+        assert_eq!(order, [3, 2, 5, 7]);
+    }
+
+    #[test]
+    fn d4_after_a_freeze_an_incomplete_operation_has_no_claim() {
+        let mut channel = fresh();
+        channel.ask(6, Read, true);
+        channel.freeze();
+        channel.report(6, REDUNDANCY).expect("booked");
+        assert_eq!(channel.working_unit(), None);
+        channel.ask(4, Read, true);
+        channel.ask(0, Read, false);
+        channel.thaw();
+        assert_eq!((channel.working_unit(), counts(&channel, 6)), (Some(4), (2, 0)));
+        let order: Vec<u64> = (0..3).map(|_| end_next(&mut channel)).collect();
+        assert_eq!(order, [4, 6, 0]);
+
+        let mut channel = fresh();
+        channel.ask(6, Read, false);
+        channel.freeze();
+        channel.report(6, REDUNDANCY).expect("booked");
+        channel.ask(4, Read, false);
+        channel.thaw();
+        assert_eq!(channel.working_unit(), Some(4));
+    }
+
+    #[test]
+    fn d5_freeze_and_thaw_between_reports_have_no_effect_on_the_activity() {
+        let mut channel = after_redundancies(Read, 2);
+        channel.ask(9, Read, true);
+        let before = channel.clone();
+        channel.freeze();
+        channel.freeze();
+        channel.thaw();
+        channel.thaw();
+        assert_eq!(channel, before);
+        assert_eq!(working(&channel), 0);
+    }
+
+    #[test]
+    fn d7_a_displaced_operation_keeps_its_counts() {
+        let mut channel = after_redundancies(Read, 2);
+        channel.report(0, INCOMPLETE).expect("booked");
+        channel.ask(1, Read, true);
+        channel.report(0, REDUNDANCY).expect("booked");
+        assert_eq!((turn(&channel, 0), counts(&channel, 0)), (Turn::Displaced, (5, 1)));
+        end_next(&mut channel);
+        assert_eq!((turn(&channel, 0), counts(&channel, 0)), (Turn::Working, (5, 1)));
+        channel.freeze();
+        channel.report(0, REDUNDANCY).expect("booked");
+        assert_eq!((turn(&channel, 0), counts(&channel, 0)), (Turn::Displaced, (6, 1)));
+        channel.thaw();
+        assert_eq!((turn(&channel, 0), counts(&channel, 0)), (Turn::Working, (6, 1)));
+    }
+
+    #[test]
+    fn d8_asks_wait_while_frozen() {
+        let mut channel = fresh();
+        channel.ask(3, Read, false);
+        channel.freeze();
+        channel.ask(2, Read, true);
+        assert_eq!(channel.working_unit(), Some(3));
+        assert_eq!(channel.report(3, GOOD), Ok(Booked::Good));
+        assert_eq!(channel.working_unit(), None);
+        channel.ask(1, Read, true);
+        assert_eq!((channel.working_unit(), turn(&channel, 1)), (None, Turn::Waiting));
+        channel.thaw();
+        assert_eq!(channel.working_unit(), Some(1));
+    }
+}

@@ -1,0 +1,25 @@
+//! Plorrettix, second program: document 01 read as plainly as possible and written a second time,
+//! so that another program can be compared with it.
+
+pub mod bench;
+pub mod channel;
+pub mod channel_events;
+pub mod channel_player;
+pub mod compare;
+pub mod faults;
+pub mod file;
+pub mod frame;
+pub mod generate;
+pub mod pack;
+pub mod profile;
+pub mod program;
+pub mod random;
+pub mod reach;
+pub mod refusals;
+pub mod session;
+pub mod shorten;
+pub mod text;
+pub mod word;
+pub mod word_cases;
+pub mod words;
+pub mod wrap;

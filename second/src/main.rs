@@ -1,0 +1,206 @@
+//! The program `second`: one subcommand a task.
+
+use std::io::{self, BufReader, BufWriter, Read, Write};
+use std::process::ExitCode;
+
+use second::bench::{bench, BENCH_FRAMES};
+use second::channel_events::channel_events;
+use second::channel_player::answer_events;
+use second::compare::{compare, Options};
+use second::generate::Generator;
+use second::profile::Profile;
+use second::program::play_with;
+use second::session::play;
+use second::text::lines_of;
+use second::word_cases::word_cases;
+use second::words::answer_cases;
+
+const HELP: &str = "\
+second: document 01 of Plorrettix, written a second time
+
+  play                           plays a session, standard input to output
+  generate PROFILE SEED FRAMES   prints a random session; the profiles are
+      mixed, retries, turns (priority and freeze), blocks (check words),
+      malformed, refusals, wrap (passes block number 32,767 in 205,000 frames)
+  compare [OPTIONS] PROGRAM ..   plays random sessions against a program that
+      reads a session on standard input and writes the answers on standard
+      output; names the first frame that differs and shortens the session;
+      counts what was reached and fails if something never was
+      --profile NAME (all)  --seed N (1)  --count N (5 of each profile)
+      --frames N (4000 each)  --partial (what is never reached does not fail)
+      --budget N (5000000 frames are played at most to shorten a session)
+  bench PROGRAM ..               times the program and this one on the same
+      session of a million frames and prints the ratio
+  words                          answers cases of sums and check words
+  word-cases                     prints a fixed list of such cases
+  channel                        plays events on one channel
+  channel-events                 prints a fixed list of such events
+  help                           prints this
+
+The exit status is 0 if all is well, 1 if programs differ or something was
+never reached, 2 for a complaint.
+";
+
+fn main() -> ExitCode {
+    let arguments: Vec<String> = std::env::args().skip(1).collect();
+    run(&arguments).unwrap_or_else(|complaint| {
+        eprintln!("second: {complaint}");
+        ExitCode::from(2)
+    })
+}
+
+fn run(arguments: &[String]) -> Result<ExitCode, String> {
+    let words: Vec<&str> = arguments.iter().map(String::as_str).collect();
+    match words[..] {
+        ["play"] => play_standard()?,
+        ["generate", profile, seed, frames] => generate(profile, number(seed)?, number(frames)?)?,
+        ["compare", ..] => return run_compare(&arguments[1..]),
+        ["bench", _, ..] => print(&bench(&arguments[1..], &own_command()?, BENCH_FRAMES)?)?,
+        ["words"] => print(&answer_cases(&standard_input()?)?)?,
+        ["word-cases"] => print(&lines_of(&word_cases()))?,
+        ["channel"] => print(&answer_events(&standard_input()?)?)?,
+        ["channel-events"] => print(&lines_of(&channel_events()))?,
+        ["help"] => print(HELP)?,
+        _ => return Err("what shall be done? See `second help`".to_string()),
+    }
+    Ok(ExitCode::SUCCESS)
+}
+
+fn play_standard() -> Result<(), String> {
+    let mut reader = BufReader::new(io::stdin().lock());
+    let mut writer = BufWriter::new(io::stdout().lock());
+    play(&mut reader, &mut writer).map_err(|error| error.to_string())
+}
+
+fn generate(profile: &str, seed: u64, frames: u64) -> Result<(), String> {
+    let mut generator = Generator::new(profile_of(profile)?, seed);
+    let mut writer = BufWriter::new(io::stdout().lock());
+    for _ in 0..frames {
+        let mut line = generator.next_line();
+        line.push(b'\n');
+        writer.write_all(&line).map_err(|error| error.to_string())?;
+    }
+    writer.flush().map_err(|error| error.to_string())
+}
+
+fn run_compare(arguments: &[String]) -> Result<ExitCode, String> {
+    let (options, command) = compare_options(arguments)?;
+    let compared = compare(&options, &|session| play_with(command, session))?;
+    print(&compared.text)?;
+    Ok(if compared.agreed { ExitCode::SUCCESS } else { ExitCode::from(1) })
+}
+
+/// The options, and the command of the other program that follows them.
+fn compare_options(arguments: &[String]) -> Result<(Options, &[String]), String> {
+    let mut options = Options::default();
+    let mut rest = arguments;
+    loop {
+        let value = rest.get(1).map(String::as_str).unwrap_or_default();
+        let taken = match rest.first().map(String::as_str) {
+            Some("--partial") => {
+                options.partial = true;
+                1
+            }
+            Some("--profile") => {
+                options.profile = Some(profile_of(value)?);
+                2
+            }
+            Some("--seed") => {
+                options.seed = number(value)?;
+                2
+            }
+            Some("--frames") => {
+                options.frames = number(value)? as usize;
+                2
+            }
+            Some("--count") => {
+                options.count = number(value)?;
+                2
+            }
+            Some("--budget") => {
+                options.budget = number(value)?;
+                2
+            }
+            Some(option) if option.starts_with("--") => return Err(format!("no option `{option}`")),
+            Some(_) => return Ok((options, rest)),
+            None => return Err("which program? See `second help`".to_string()),
+        };
+        rest = &rest[taken..];
+    }
+}
+
+fn profile_of(name: &str) -> Result<Profile, String> {
+    Profile::of(name).ok_or(format!("no profile `{name}`"))
+}
+
+fn number(text: &str) -> Result<u64, String> {
+    text.parse().map_err(|_| format!("`{text}` is no number"))
+}
+
+/// The command that plays a session with this very program.
+fn own_command() -> Result<Vec<String>, String> {
+    let program = std::env::current_exe().map_err(|error| error.to_string())?;
+    let program = program.into_os_string().into_string().map_err(|_| "this program's name is no text")?;
+    Ok(vec![program, "play".to_string()])
+}
+
+/// All of standard input, as text.
+fn standard_input() -> Result<String, String> {
+    let mut input = String::new();
+    io::stdin().read_to_string(&mut input).map_err(|error| error.to_string())?;
+    Ok(input)
+}
+
+/// Prints to standard output.
+fn print(output: &str) -> Result<(), String> {
+    io::stdout().write_all(output.as_bytes()).map_err(|error| error.to_string())
+}
+
+#[cfg(test)]
+mod tests {
+    use super::*;
+
+    fn strings(words: &[&str]) -> Vec<String> {
+        words.iter().map(|word| word.to_string()).collect()
+    }
+
+    #[test]
+    fn help_fits_one_screen() {
+        assert!(HELP.lines().count() <= 26);
+        assert!(HELP.lines().all(|line| line.len() <= 80));
+    }
+
+    #[test]
+    fn options_come_before_the_program() {
+        let given = "--profile turns --seed 7 --frames 10 --count 3 --partial --budget 9 other --seed";
+        let arguments = strings(&given.split(' ').collect::<Vec<&str>>());
+        let expected = Options {
+            profile: Some(Profile::Turns),
+            seed: 7,
+            frames: 10,
+            count: 3,
+            partial: true,
+            budget: 9,
+        };
+        assert_eq!(compare_options(&arguments), Ok((expected, &strings(&["other", "--seed"])[..])));
+        let plain = strings(&["other"]);
+        assert_eq!(compare_options(&plain), Ok((Options::default(), &plain[..])));
+    }
+
+    #[test]
+    fn wrong_options_are_complaints() {
+        for given in ["", "--seed 1", "--seed x other", "--profile none other", "--speed other", "--count"] {
+            let arguments = strings(&given.split_terminator(' ').collect::<Vec<&str>>());
+            assert!(compare_options(&arguments).is_err(), "{given}");
+        }
+    }
+
+    #[test]
+    fn unknown_subcommands_are_complaints() {
+        for given in
+            [[].as_slice(), &["what"], &["words", "more"], &["bench"], &["generate", "none", "1", "1"]]
+        {
+            assert!(run(&strings(given)).is_err(), "{given:?}");
+        }
+    }
+}

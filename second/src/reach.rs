@@ -1,0 +1,208 @@
+//! Counts what sessions reach, so that a comparison can tell what it has never tried.
+
+use std::collections::BTreeMap;
+
+use crate::channel::Turn;
+use crate::file::Direction;
+use crate::frame::{answer_line, frame_of, refusals_of, Frame};
+use crate::pack::{Pack, FILES};
+use crate::session::new_pack;
+use crate::word::LAST_NUMBER;
+
+/// All that is counted, each with its count.
+#[derive(Clone, Debug, PartialEq, Eq)]
+pub struct Reach {
+    counts: Vec<(String, u64)>,
+    /// Pairs of refusals that applied to one frame, the lower first.
+    pairs: BTreeMap<(usize, usize), u64>,
+}
+
+impl Default for Reach {
+    fn default() -> Reach {
+        let mut names = Vec::new();
+        // There is no refusal 14.
+        names.extend((1..=13).chain([15]).map(|number| format!("refusal {number}")));
+        names.extend((0..=6).map(|number| format!("result {number}")));
+        names.extend((1..=3).map(|number| format!("check error {number}")));
+        names.extend((0..=4).map(|number| format!("get {number}")));
+        names.extend(OTHERS.map(str::to_string));
+        Reach { counts: names.into_iter().map(|name| (name, 0)).collect(), pairs: BTreeMap::new() }
+    }
+}
+
+const DISPLACEMENT: &str = "displacement";
+const FREEZE: &str = "freeze in the middle of an operation";
+const WRAP_INPUT: &str = "block number 32,767 passed on input";
+const WRAP_OUTPUT: &str = "block number 32,767 passed on output";
+const OTHERS: [&str; 4] = [DISPLACEMENT, FREEZE, WRAP_INPUT, WRAP_OUTPUT];
+
+impl Reach {
+    /// Plays the lines of a session, counts what they reach, and gives the answers.
+    pub fn play(&mut self, lines: &[Vec<u8>]) -> Vec<Vec<u8>> {
+        let mut pack = new_pack();
+        lines.iter().map(|line| self.play_line(&mut pack, line)).collect()
+    }
+
+    /// What was never reached.
+    pub fn missing(&self) -> Vec<&str> {
+        self.counts.iter().filter(|(_, count)| *count == 0).map(|(name, _)| name.as_str()).collect()
+    }
+
+    /// The counts, one a line, and the pairs of refusals.
+    pub fn lines(&self) -> String {
+        let counts: String =
+            self.counts.iter().map(|(name, count)| format!("{count:>9}  {name}\n")).collect();
+        let pairs: String = self.pairs.keys().map(|(low, high)| format!(" {low}+{high}")).collect();
+        format!("{counts}{:>9}  pairs of refusals at once:{pairs}\n", self.pairs.len())
+    }
+
+    /// Whether two refusals applied to one frame.
+    pub fn has_pair(&self, low: usize, high: usize) -> bool {
+        self.pairs.contains_key(&(low, high))
+    }
+
+    fn count(&mut self, name: &str) {
+        if let Some((_, count)) = self.counts.iter_mut().find(|(known, _)| known == name) {
+            *count += 1;
+        }
+    }
+
+    fn play_line(&mut self, pack: &mut Pack, line: &[u8]) -> Vec<u8> {
+        let frame = frame_of(line);
+        let last_numbers = files_at_the_last_number(pack);
+        if let Some(frame) = &frame {
+            self.see_refusals(pack, frame);
+        }
+        let answer = answer_line(pack, line);
+        let bytes = bytes_of(&answer);
+        match (bytes[0], frame) {
+            (0, Some(Frame::Report { channel, unit, .. })) => self.see_report(pack, channel, unit, &bytes),
+            (0, Some(Frame::Get { .. })) => self.count(&format!("get {}", bytes[1])),
+            (0, _) => {}
+            (refusal, _) => self.count(&format!("refusal {refusal}")),
+        }
+        for file in last_numbers {
+            self.see_wrap(pack, file);
+        }
+        answer
+    }
+
+    /// Counts each pair of the refusals that apply to a frame.
+    fn see_refusals(&mut self, pack: &Pack, frame: &Frame) {
+        let applying: Vec<usize> = refusals_of(pack, frame).applying().collect();
+        for (place, &low) in applying.iter().enumerate() {
+            for &high in &applying[place + 1..] {
+                *self.pairs.entry((low, high)).or_default() += 1;
+            }
+        }
+    }
+
+    /// An accepted report, with the pack as it is afterwards.
+    fn see_report(&mut self, pack: &Pack, channel: u64, unit: u64, answer: &[u8]) {
+        self.count(&format!("result {}", answer[1]));
+        self.count(&format!("check error {}", answer[2]));
+        let channel = &pack.channels[channel as usize];
+        let waits_again = channel.request(unit).is_some_and(|request| request.turn == Turn::Displaced);
+        if waits_again {
+            self.count(if channel.frozen { FREEZE } else { DISPLACEMENT });
+        }
+    }
+
+    /// A file whose next block number was the last one before the call.
+    fn see_wrap(&mut self, pack: &Pack, file: usize) {
+        if let Some(file) = pack.files[file].as_ref().filter(|file| file.number == 0) {
+            let output = file.direction == Direction::Output;
+            self.count(if output { WRAP_OUTPUT } else { WRAP_INPUT });
+        }
+    }
+}
+
+fn files_at_the_last_number(pack: &Pack) -> Vec<usize> {
+    let at_last = |file: &usize| pack.files[*file].as_ref().is_some_and(|file| file.number == LAST_NUMBER);
+    (0..FILES).filter(at_last).collect()
+}
+
+/// The bytes of an answer of this program.
+fn bytes_of(answer: &[u8]) -> Vec<u8> {
+    let digit = |digit: u8| (digit as char).to_digit(16).unwrap_or(0) as u8;
+    answer.chunks(2).map(|pair| digit(pair[0]) << 4 | digit(pair[1])).collect()
+}
+
+#[cfg(test)]
+mod tests {
+    use super::*;
+
+    fn count_of(reach: &Reach, name: &str) -> u64 {
+        reach.counts.iter().find(|(known, _)| known == name).expect("a known name").1
+    }
+
+    fn play(reach: &mut Reach, lines: &[&str]) -> Vec<String> {
+        let lines: Vec<Vec<u8>> = lines.iter().map(|line| line.as_bytes().to_vec()).collect();
+        reach.play(&lines).into_iter().map(|answer| String::from_utf8(answer).expect("digits")).collect()
+    }
+
+    #[test]
+    fn everything_is_missing_at_first() {
+        let reach = Reach::default();
+        assert_eq!(reach.missing().len(), reach.counts.len());
+        assert_eq!(reach.counts.len(), 14 + 7 + 3 + 5 + 4);
+        assert!(!reach.missing().contains(&"refusal 14"));
+        assert_eq!(reach.lines().lines().count(), reach.counts.len() + 1);
+    }
+
+    #[test]
+    fn refusals_results_and_gets_are_counted() {
+        let mut reach = Reach::default();
+        let session = [
+            "0001000400010000000000000000",
+            "010000000400020001",
+            "03000000",
+            "0500",
+            "04000000",
+            "04000001",
+        ];
+        let answers = play(&mut reach, &session);
+        assert_eq!(answers, ["00", "00", "0000", "0001", "0D", "00000000"]);
+        play(&mut reach, &["", "0500", "04000000"]);
+        for name in ["refusal 1", "refusal 5", "refusal 11", "refusal 13", "get 1", "result 0"] {
+            assert_eq!(count_of(&reach, name), 1, "{name}");
+        }
+        assert_eq!(count_of(&reach, "get 0"), 0);
+        assert_eq!(count_of(&reach, DISPLACEMENT), 0);
+    }
+
+    #[test]
+    fn pairs_of_refusals_are_counted() {
+        let mut reach = Reach::default();
+        play(&mut reach, &["0001000400010000000000000000", "010000010000000000", "0600FFFFFFFFFF"]);
+        assert!(reach.has_pair(3, 13) && reach.has_pair(2, 5));
+        assert_eq!(reach.pairs.len(), 2);
+        assert!(reach.lines().ends_with("        2  pairs of refusals at once: 2+5 3+13\n"));
+    }
+
+    #[test]
+    fn displacements_and_freezes_are_told_apart() {
+        let beginning =
+            ["0002000400030000000000000000", "010000000000020001", "010100010000020001", "03010000"];
+        let mut reach = Reach::default();
+        play(&mut reach, &[&beginning[..], &["03000001", "04000101"]].concat());
+        assert_eq!((count_of(&reach, DISPLACEMENT), count_of(&reach, FREEZE)), (1, 0));
+        let mut reach = Reach::default();
+        play(&mut reach, &[&beginning[..], &["04000101", "09", "04000101"]].concat());
+        assert_eq!((count_of(&reach, DISPLACEMENT), count_of(&reach, FREEZE)), (0, 1));
+    }
+
+    #[test]
+    fn a_wrap_is_counted_once_for_its_direction() {
+        let mut pack = new_pack();
+        let mut reach = Reach::default();
+        for line in ["0002000400010000000000000000", "010000000700020002"] {
+            reach.play_line(&mut pack, line.as_bytes());
+        }
+        pack.files[0].as_mut().expect("an open file").number = LAST_NUMBER;
+        for _ in 0..2 {
+            reach.play_line(&mut pack, b"060000000000010000000002");
+        }
+        assert_eq!((count_of(&reach, WRAP_INPUT), count_of(&reach, WRAP_OUTPUT)), (0, 1));
+    }
+}

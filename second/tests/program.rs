@@ -1,0 +1,107 @@
+//! The program itself, run as a user runs it.
+
+use std::process::{Command, Output};
+
+use second::program::play_with;
+
+fn program() -> String {
+    env!("CARGO_BIN_EXE_second").to_string()
+}
+
+fn command(arguments: &[&str]) -> Vec<String> {
+    let arguments = arguments.iter().map(|argument| argument.to_string());
+    std::iter::once(program()).chain(arguments).collect()
+}
+
+fn run(arguments: &[&str]) -> Output {
+    Command::new(program()).args(arguments).output().expect("the program starts")
+}
+
+fn text(output: &Output) -> String {
+    String::from_utf8(output.stdout.clone()).expect("text")
+}
+
+#[test]
+fn play_answers_the_whole_session() {
+    let session =
+        "0001000400010000000000000000\n010000000000020001\n03000000\n040000000000000005\n0500\n0500\n\
+                   040000000000000005\n";
+    let played = play_with(&command(&["play"]), session.as_bytes()).expect("answers");
+    assert_eq!(played.answers, b"00\n00\n0000\n000100FF\n00000000000005\n0001\n0B\n");
+    assert!(played.ended_well);
+}
+
+#[test]
+fn generated_sessions_have_their_count_of_lines() {
+    for profile in ["mixed", "retries", "turns", "blocks", "malformed", "refusals", "wrap"] {
+        let output = run(&["generate", profile, "3", "500"]);
+        assert!(output.status.success());
+        assert_eq!(output.stdout.iter().filter(|&&character| character == b'\n').count(), 500);
+        let played = play_with(&command(&["play"]), &output.stdout).expect("answers");
+        assert_eq!(played.answers.iter().filter(|&&character| character == b'\n').count(), 500);
+    }
+}
+
+#[test]
+fn compare_agrees_with_the_program_itself() {
+    let output = run(&["compare", &program(), "play"]);
+    assert!(output.status.success(), "{}", text(&output));
+    assert!(text(&output).contains(" sessions with "));
+}
+
+#[test]
+fn compare_fails_for_what_is_never_reached() {
+    let program = program();
+    let few = ["--profile", "blocks", "--frames", "20", "--count", "1", &program, "play"];
+    assert_eq!(run(&[&["compare"], &few[..]].concat()).status.code(), Some(1));
+    assert_eq!(run(&[&["compare", "--partial"], &few[..]].concat()).status.code(), Some(0));
+}
+
+/// A wrong copy: the right answers with every refusal 11 made a 12.
+#[cfg(unix)]
+#[test]
+fn compare_finds_a_wrong_copy() {
+    let wrong = "\"$0\" play | sed 's/^0B$/0C/'";
+    let output = run(&["compare", "--profile", "mixed", "--frames", "1000", "sh", "-c", wrong, &program()]);
+    assert_eq!(output.status.code(), Some(1));
+    let text = text(&output);
+    assert!(text.contains("shortened to 1 frames"), "{text}");
+    assert!(text.ends_with("  this program   0B\n  other program  0C\n"), "{text}");
+}
+
+#[test]
+fn complaints_end_with_2() {
+    for arguments in [
+        [].as_slice(),
+        &["what"],
+        &["generate", "mixed", "1"],
+        &["compare"],
+        &["compare", "./no such program"],
+        &["bench"],
+    ] {
+        let output = run(arguments);
+        assert_eq!(output.status.code(), Some(2), "{arguments:?}");
+        assert!(!output.stderr.is_empty());
+    }
+}
+
+#[test]
+fn help_names_every_subcommand() {
+    let help = text(&run(&["help"]));
+    for name in
+        ["play", "generate", "compare", "bench", "words", "word-cases", "channel", "channel-events", "help"]
+    {
+        assert!(help.lines().any(|line| line.trim_start().split(' ').next() == Some(name)), "{name}");
+    }
+}
+
+#[test]
+fn words_and_channel_answer_their_lists() {
+    for (list, answers) in [("word-cases", "words"), ("channel-events", "channel")] {
+        let cases = run(&[list]).stdout;
+        let played = play_with(&command(&[answers]), &cases).expect("answers");
+        assert!(played.ended_well);
+        let lines = |text: &[u8]| text.iter().filter(|&&character| character == b'\n').count();
+        assert_eq!(lines(&played.answers), lines(&cases));
+    }
+}

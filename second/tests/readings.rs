@@ -1,0 +1,950 @@
+//! Each reading of document 01 that a session can show, as a session. The names are those of the
+//! readings' rows; rows that only a caller of the library can show are tested beside the code.
+
+use second::frame::answer_line;
+use second::pack::Pack;
+use second::session::new_pack;
+
+const OUTPUT: u8 = 1;
+const DOUBLE: u8 = 2;
+const SEQUENCE: u8 = 4;
+const CHECK: u8 = 8;
+
+const READ: u8 = 0;
+const WRITE: u8 = 1;
+const MARK: u8 = 2;
+
+const GOOD: u8 = 0;
+const REDUNDANCY: u8 = 1;
+const INCOMPLETE: u8 = 2;
+const FILE_MARK: u8 = 3;
+const END_OF_MEDIUM: u8 = 4;
+
+const TOO_LARGE: u64 = 1 << 36;
+
+struct Session {
+    pack: Pack,
+}
+
+impl Session {
+    fn new() -> Session {
+        Session { pack: new_pack() }
+    }
+
+    /// A session after a fresh start with all units.
+    fn fresh(buffers: u8, width: u16) -> Session {
+        let mut session = Session::new();
+        session.gives(&fresh(buffers, width), "00");
+        session
+    }
+
+    /// The frame gets the answer; blanks in the answer are for reading only.
+    fn gives(&mut self, frame: &str, answer: &str) {
+        let given = answer_line(&mut self.pack, frame.as_bytes());
+        assert_eq!(
+            String::from_utf8_lossy(&given),
+            answer.replace(' ', ""),
+            "{}",
+            &frame[..frame.len().min(60)]
+        );
+    }
+
+    /// The frame gets the answer, and nothing is changed.
+    fn refuses(&mut self, frame: &str, answer: &str) {
+        let before = self.pack.clone();
+        self.gives(frame, answer);
+        assert!(self.pack == before, "changed by {}", &frame[..frame.len().min(60)]);
+    }
+
+    /// Reads a block of file 0, which is on channel 0, unit 0, with the given check error.
+    fn reads(&mut self, words: &[u64], error: u8) {
+        self.gives(&ask(0, READ, 0), "00 00");
+        self.gives(&report(0, 0, GOOD, words), &format!("00 01 {error:02X} FF"));
+    }
+}
+
+fn words(words: &[u64]) -> String {
+    words.iter().map(|word| format!("{word:010X}")).collect()
+}
+
+fn fresh(buffers: u8, width: u16) -> String {
+    format!("00{buffers:02X}{width:04X}{}", "03FF".repeat(5))
+}
+
+fn open(file: u8, channel: u8, unit: u8, flags: u8, block_size: u16, record_length: u16) -> String {
+    format!("01{file:02X}{channel:02X}{unit:02X}{flags:02X}{block_size:04X}{record_length:04X}")
+}
+
+fn close(file: u8) -> String {
+    format!("02{file:02X}")
+}
+
+fn ask(file: u8, operation: u8, priority: u8) -> String {
+    format!("03{file:02X}{operation:02X}{priority:02X}")
+}
+
+fn report(channel: u8, unit: u8, outcome: u8, block: &[u64]) -> String {
+    format!("04{channel:02X}{unit:02X}{outcome:02X}{}", words(block))
+}
+
+fn get(file: u8) -> String {
+    format!("05{file:02X}")
+}
+
+fn put(file: u8, record: &[u64]) -> String {
+    format!("06{file:02X}{}", words(record))
+}
+
+fn seal(file: u8) -> String {
+    format!("07{file:02X}")
+}
+
+fn skip(file: u8) -> String {
+    format!("08{file:02X}")
+}
+
+const FREEZE: &str = "09";
+const THAW: &str = "0A";
+
+/// A session with an input file of that number on channel 0 for each of the units, number = unit.
+fn inputs(units: &[u8]) -> Session {
+    let mut session = Session::fresh(32, 4);
+    for &unit in units {
+        session.gives(&open(unit, 0, unit, 0, 2, 1), "00");
+    }
+    session
+}
+
+/// A session with output file 0 on channel 0, unit 0.
+fn output(flags: u8, block_size: u16, record_length: u16) -> Session {
+    let mut session = Session::fresh(4, 8);
+    session.gives(&open(0, 0, 0, OUTPUT + flags, block_size, record_length), "00");
+    session
+}
+
+/// A session with input file 0 on channel 0, unit 0.
+fn input(flags: u8, block_size: u16, record_length: u16) -> Session {
+    let mut session = Session::fresh(4, 8);
+    session.gives(&open(0, 0, 0, flags, block_size, record_length), "00");
+    session
+}
+
+#[test]
+fn a1_an_argument_out_of_range_always_wins() {
+    let mut session = Session::fresh(4, 8);
+    session.refuses(&report(5, 0, GOOD, &[1; 1_024]), "01");
+    session.refuses(&get(16), "01");
+    session.refuses(&report(0, 10, GOOD, &[]), "01");
+    session.refuses(&ask(3, 3, 0), "01");
+    session.refuses(&put(16, &[TOO_LARGE]), "01");
+    session.refuses(&open(16, 0, 0, 0, 0, 0), "01");
+}
+
+#[test]
+fn a2_a_given_word_is_judged_by_itself() {
+    let mut session = input(0, 2, 1);
+    session.refuses(&put(3, &[TOO_LARGE]), "02");
+    session.refuses(&put(0, &[TOO_LARGE]), "02");
+    session.refuses(&report(0, 0, GOOD, &[TOO_LARGE]), "02");
+    session.gives(&ask(0, READ, 0), "00 00");
+    session.refuses(&report(0, 0, GOOD, &[1, 2, TOO_LARGE]), "02");
+    let mut session = output(0, 2, 1);
+    session.refuses(&put(0, &[1, TOO_LARGE]), "02");
+    session.gives(&put(0, &[1]), "00");
+    session.gives(&put(0, &[1]), "00");
+    session.refuses(&put(0, &[TOO_LARGE]), "02");
+    session.refuses(&put(0, &[(1 << 40) - 1]), "02");
+}
+
+#[test]
+fn a3_words_with_another_outcome_need_no_operation() {
+    let mut session = input(0, 2, 1);
+    session.refuses(&report(0, 0, REDUNDANCY, &[5]), "01");
+    session.refuses(&report(0, 0, GOOD, &[5]), "0B");
+    session.refuses(&report(0, 0, GOOD, &[TOO_LARGE]), "02");
+}
+
+#[test]
+fn a4_words_to_a_write_or_mark_are_1() {
+    let mut session = output(0, 2, 2);
+    session.gives(&ask(0, MARK, 0), "00 00");
+    session.refuses(&report(0, 0, GOOD, &[5]), "01");
+    session.gives(&report(0, 0, GOOD, &[]), "00 01 00 FF");
+    session.gives(&put(0, &[5, 6]), "00");
+    session.gives(&ask(0, WRITE, 0), "00 00");
+    session.refuses(&report(0, 0, GOOD, &[5]), "01");
+    session.refuses(&report(0, 0, GOOD, &[TOO_LARGE]), "01");
+    session.refuses(&report(0, 0, FILE_MARK, &[5]), "01");
+    session.refuses(&report(0, 0, FILE_MARK, &[]), "0C");
+    let mut session = input(0, 2, 1);
+    session.gives(&ask(0, READ, 0), "00 00");
+    session.refuses(&report(0, 0, END_OF_MEDIUM, &[5]), "01");
+    session.refuses(&report(0, 0, END_OF_MEDIUM, &[]), "0C");
+}
+
+#[test]
+fn a5_a_good_read_without_words_is_13() {
+    let mut session = input(0, 2, 1);
+    session.gives(&ask(0, READ, 0), "00 00");
+    session.refuses(&report(0, 0, GOOD, &[]), "0D");
+}
+
+#[test]
+fn a6_a_block_that_is_too_long_is_13() {
+    let mut session = input(SEQUENCE, 2, 1);
+    session.gives(&ask(0, READ, 0), "00 00");
+    for length in [1, 4, 9, 1_024] {
+        session.refuses(&report(0, 0, GOOD, &vec![7; length]), "0D");
+    }
+    session.refuses(&report(0, 0, GOOD, &[7; 1_025]), "01");
+    session.gives(&report(0, 0, GOOD, &[7, 7, 1]), "00 01 00 FF");
+}
+
+#[test]
+fn a7_on_an_idle_channel_the_size_is_not_judged() {
+    let mut session = input(0, 2, 1);
+    for length in [0, 1, 2, 3, 1_024] {
+        session.refuses(&report(0, 0, GOOD, &vec![7; length]), "0B");
+    }
+}
+
+#[test]
+fn a8_too_large_wins_over_11_and_13() {
+    let mut session = input(0, 2, 1);
+    session.refuses(&report(0, 0, GOOD, &[1, 2, 3, TOO_LARGE]), "02");
+    session.gives(&ask(0, READ, 0), "00 00");
+    session.refuses(&report(0, 0, GOOD, &[1, 2, 3, TOO_LARGE]), "02");
+}
+
+#[test]
+fn a9_sizes_of_open_are_13_whatever_they_are() {
+    let mut session = Session::fresh(4, 8);
+    for (flags, block_size, record_length) in [
+        (0, 0, 0),
+        (0, 2, 0),
+        (0, 2, 3),
+        (0, 9, 1),
+        (0, 1_025, 1),
+        (0, 65_535, 65_535),
+        (SEQUENCE, 8, 1),
+        (CHECK, 8, 8),
+    ] {
+        session.refuses(&open(0, 0, 0, flags, block_size, record_length), "0D");
+    }
+    session.gives(&open(0, 0, 0, SEQUENCE + CHECK, 7, 7), "00");
+    session.gives(&open(1, 0, 1, 0, 8, 8), "00");
+}
+
+#[test]
+fn a10_flags_above_15_are_1() {
+    let mut session = Session::fresh(4, 8);
+    for flags in [16, 32, 64, 128, 255] {
+        session.refuses(&open(0, 0, 0, flags, 2, 1), "01");
+    }
+}
+
+#[test]
+fn a11_mask_bits_10_to_15_are_1() {
+    let mut session = Session::fresh(4, 8);
+    for bit in 10..16 {
+        session.refuses(&format!("00010001{:04X}0000000000000000", 1 << bit), "01");
+        session.refuses(&format!("000100010000000000000000{:04X}", 1 << bit), "01");
+    }
+}
+
+#[test]
+fn a12_the_program_lends_4096_words() {
+    let mut session = Session::new();
+    session.gives(&fresh(32, 128), "00");
+    session.gives(&fresh(4, 1_024), "00");
+    for (buffers, width) in [(32, 129), (5, 1_024), (0, 8), (33, 8), (4, 0), (1, 1_025), (255, 65_535)] {
+        session.refuses(&fresh(buffers, width), "01");
+    }
+}
+
+#[test]
+fn a13_numbers_above_their_lists_are_1() {
+    let mut session = input(0, 2, 1);
+    session.refuses(&ask(0, READ, 2), "01");
+    session.refuses(&ask(0, 3, 0), "01");
+    session.gives(&ask(0, READ, 1), "00 00");
+    session.refuses(&report(0, 0, 5, &[]), "01");
+    session.refuses(&report(0, 0, 255, &[]), "01");
+    for kind in 0x0B..=0xFF {
+        session.refuses(&format!("{kind:02X}"), "01");
+    }
+}
+
+#[test]
+fn a14_8_wins_over_9_10_15_and_6_wins_over_8() {
+    let mut session = input(0, 2, 1);
+    session.gives(&ask(0, READ, 0), "00 00");
+    session.refuses(&ask(0, READ, 0), "08");
+    session.refuses(&ask(0, WRITE, 0), "06");
+    session.refuses(&ask(0, MARK, 0), "06");
+    let mut session = output(0, 2, 2);
+    session.gives(&put(0, &[1, 2]), "00");
+    session.gives(&ask(0, WRITE, 0), "00 00");
+    session.refuses(&ask(0, MARK, 0), "08");
+    session.refuses(&ask(0, READ, 0), "06");
+}
+
+#[test]
+fn a15_only_the_files_own_buffers_stop_its_close() {
+    let mut session = output(0, 2, 1);
+    session.gives(&open(1, 0, 1, OUTPUT, 2, 1), "00");
+    session.gives(&put(0, &[1]), "00");
+    session.refuses(&close(0), "0F");
+    session.gives(&ask(1, MARK, 0), "00 01");
+    session.gives(&report(0, 1, GOOD, &[]), "00 01 00 FF");
+    session.gives(&close(1), "00");
+    session.gives(&seal(0), "00");
+    session.refuses(&close(0), "0F");
+    session.refuses(&ask(0, MARK, 0), "0F");
+    session.gives(&ask(0, WRITE, 0), "00 00");
+    session.refuses(&close(0), "08");
+}
+
+#[test]
+fn a17_no_room_wins_over_the_wrong_count() {
+    let mut session = output(0, 2, 2);
+    session.refuses(&put(0, &[1]), "0D");
+    session.gives(&put(0, &[1, 2]), "00");
+    session.refuses(&put(0, &[1]), "09");
+    session.refuses(&put(0, &[]), "09");
+}
+
+#[test]
+fn a18_a_report_of_an_undeclared_unit_is_11() {
+    let mut session = Session::new();
+    session.refuses(&report(0, 0, GOOD, &[]), "0B");
+    session.gives("0001000400010000000000000000", "00");
+    session.refuses(&report(0, 9, REDUNDANCY, &[]), "0B");
+    session.refuses(&report(4, 0, END_OF_MEDIUM, &[]), "0B");
+}
+
+#[test]
+fn a19_open_gives_the_lowest_of_3_4_7_13() {
+    let mut session = Session::new();
+    session.gives("0001000400030000000000000000", "00");
+    session.gives(&open(0, 0, 0, 0, 2, 1), "00");
+    session.refuses(&open(0, 0, 2, 0, 0, 0), "03");
+    session.refuses(&open(0, 0, 1, 0, 0, 0), "04");
+    session.refuses(&open(1, 0, 0, 0, 0, 0), "04");
+    session.refuses(&open(1, 0, 1, 0, 0, 0), "07");
+    session.gives(&close(0), "00");
+    session.refuses(&open(1, 0, 1, DOUBLE, 0, 0), "07");
+    session.refuses(&open(1, 0, 1, 0, 0, 0), "0D");
+}
+
+#[test]
+fn a27_a_refused_call_changes_nothing() {
+    let mut session = input(SEQUENCE, 2, 1);
+    session.gives(&ask(0, READ, 0), "00 00");
+    for _ in 0..3 {
+        session.gives(&report(0, 0, REDUNDANCY, &[]), "00 00 00 00");
+    }
+    session.refuses(&report(0, 0, GOOD, &[1]), "0D");
+    session.refuses(&report(0, 0, GOOD, &[1, TOO_LARGE]), "02");
+    session.gives(FREEZE, "00");
+    session.refuses(&fresh(0, 8), "01");
+    session.gives(&report(0, 0, GOOD, &[9, 1]), "00 02 00 FF");
+    session.gives(&skip(0), "00");
+    session.gives(&ask(0, READ, 0), "00 FF");
+}
+
+#[test]
+fn b1_malformed_lines_are_1() {
+    let mut session = input(0, 1, 1);
+    let lines = [
+        "",
+        "0",
+        "050",
+        "0a",
+        "05 00",
+        "0500\r",
+        "0500\0",
+        "\t",
+        "0B",
+        "0500FF",
+        "05",
+        "0600FF",
+        "04000000FFFFFFFF",
+    ];
+    for line in lines {
+        session.refuses(line, "01");
+    }
+    session.refuses(&format!("0600{}", words(&[1; 1_025])), "01");
+}
+
+#[test]
+fn b2_put_and_report_without_words_are_well_formed() {
+    let mut session = output(0, 2, 2);
+    session.refuses("0600", "0D");
+    session.refuses("0601", "05");
+    session.refuses("04000000", "0B");
+    session.gives(&put(0, &[1, 2]), "00");
+    session.refuses("0600", "09");
+}
+
+#[test]
+fn b5_masks_are_highest_first_and_channel_0_first() {
+    let mut session = Session::new();
+    session.gives("0004000402000001000000000000", "00");
+    session.refuses(&open(0, 0, 0, 0, 2, 1), "03");
+    session.gives(&open(0, 0, 9, 0, 2, 1), "00");
+    session.refuses(&open(1, 1, 9, 0, 2, 1), "03");
+    session.gives(&open(1, 1, 0, 0, 2, 1), "00");
+    session.refuses(&open(2, 4, 0, 0, 2, 1), "03");
+}
+
+#[test]
+fn b6_digits_of_answers_are_upper_case() {
+    let mut session = input(0, 1, 1);
+    session.refuses(&report(0, 0, GOOD, &[]), "0B");
+    session.reads(&[0xABCDEF], 0);
+    session.gives(&get(0), "00 00 0000ABCDEF");
+}
+
+#[test]
+fn b7_ask_names_the_working_unit() {
+    let mut session = inputs(&[0, 1]);
+    session.gives(&ask(1, READ, 0), "00 01");
+    session.gives(&ask(0, READ, 1), "00 01");
+    let mut session = inputs(&[0]);
+    session.gives(FREEZE, "00");
+    session.gives(&ask(0, READ, 0), "00 FF");
+}
+
+#[test]
+fn b8_report_names_the_check_error_and_the_unit_after_the_next_start() {
+    let mut session = inputs(&[1]);
+    session.gives(&open(0, 0, 0, SEQUENCE, 2, 1), "00");
+    session.gives(&ask(0, READ, 0), "00 00");
+    session.gives(&ask(1, READ, 0), "00 00");
+    session.gives(&report(0, 0, GOOD, &[5, 2]), "00 01 01 01");
+    session.gives(&report(0, 1, REDUNDANCY, &[]), "00 00 00 01");
+    session.gives(FREEZE, "00");
+    session.gives(&report(0, 1, GOOD, &[5]), "00 01 00 FF");
+}
+
+#[test]
+fn b9_only_a_write_that_ends_01_or_04_shows_words() {
+    let mut session = output(SEQUENCE, 2, 2);
+    for outcome in [GOOD, END_OF_MEDIUM] {
+        session.gives(&ask(0, MARK, 0), "00 00");
+        let result = outcome.max(1);
+        session.gives(&report(0, 0, outcome, &[]), &format!("00 {result:02X} 00 FF"));
+    }
+    session.gives(&put(0, &[5, 6]), "00");
+    session.gives(&ask(0, WRITE, 0), "00 00");
+    session.gives(&report(0, 0, REDUNDANCY, &[]), "00 00 00 00");
+    session.gives(&report(0, 0, INCOMPLETE, &[]), "00 06 00 FF");
+    session.gives(&ask(0, WRITE, 0), "00 00");
+    session.gives(&report(0, 0, END_OF_MEDIUM, &[]), &format!("00 04 00 FF {}", words(&[5, 6, 1])));
+}
+
+#[test]
+fn b10_a_report_that_does_not_answer_the_request_gives_00() {
+    let mut session = inputs(&[0, 1]);
+    session.gives(&ask(1, READ, 0), "00 01");
+    session.gives(&report(0, 1, REDUNDANCY, &[]), "00 00 00 01");
+    session.gives(&ask(0, READ, 1), "00 01");
+    session.gives(&report(0, 1, REDUNDANCY, &[]), "00 00 00 00");
+    session.gives(FREEZE, "00");
+    session.gives(&report(0, 0, INCOMPLETE, &[]), "00 00 00 FF");
+}
+
+#[test]
+fn b11_words_where_no_read_works_are_not_malformed() {
+    let mut session = input(0, 1, 1);
+    session.refuses(&report(0, 0, GOOD, &[5]), "0B");
+    session.refuses(&report(0, 9, GOOD, &[5]), "0B");
+}
+
+#[test]
+fn b12_before_the_first_fresh_start() {
+    let mut session = Session::new();
+    session.gives(FREEZE, "00");
+    session.gives(THAW, "00");
+    session.refuses(&open(0, 0, 0, 0, 1, 1), "03");
+    session.refuses(&report(0, 0, GOOD, &[]), "0B");
+    for frame in [close(0), ask(0, READ, 0), get(0), put(0, &[]), seal(0), skip(0)] {
+        session.refuses(&frame, "05");
+    }
+    session.gives(FREEZE, "00");
+    session.gives(&fresh(4, 8), "00");
+    session.gives(&open(0, 0, 0, 0, 1, 1), "00");
+    session.gives(&ask(0, READ, 0), "00 00");
+}
+
+#[test]
+fn c1_a_last_record_that_ends_the_block_leaves_no_leftover() {
+    let mut session = input(0, 5, 2);
+    session.reads(&[1, 2, 3, 4], 0);
+    session.gives(&get(0), &format!("00 00 {}", words(&[1, 2])));
+    session.gives(&get(0), &format!("00 00 {}", words(&[3, 4])));
+    session.gives(&get(0), "00 01");
+    session.reads(&[1, 2, 3], 0);
+    session.gives(&get(0), &format!("00 00 {}", words(&[1, 2])));
+    session.gives(&get(0), &format!("00 04 {}", words(&[3])));
+    session.gives(&get(0), "00 01");
+}
+
+#[test]
+fn c2_a_used_up_block_stays_full_until_the_next_get_or_skip() {
+    let mut session = input(0, 2, 2);
+    session.reads(&[1, 2], 0);
+    session.gives(&get(0), &format!("00 00 {}", words(&[1, 2])));
+    session.refuses(&ask(0, READ, 0), "09");
+    session.gives(&get(0), "00 01");
+    session.reads(&[3, 4], 0);
+    session.gives(&get(0), &format!("00 00 {}", words(&[3, 4])));
+    session.gives(&skip(0), "00");
+    session.refuses(&skip(0), "09");
+    session.gives(&ask(0, READ, 0), "00 00");
+}
+
+#[test]
+fn c3_a_check_error_is_told_once_by_the_first_get() {
+    let mut session = input(DOUBLE + SEQUENCE + CHECK, 3, 2);
+    session.reads(&[5, 7], 3);
+    session.reads(&[1, 2, 786_432 + 2], 0);
+    session.gives(&get(0), "00 03 03");
+    session.gives(&get(0), &format!("00 04 {}", words(&[5])));
+    session.gives(&get(0), &format!("00 00 {}", words(&[1, 2])));
+    session.reads(&[1, 2, 786_432 + 9], 1);
+    session.gives(&get(0), "00 03 01");
+    session.gives(&get(0), &format!("00 00 {}", words(&[1, 2])));
+    session.reads(&[1, 3, 786_432 + 4], 2);
+    session.gives(&get(0), "00 03 02");
+    session.gives(&get(0), &format!("00 00 {}", words(&[1, 3])));
+}
+
+#[test]
+fn c4_skip_and_close_drop_an_error_that_was_not_told() {
+    let mut session = input(SEQUENCE, 3, 1);
+    session.reads(&[5, 7], 1);
+    session.gives(&skip(0), "00");
+    session.gives(&get(0), "00 01");
+    session.reads(&[6, 2], 0);
+    session.gives(&get(0), &format!("00 00 {}", words(&[6])));
+    session.gives(&skip(0), "00");
+    session.reads(&[5, 7], 1);
+    session.gives(&close(0), "00");
+    session.gives(&open(0, 0, 0, SEQUENCE, 3, 1), "00");
+    session.gives(&get(0), "00 01");
+}
+
+#[test]
+fn c5_skip_drops_the_used_up_block_first() {
+    let mut session = input(DOUBLE, 2, 1);
+    session.reads(&[1], 0);
+    session.reads(&[2], 0);
+    session.gives(&get(0), &format!("00 00 {}", words(&[1])));
+    session.gives(&skip(0), "00");
+    session.gives(&get(0), &format!("00 00 {}", words(&[2])));
+}
+
+#[test]
+fn c6_full_blocks_come_before_the_end_and_the_end_comes_again() {
+    let mut session = input(DOUBLE, 2, 1);
+    session.reads(&[1, 2], 0);
+    session.gives(&ask(0, READ, 0), "00 00");
+    session.gives(&report(0, 0, FILE_MARK, &[]), "00 03 00 FF");
+    session.refuses(&ask(0, READ, 0), "0A");
+    session.gives(&get(0), &format!("00 00 {}", words(&[1])));
+    session.gives(&get(0), &format!("00 00 {}", words(&[2])));
+    session.gives(&get(0), "00 02");
+    session.gives(&get(0), "00 02");
+    session.refuses(&skip(0), "09");
+    session.gives(&close(0), "00");
+    session.gives(&open(0, 0, 0, 0, 2, 1), "00");
+    session.gives(&get(0), "00 01");
+}
+
+#[test]
+fn c7_buffers_are_used_while_the_unit_has_a_request() {
+    let mut session = input(DOUBLE, 2, 1);
+    session.reads(&[1], 0);
+    session.gives(&ask(0, READ, 0), "00 00");
+    session.gives(&get(0), &format!("00 00 {}", words(&[1])));
+    session.gives(&skip(0), "00");
+    let mut session = output(DOUBLE, 2, 1);
+    session.gives(&ask(0, MARK, 0), "00 00");
+    session.gives(&put(0, &[1]), "00");
+    session.gives(&seal(0), "00");
+    session.gives(&report(0, 0, GOOD, &[]), "00 01 00 FF");
+    session.gives(&ask(0, WRITE, 0), "00 00");
+    session.gives(&put(0, &[2]), "00");
+    session.gives(&report(0, 0, GOOD, &[]), &format!("00 01 00 FF {}", words(&[1])));
+}
+
+#[test]
+fn c8_oldest_is_by_time_and_not_by_buffer_number() {
+    let mut session = input(DOUBLE, 1, 1);
+    session.reads(&[1], 0);
+    session.reads(&[2], 0);
+    session.gives(&skip(0), "00");
+    session.reads(&[3], 0);
+    session.gives(&get(0), &format!("00 00 {}", words(&[2])));
+    session.gives(&get(0), &format!("00 00 {}", words(&[3])));
+    let mut session = output(DOUBLE, 1, 1);
+    session.gives(&put(0, &[1]), "00");
+    session.gives(&put(0, &[2]), "00");
+    session.gives(&ask(0, WRITE, 0), "00 00");
+    session.gives(&report(0, 0, GOOD, &[]), &format!("00 01 00 FF {}", words(&[1])));
+    session.gives(&put(0, &[3]), "00");
+    session.gives(&ask(0, WRITE, 0), "00 00");
+    session.gives(&report(0, 0, GOOD, &[]), &format!("00 01 00 FF {}", words(&[2])));
+}
+
+#[test]
+fn c9_a_block_in_error_is_kept_and_its_error_number_reported() {
+    for (check_word, error) in [((6 << 18) + 1, 2), ((5 << 18) + 9, 1), ((6 << 18) + 9, 3)] {
+        let mut session = input(SEQUENCE + CHECK, 1, 1);
+        session.reads(&[5, check_word], error);
+        session.gives(&get(0), &format!("00 03 {error:02X}"));
+        session.gives(&get(0), &format!("00 00 {}", words(&[5])));
+    }
+}
+
+#[test]
+fn c10_block_numbers_go_up_after_an_error_and_a_block_keeps_its_number() {
+    let mut session = input(SEQUENCE, 1, 1);
+    session.reads(&[5, 9], 1);
+    session.gives(&skip(0), "00");
+    session.reads(&[5, 2], 0);
+    session.gives(&skip(0), "00");
+    session.gives(&ask(0, READ, 0), "00 00");
+    session.gives(&report(0, 0, FILE_MARK, &[]), "00 03 00 FF");
+    session.gives(&close(0), "00");
+    session.gives(&open(0, 0, 0, SEQUENCE, 1, 1), "00");
+    session.reads(&[5, 1], 0);
+
+    let mut session = output(DOUBLE + SEQUENCE, 1, 1);
+    session.gives(&put(0, &[5]), "00");
+    session.gives(&put(0, &[6]), "00");
+    session.gives(&ask(0, WRITE, 0), "00 00");
+    session.gives(&report(0, 0, INCOMPLETE, &[]), "00 06 00 FF");
+    for (record, number) in [(5, 1), (6, 2)] {
+        session.gives(&ask(0, WRITE, 0), "00 00");
+        session.gives(&report(0, 0, GOOD, &[]), &format!("00 01 00 FF {}", words(&[record, number])));
+    }
+    session.gives(&put(0, &[7]), "00");
+    session.gives(&ask(0, WRITE, 0), "00 00");
+    session.gives(&report(0, 0, GOOD, &[]), &format!("00 01 00 FF {}", words(&[7, 3])));
+}
+
+#[test]
+fn c11_only_chosen_fields_are_compared() {
+    let mut session = input(SEQUENCE, 1, 1);
+    session.reads(&[5, (1 << 36) - 32_768 + 1], 0);
+    let mut session = input(CHECK, 1, 1);
+    session.reads(&[5, (5 << 18) + (1 << 18) - 1], 0);
+    let mut session = input(SEQUENCE + CHECK, 1, 1);
+    session.reads(&[5, (5 << 18) + (7 << 15) + 1], 0);
+}
+
+#[test]
+fn c12_the_check_word_is_no_data_word() {
+    let mut session = input(SEQUENCE + CHECK, 3, 1);
+    session.reads(&[1, 2, 786_433], 0);
+    session.gives(&get(0), &format!("00 00 {}", words(&[1])));
+    session.gives(&get(0), &format!("00 00 {}", words(&[2])));
+    session.gives(&get(0), "00 01");
+}
+
+#[test]
+fn c13_input_blocks_are_dropped_and_output_blocks_are_not() {
+    let mut session = input(DOUBLE, 1, 1);
+    session.reads(&[1], 0);
+    session.reads(&[2], 0);
+    session.gives(&close(0), "00");
+    let mut session = output(0, 1, 1);
+    session.gives(&put(0, &[1]), "00");
+    session.refuses(&close(0), "0F");
+    session.gives(&fresh(4, 8), "00");
+    session.gives(&open(0, 0, 0, 0, 1, 1), "00");
+}
+
+#[test]
+fn c14_a_block_is_sealed_as_soon_as_no_record_fits() {
+    let mut session = output(DOUBLE, 5, 2);
+    session.gives(&put(0, &[1, 2]), "00");
+    session.refuses(&ask(0, WRITE, 0), "09");
+    session.gives(&put(0, &[3, 4]), "00");
+    session.refuses(&seal(0), "09");
+    session.gives(&ask(0, WRITE, 0), "00 00");
+    session.gives(&report(0, 0, GOOD, &[]), &format!("00 01 00 FF {}", words(&[1, 2, 3, 4])));
+    let mut session = output(0, 2, 2);
+    session.gives(&put(0, &[1, 2]), "00");
+    session.gives(&ask(0, WRITE, 0), "00 00");
+}
+
+#[test]
+fn c15_end_of_medium_leaves_no_trace() {
+    let mut session = output(0, 1, 1);
+    for record in [1, 2] {
+        session.gives(&put(0, &[record]), "00");
+        session.gives(&ask(0, WRITE, 0), "00 00");
+        session.gives(&report(0, 0, END_OF_MEDIUM, &[]), &format!("00 04 00 FF {}", words(&[record])));
+    }
+}
+
+#[test]
+fn c16_the_block_that_is_sent_stays_the_oldest() {
+    let mut session = output(DOUBLE, 1, 1);
+    session.gives(&put(0, &[1]), "00");
+    session.gives(&ask(0, WRITE, 0), "00 00");
+    session.gives(&put(0, &[2]), "00");
+    session.gives(&report(0, 0, REDUNDANCY, &[]), "00 00 00 00");
+    session.gives(&report(0, 0, GOOD, &[]), &format!("00 01 00 FF {}", words(&[1])));
+}
+
+#[test]
+fn d1_the_scan_begins_above_the_last_ordinary_end() {
+    let mut session = inputs(&[2, 5, 7]);
+    session.gives(&ask(5, READ, 0), "00 05");
+    session.gives(&ask(2, READ, 0), "00 05");
+    session.gives(&ask(7, READ, 0), "00 05");
+    session.gives(&report(0, 5, FILE_MARK, &[]), "00 03 00 07");
+    session.gives(&report(0, 7, GOOD, &[1]), "00 01 00 02");
+    session.gives(&report(0, 2, GOOD, &[1]), "00 01 00 FF");
+    // The end of unit 7 in a freeze, the end of a priority operation, a close and an open.
+    session.gives(&skip(7), "00");
+    session.gives(&ask(7, READ, 0), "00 07");
+    session.gives(FREEZE, "00");
+    session.gives(&report(0, 7, GOOD, &[1]), "00 01 00 FF");
+    session.gives(&open(9, 0, 9, 0, 2, 1), "00");
+    session.gives(&close(5), "00");
+    session.gives(&skip(2), "00");
+    session.gives(&ask(2, READ, 0), "00 FF");
+    session.gives(&ask(9, READ, 0), "00 FF");
+    session.gives(&open(0, 0, 0, 0, 2, 1), "00");
+    session.gives(&ask(0, READ, 1), "00 FF");
+    session.gives(THAW, "00");
+    session.gives(&report(0, 0, GOOD, &[1]), "00 01 00 09");
+    // A fresh start resets the scan.
+    session.gives(&fresh(4, 4), "00");
+    session.gives(FREEZE, "00");
+    for unit in [9, 2] {
+        session.gives(&open(unit, 0, unit, 0, 2, 1), "00");
+        session.gives(&ask(unit, READ, 0), "00 FF");
+    }
+    session.gives(THAW, "00");
+    session.gives(&report(0, 2, FILE_MARK, &[]), "00 03 00 09");
+}
+
+#[test]
+fn d2_on_an_idle_channel_an_ask_starts_at_once() {
+    let mut session = inputs(&[0, 1, 2]);
+    session.gives(&ask(2, READ, 0), "00 02");
+    session.gives(&ask(0, READ, 0), "00 02");
+    session.gives(&ask(1, READ, 0), "00 02");
+    session.gives(&report(0, 2, GOOD, &[1]), "00 01 00 00");
+    session.gives(&report(0, 0, GOOD, &[1]), "00 01 00 01");
+    session.gives(&report(0, 1, GOOD, &[1]), "00 01 00 FF");
+}
+
+#[test]
+fn d3_a_running_priority_operation_is_not_displaced() {
+    let mut session = inputs(&[1, 6]);
+    session.gives(&ask(6, READ, 1), "00 06");
+    session.gives(&ask(1, READ, 1), "00 06");
+    session.gives(&report(0, 6, REDUNDANCY, &[]), "00 00 00 06");
+    session.gives(&report(0, 6, GOOD, &[1]), "00 01 00 01");
+}
+
+#[test]
+fn d4_after_a_freeze_the_lowest_priority_unit_goes_first() {
+    let mut session = inputs(&[1, 3, 6]);
+    session.gives(&ask(6, READ, 1), "00 06");
+    session.gives(FREEZE, "00");
+    session.gives(&report(0, 6, REDUNDANCY, &[]), "00 00 00 FF");
+    session.gives(&ask(3, READ, 1), "00 FF");
+    session.gives(&ask(1, READ, 0), "00 FF");
+    session.gives(THAW, "00");
+    session.gives(&report(0, 3, GOOD, &[1]), "00 01 00 06");
+    session.gives(&report(0, 6, GOOD, &[1]), "00 01 00 01");
+
+    let mut session = inputs(&[1, 6]);
+    session.gives(&ask(6, READ, 0), "00 06");
+    session.gives(FREEZE, "00");
+    session.gives(&report(0, 6, REDUNDANCY, &[]), "00 00 00 FF");
+    session.gives(&ask(1, READ, 0), "00 FF");
+    session.gives(THAW, "00");
+    session.gives(&report(0, 1, GOOD, &[1]), "00 01 00 06");
+}
+
+#[test]
+fn d5_freeze_and_thaw_between_two_reports_have_no_effect() {
+    let mut session = inputs(&[0, 1]);
+    session.gives(&ask(1, READ, 0), "00 01");
+    session.gives(&ask(0, READ, 0), "00 01");
+    for frame in [FREEZE, FREEZE, THAW, THAW] {
+        session.gives(frame, "00");
+    }
+    session.gives(&report(0, 1, REDUNDANCY, &[]), "00 00 00 01");
+}
+
+#[test]
+fn d7_a_displaced_operation_keeps_its_counts() {
+    let mut session = inputs(&[0, 1]);
+    session.gives(&ask(1, READ, 0), "00 01");
+    session.gives(&report(0, 1, INCOMPLETE, &[]), "00 00 00 01");
+    session.gives(&ask(0, READ, 1), "00 01");
+    session.gives(&report(0, 1, REDUNDANCY, &[]), "00 00 00 00");
+    session.gives(&report(0, 0, GOOD, &[1]), "00 01 00 01");
+    session.gives(FREEZE, "00");
+    session.gives(&report(0, 1, REDUNDANCY, &[]), "00 00 00 FF");
+    session.gives(THAW, "00");
+    session.gives(&report(0, 1, GOOD, &[1]), "00 02 00 FF");
+
+    let mut session = inputs(&[1]);
+    session.gives(&ask(1, READ, 0), "00 01");
+    session.gives(FREEZE, "00");
+    session.gives(&report(0, 1, INCOMPLETE, &[]), "00 00 00 FF");
+    session.gives(THAW, "00");
+    session.gives(&report(0, 1, INCOMPLETE, &[]), "00 06 00 FF");
+}
+
+#[test]
+fn d8_asks_in_a_freeze_wait() {
+    let mut session = inputs(&[0, 1]);
+    session.gives(&ask(1, READ, 0), "00 01");
+    session.gives(FREEZE, "00");
+    session.gives(&ask(0, READ, 1), "00 01");
+    session.gives(&report(0, 1, GOOD, &[1]), "00 01 00 FF");
+    session.gives(THAW, "00");
+    session.gives(&report(0, 0, GOOD, &[1]), "00 01 00 FF");
+}
+
+#[test]
+fn e1_failures_of_a_read() {
+    let mut session = inputs(&[0]);
+    for (last, result) in [(REDUNDANCY, "05"), (INCOMPLETE, "06")] {
+        session.gives(&ask(0, READ, 0), "00 00");
+        for _ in 0..100 {
+            session.gives(&report(0, 0, REDUNDANCY, &[]), "00 00 00 00");
+        }
+        session.gives(&report(0, 0, last, &[]), &format!("00 {result} 00 FF"));
+        session.refuses(&report(0, 0, last, &[]), "0B");
+    }
+    session.gives(&ask(0, READ, 0), "00 00");
+    for outcome in [INCOMPLETE, REDUNDANCY, REDUNDANCY, REDUNDANCY] {
+        session.gives(&report(0, 0, outcome, &[]), "00 00 00 00");
+    }
+    session.gives(&report(0, 0, INCOMPLETE, &[]), "00 06 00 FF");
+}
+
+#[test]
+fn e2_attempt_4_of_a_read_is_in_the_opposite_mode() {
+    let mut session = input(SEQUENCE, 1, 1);
+    session.gives(&ask(0, READ, 0), "00 00");
+    for outcome in [REDUNDANCY, INCOMPLETE, REDUNDANCY] {
+        session.gives(&report(0, 0, outcome, &[]), "00 00 00 00");
+    }
+    session.gives(&report(0, 0, GOOD, &[7, 3]), "00 02 01 FF");
+    session.gives(&get(0), "00 03 01");
+    session.gives(&get(0), &format!("00 00 {}", words(&[7])));
+    session.gives(&skip(0), "00");
+    session.gives(&ask(0, READ, 0), "00 00");
+    for _ in 0..3 {
+        session.gives(&report(0, 0, REDUNDANCY, &[]), "00 00 00 00");
+    }
+    session.gives(&report(0, 0, FILE_MARK, &[]), "00 03 00 FF");
+
+    let mut session = output(0, 1, 1);
+    session.gives(&put(0, &[7]), "00");
+    for (operation, answer) in [(WRITE, "00 01 00 FF 0000000007"), (MARK, "00 01 00 FF")] {
+        session.gives(&ask(0, operation, 0), "00 00");
+        for _ in 0..3 {
+            session.gives(&report(0, 0, REDUNDANCY, &[]), "00 00 00 00");
+        }
+        session.gives(&report(0, 0, GOOD, &[]), answer);
+    }
+}
+
+#[test]
+fn e3_a_failed_read_gives_its_buffer_back_and_uses_no_number() {
+    let mut session = input(SEQUENCE, 1, 1);
+    session.gives(&ask(0, READ, 0), "00 00");
+    session.gives(&report(0, 0, INCOMPLETE, &[]), "00 00 00 00");
+    session.gives(&report(0, 0, INCOMPLETE, &[]), "00 06 00 FF");
+    session.gives(&get(0), "00 01");
+    session.reads(&[7, 1], 0);
+}
+
+#[test]
+fn e4_blocks_under_three_words_are_blocks() {
+    let mut session = input(0, 4, 4);
+    session.reads(&[7], 0);
+    session.gives(&get(0), &format!("00 04 {}", words(&[7])));
+}
+
+#[test]
+fn e5_a_mark_has_neither_incomplete_words_nor_file_marks() {
+    let mut session = output(0, 1, 1);
+    session.gives(&ask(0, MARK, 0), "00 00");
+    session.refuses(&report(0, 0, INCOMPLETE, &[]), "0C");
+    session.refuses(&report(0, 0, FILE_MARK, &[]), "0C");
+    for _ in 0..26 {
+        session.gives(&report(0, 0, REDUNDANCY, &[]), "00 00 00 00");
+    }
+    session.gives(&report(0, 0, REDUNDANCY, &[]), "00 05 00 FF");
+}
+
+#[test]
+fn e6_each_request_counts_from_attempt_1() {
+    let mut session = inputs(&[0]);
+    for _ in 0..2 {
+        session.gives(&ask(0, READ, 0), "00 00");
+        session.gives(&report(0, 0, INCOMPLETE, &[]), "00 00 00 00");
+        session.gives(&report(0, 0, REDUNDANCY, &[]), "00 00 00 00");
+        session.gives(&report(0, 0, GOOD, &[1]), "00 01 00 FF");
+        session.gives(&skip(0), "00");
+    }
+}
+
+#[test]
+fn p8_26_write_redundancies_repeat_and_the_27th_is_permanent() {
+    let mut session = output(0, 1, 1);
+    session.gives(&put(0, &[7]), "00");
+    session.gives(&ask(0, WRITE, 0), "00 00");
+    for _ in 0..26 {
+        session.gives(&report(0, 0, REDUNDANCY, &[]), "00 00 00 00");
+    }
+    session.gives(&report(0, 0, REDUNDANCY, &[]), "00 05 00 FF");
+}
+
+#[test]
+fn p10_a_priority_request_displaces() {
+    let mut session = inputs(&[0, 1]);
+    session.gives(&ask(1, READ, 0), "00 01");
+    session.gives(&ask(0, READ, 1), "00 01");
+    session.gives(&report(0, 1, REDUNDANCY, &[]), "00 00 00 00");
+    session.gives(&report(0, 0, GOOD, &[1]), "00 01 00 01");
+    for _ in 0..2 {
+        session.gives(&report(0, 1, REDUNDANCY, &[]), "00 00 00 01");
+    }
+    session.gives(&report(0, 1, GOOD, &[1]), "00 02 00 FF");
+}
+
+#[test]
+fn p11_two_free_two_asked_opens_and_one_free_is_7() {
+    let mut session = Session::fresh(2, 4);
+    session.gives(&open(0, 0, 0, DOUBLE, 2, 1), "00");
+    session.gives(&close(0), "00");
+    session.gives(&open(0, 0, 0, 0, 2, 1), "00");
+    session.refuses(&open(1, 0, 1, DOUBLE, 2, 1), "07");
+}
+
+#[test]
+fn p1_as_a_block() {
+    let mut session = output(SEQUENCE + CHECK, 2, 1);
+    session.gives(&put(0, &[1]), "00");
+    session.gives(&put(0, &[2]), "00");
+    session.gives(&ask(0, WRITE, 0), "00 00");
+    session.gives(&report(0, 0, GOOD, &[]), &format!("00 01 00 FF {}", words(&[1, 2, 786_433])));
+}

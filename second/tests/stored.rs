@@ -1,0 +1,46 @@
+//! The stored files are what the program gives today.
+
+use std::fs;
+use std::path::Path;
+
+use second::channel_events::channel_events;
+use second::channel_player::answer_events;
+use second::text::lines_of;
+use second::word_cases::word_cases;
+use second::words::answer_cases;
+
+/// A stored file of the repository.
+fn stored(folder: &str, name: &str) -> String {
+    let path = Path::new(env!("CARGO_MANIFEST_DIR")).join("../crates").join(folder).join(name);
+    fs::read_to_string(&path).unwrap_or_else(|error| panic!("{}: {error}", path.display()))
+}
+
+/// Compares line by line, so that a difference is named shortly.
+fn assert_same_lines(stored: &str, given: &str) {
+    for (index, (left, right)) in stored.lines().zip(given.lines()).enumerate() {
+        assert_eq!(left, right, "line {}", index + 1);
+    }
+    assert_eq!(stored.len(), given.len());
+}
+
+#[test]
+fn word_cases_are_stored() {
+    assert_same_lines(&stored("word_cases", "stdin"), &lines_of(&word_cases()));
+}
+
+#[test]
+fn answers_to_word_cases_are_stored() {
+    let cases = stored("word_cases", "stdin");
+    assert_same_lines(&stored("word_cases", "stdout"), &answer_cases(&cases).expect("cases"));
+}
+
+#[test]
+fn channel_events_are_stored() {
+    assert_same_lines(&stored("channel_events", "stdin"), &lines_of(&channel_events()));
+}
+
+#[test]
+fn answers_to_channel_events_are_stored() {
+    let events = stored("channel_events", "stdin");
+    assert_same_lines(&stored("channel_events", "stdout"), &answer_events(&events).expect("events"));
+}
