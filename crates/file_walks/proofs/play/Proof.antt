@@ -1,14 +1,8 @@
 -- `file_walks::play` is safe and ends: the events that may be left are counted down. Assumes nothing.
 use borrow.Author.Needs.{needs}
 use Prim.Native.Nat.{_≤_}
-use Rattle.files.proofs.closed_file.Reads as closed-file-reads
-use Rattle.numbers.proofs.next.Reads as next-reads
 use Rattle.file_walks.proofs.play.Statement.{statement}
 use Rattle.file_walks.proofs.play.Tie as tie
-use Rattle.file_walks.proofs.play.Reads as reads
-use Rattle.file_walks.proofs.play.Lts as lts
-use Rattle.file_walks.proofs.event.Reads as event-reads
-use Rattle.file_walks.proofs.print.whole.Reads as whole-reads
 
 abbrev Inv-loop : tie.InvT-loop
 Inv-loop text p₀ left₀ p left = left ≤ left₀
@@ -16,43 +10,33 @@ Inv-loop text p₀ left₀ p left = left ≤ left₀
 abbrev μ-loop : tie.MeasureT-loop
 μ-loop text p₀ left₀ p left = left
 
--- src/main.rt:140:15
 closed-file-requires : tie.Need-closed-file-requires Inv-loop μ-loop
 closed-file-requires c κs = search needs
 
--- src/main.rt:145:5
 loop-holds : tie.Need-loop-holds Inv-loop μ-loop
 loop-holds c = search needs
 
--- src/main.rt:146:13
 next-requires : tie.Need-next-requires Inv-loop μ-loop
 next-requires c κs = search needs
 
--- src/main.rt:148:13
 returns : tie.Need-returns Inv-loop μ-loop
 returns c = search needs
 
--- src/main.rt:151:9
 event-requires : tie.Need-event-requires Inv-loop μ-loop
 event-requires c κs = search needs
 
--- src/main.rt:161:9
 whole-requires : tie.Need-whole-requires Inv-loop μ-loop
 whole-requires c κs = search needs
 
--- src/main.rt:162:16
 sub-left : tie.Need-sub-left Inv-loop μ-loop
 sub-left c = search needs
 
--- src/main.rt:145:5
 loop-less : tie.Need-loop-less Inv-loop μ-loop
 loop-less c = search needs
 
--- src/main.rt:145:5
 loop-again : tie.Need-loop-again Inv-loop μ-loop
 loop-again c = search needs
 
--- src/main.rt:138:1
 returns-2 : tie.Need-returns-2 Inv-loop μ-loop
 returns-2 c = search needs
 
