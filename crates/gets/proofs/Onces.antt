@@ -7,23 +7,23 @@ use Prim.Native.Nat.{ℕ, zero, suc, _+_, _-_, _*_, _≤_, _<_}
 use native.Mathlib.Decide.{decLt}
 use native.Mathlib.Nat.{add-assoc}
 use native.Mathlib.Omega.{arith}
-use borrow.Author.Tests.{lt-leb, lt-ltb, leb-true, leb-false}
-use lib.Dec.{leb, ltb}
+use borrow.Author.Tests.{lt-leb, lt-ltb, leb-true}
+use lib.Dec.{leb}
 use lib.ListN.{take, drop}
 use lib.Seq.{take-add, drop-drop}
 use Rattle.area.specs.Parts.{partOf}
 use Rattle.area.proofs.Walks.{true-not-false}
 use Rattle.area.proofs.Marks.{cond-true, cond-false}
 use Rattle.files.specs.declared.Slot.{Slot}
-use Rattle.files.specs.declared.Slot.the-variants.{Empty, Taken, Part, Full}
+use Rattle.files.specs.declared.Slot.the-variants.{Full}
 use Rattle.files.specs.declared.Side.{Side}
 use Rattle.files.specs.declared.Side.the-variants.{Low, High, Neither}
 use Rattle.files.specs.declared.File.{File}
 use Rattle.files.specs.Slots.{isFull}
 use Rattle.files.specs.Sides.{bufferAt, slotAt, startAt, isSide, lower, oldest, withSlot, withoutOldest}
 use Rattle.gets.specs.declared.Got.{Got}
-use Rattle.gets.specs.declared.Got.the-variants.{Record, Leftover, Error, End, Nothing}
-use Rattle.gets.specs.Gets.{isUsedUp, passed, lookedAt, wordsGiven, slotAfter, foundIn, foundNone, found, afterFound, getFrom, gotStart, gotWords}
+use Rattle.gets.specs.declared.Got.the-variants.{Record, Leftover, Error}
+use Rattle.gets.specs.Gets.{isUsedUp, passed, lookedAt, wordsGiven, slotAfter, foundIn, foundNone, found, afterFound, getFrom}
 use Rattle.gets.specs.Histories.{shown, shownBy, afterGets}
 
 -- the oldest block of the file lies in buffer k, number b, with n data words, the place at, the error e; records have r words

@@ -1,12 +1,11 @@
 -- Each change of a file keeps a sound file sound: read and its ends, skip and write, get, seal, put; open makes a sound file. Assumes nothing.
 use mathlib.Core.Path.{_≡_, refl, sym, ap, subst, _∙_}
-use mathlib.Core.Bool.{Bool, true, false, not, cond, _&&_, _||_}
+use mathlib.Core.Bool.{Bool, true, false, not, cond, _&&_}
 use Prim.Native.Nat.{ℕ, _+_, _-_, _≤_, _<_}
 use native.Mathlib.Omega.{arith}
-use borrow.Author.Tests.{leb-true, le-leb, ltb-true, lt-ltb, ltb-false, not-true}
+use borrow.Author.Tests.{leb-true, lt-ltb}
 use lib.Dec.{leb, ltb, eqb}
 use Rattle.area.proofs.Walks.{by-test, true-not-false, and-left, and-right, and-both}
-use Rattle.area.proofs.Marks.{cond-true, cond-false}
 use Rattle.files.specs.declared.Slot.{Slot}
 use Rattle.files.specs.declared.Slot.the-variants.{Empty, Taken, Part, Full}
 use Rattle.files.specs.declared.Side.{Side}
@@ -14,16 +13,16 @@ use Rattle.files.specs.declared.Side.the-variants.{Low, High, Neither}
 use Rattle.files.specs.declared.File.{File}
 use Rattle.files.specs.declared.Wish.{Wish}
 use Rattle.files.specs.Slots.{isEmpty, isTaken, isPart, isFull, partWords}
-use Rattle.files.specs.Sides.{slotAt, isSide, emptySide, takenSide, partSide, oldest, withSlot, turnedBy, filledAt, emptiedAt, withoutOldest}
-use Rattle.files.specs.Opening.{sizesFit, extra, openedFile}
+use Rattle.files.specs.Sides.{slotAt, isSide, emptySide, takenSide, partSide, oldest, withSlot, emptiedAt, withoutOldest}
+use Rattle.files.specs.Opening.{sizesFit, openedFile}
 use Rattle.files.specs.Input.{tookBuffer, delivered, gaveBack, withMark, metMark}
-use Rattle.files.specs.Output.{putSide, wordsAfter, added, partLength, isComplete, sealed, afterPut, afterWrite}
-use Rattle.files.proofs.Which.{lower-cases, empty-there, taken-there, part-there, full-there}
+use Rattle.files.specs.Output.{partLength, sealed, afterWrite}
+use Rattle.files.proofs.Which.{lower-cases, taken-there, part-there, full-there}
 use Rattle.files.proofs.Ages.{Aged, noBlock, old, aged}
 use Rattle.gets.specs.Gets.{isUsedUp, passed, lookedAt, wordsGiven, slotAfter, afterFound, getFrom}
-use Rattle.pool.specs.Soundness.{oneIf, takenCount, partsHeld}
-use Rattle.pool.proofs.Facts.{slotFits, Sound, Fits, fits}
-use Rattle.pool.proofs.Kept.{other, owns, slot-fits, owns-used, taken-sides, part-sides, owned-side, Change, changed, beside, emptied, full-slot, filled}
+use Rattle.pool.specs.Soundness.{oneIf, takenCount}
+use Rattle.pool.proofs.Facts.{slotFits, Sound, fits}
+use Rattle.pool.proofs.Kept.{other, owns, slot-fits, owns-used, taken-sides, part-sides, changed, beside, emptied, full-slot, filled}
 
 -- ---- what is not empty
 

@@ -1,5 +1,5 @@
 -- Whatever may happen to a sound file keeps it sound, and leaves it its unit and its buffers. Assumes nothing.
-use mathlib.Core.Path.{_≡_, refl, sym, ap, _∙_}
+use mathlib.Core.Path.{_≡_, refl, _∙_}
 use mathlib.Core.Bool.{Bool, true, false, cond}
 use Prim.Native.Nat.{ℕ, _≤_}
 use lib.Dec.{leb}

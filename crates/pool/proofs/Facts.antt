@@ -1,20 +1,19 @@
 -- A sound open file as facts: what its soundness gives, and what makes it sound. Assumes nothing.
 use mathlib.Core.Path.{_≡_, refl, sym, ap, _∙_}
 use mathlib.Core.Bool.{Bool, true, false, not, cond, _&&_, _||_}
-use Prim.Native.Nat.{ℕ, _+_, _≤_, _<_}
-use native.Mathlib.Omega.{arith}
+use Prim.Native.Nat.{ℕ, _≤_, _<_}
 use borrow.Author.Tests.{leb-true, le-leb, ltb-true, lt-ltb, eqb-true, not-true}
 use lib.Dec.{leb, ltb, eqb}
 use Rattle.area.proofs.Walks.{true-not-false, and-left, and-right, and-both}
-use Rattle.area.proofs.Marks.{cond-true, cond-false, unless, unless-so}
+use Rattle.area.proofs.Marks.{cond-true, unless, unless-so}
 use Rattle.files.specs.declared.Slot.{Slot}
 use Rattle.files.specs.declared.Slot.the-variants.{Empty, Taken, Part, Full}
 use Rattle.files.specs.declared.Buffer.{Buffer}
 use Rattle.files.specs.declared.File.{File}
-use Rattle.files.specs.Slots.{isEmpty, isTaken, isPart, isFull, fullError}
+use Rattle.files.specs.Slots.{isEmpty, isFull, fullError}
 use Rattle.files.specs.Sides.{noBuffer, blockNumbers}
 use Rattle.files.specs.Opening.{sizesFit, closedFile}
-use Rattle.pool.specs.Soundness.{inRange, isNoBuffer, hasBuffers, oneIf, takenCount, takenRight, fullFits, fullRight, partsHeld, partFits, partRight, placeFits, placeRight, isUnread, restIsZero, openSound, isBlank, fileSound}
+use Rattle.pool.specs.Soundness.{inRange, isNoBuffer, hasBuffers, oneIf, takenCount, takenRight, fullFits, fullRight, partsHeld, partFits, partRight, placeFits, placeRight, isUnread, openSound, isBlank, fileSound}
 
 -- what one buffer of a file may hold, by the file's direction and sizes
 abbrev pub slotFits : Bool → ℕ → ℕ → Slot → Bool

@@ -1,32 +1,31 @@
 -- What a sound file names of the area lies in its own buffers: the words that get shows, those that a put adds and a seal sums, those that a
 -- write sends, and the room for a delivered block. Assumes nothing.
 use mathlib.Core.Path.{_≡_, refl, sym, ap, subst, _∙_}
-use mathlib.Core.Bool.{Bool, true, false, not, cond, _&&_}
-use Prim.Native.Nat.{ℕ, suc, _+_, _-_, _*_, _≤_, _<_}
+use mathlib.Core.Bool.{Bool, true, false, cond, _&&_}
+use Prim.Native.Nat.{ℕ, _+_, _-_, _*_, _≤_, _<_}
 use native.Mathlib.Nat.{mul-le-mul-right, suc-mul}
 use native.Mathlib.Omega.{arith}
 use borrow.Author.Tests.{leb-true, ltb-true}
 use lib.Dec.{leb, ltb}
-use Rattle.area.proofs.Walks.{true-not-false, and-left, and-right}
+use Rattle.area.proofs.Walks.{true-not-false, and-right}
 use Rattle.area.proofs.Marks.{cond-true}
-use Rattle.files.specs.declared.Slot.{Slot}
-use Rattle.files.specs.declared.Slot.the-variants.{Empty, Taken, Part, Full}
+use Rattle.files.specs.declared.Slot.the-variants.{Full}
 use Rattle.files.specs.declared.Side.{Side}
 use Rattle.files.specs.declared.Side.the-variants.{Low, High, Neither}
 use Rattle.files.specs.declared.File.{File}
-use Rattle.files.specs.Slots.{partWords, fullWords}
-use Rattle.files.specs.Sides.{bufferAt, slotAt, startAt, isSide, takenSide, partSide, oldest}
+use Rattle.files.specs.Slots.{fullWords}
+use Rattle.files.specs.Sides.{bufferAt, slotAt, startAt, isSide, takenSide, oldest}
 use Rattle.files.specs.Opening.{extra}
-use Rattle.files.specs.Output.{putSide, putStart, wordsAfter, sendStart, sendWords}
+use Rattle.files.specs.Output.{putSide, wordsAfter, sendStart, sendWords}
 use Rattle.files.proofs.Ages.{Aged, noBlock, old, aged}
-use Rattle.gets.specs.Gets.{wordsGiven, foundIn, foundNone, found, lookedAt, getFrom, gotStart, gotWords}
+use Rattle.gets.specs.Gets.{foundIn, foundNone, found, lookedAt, getFrom, gotStart, gotWords}
 use Rattle.gets.specs.declared.Got.{Got}
-use Rattle.gets.specs.declared.Got.the-variants.{Record, Leftover, Error, End, Nothing}
+use Rattle.gets.specs.declared.Got.the-variants.{Record, Leftover, Error}
 use Rattle.pool.specs.Soundness.{isNoBuffer}
 use Rattle.pool.proofs.Facts.{Sound}
 use Rattle.pool.proofs.Kept.{owns}
-use Rattle.pool.proofs.Changes.{Numbers, numbers, own-taken, own-oldest, passed-sound}
-use Rattle.pool.proofs.Puts.{PutAt, put-at}
+use Rattle.pool.proofs.Changes.{numbers, own-taken, own-oldest, passed-sound}
+use Rattle.pool.proofs.Puts.{put-at}
 
 -- the first n words of buffer b, of m buffers of w words
 pub buffer-inside : (m w b n : ℕ) → b < m → n ≤ w → b * w + n ≤ m * w

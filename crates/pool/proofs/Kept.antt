@@ -1,22 +1,22 @@
 -- A sound file with something else in one of its buffers is sound, by what is put there. Assumes nothing.
-use mathlib.Core.Path.{_≡_, refl, sym, ap, subst, _∙_}
-use mathlib.Core.Bool.{Bool, true, false, not, cond, _&&_, _||_, and-comm}
-use Prim.Native.Nat.{ℕ, _+_, _-_, _%_, _≤_, _<_}
+use mathlib.Core.Path.{_≡_, refl, sym, _∙_}
+use mathlib.Core.Bool.{Bool, true, false, not, _&&_, and-comm}
+use Prim.Native.Nat.{ℕ, _+_, _-_, _≤_, _<_}
 use native.Mathlib.Nat.{mod-lt}
 use native.Mathlib.Omega.{arith}
-use borrow.Author.Tests.{leb-true, le-leb, eq-eqb}
+use borrow.Author.Tests.{le-leb, eq-eqb}
 use lib.Dec.{leb, ltb, eqb}
-use Rattle.area.proofs.Walks.{by-test, true-not-false, and-left, and-right, and-both}
+use Rattle.area.proofs.Walks.{by-test, true-not-false, and-right, and-both}
 use Rattle.area.proofs.Marks.{cond-true, cond-false, unless-so}
 use Rattle.files.specs.declared.Slot.{Slot}
-use Rattle.files.specs.declared.Slot.the-variants.{Empty, Taken, Part, Full}
+use Rattle.files.specs.declared.Slot.the-variants.{Empty, Full}
 use Rattle.files.specs.declared.Side.{Side}
 use Rattle.files.specs.declared.Side.the-variants.{Low, High, Neither}
 use Rattle.files.specs.declared.File.{File}
-use Rattle.files.specs.Slots.{isEmpty, isTaken, isPart, isFull, fullError}
+use Rattle.files.specs.Slots.{isEmpty, isTaken, isPart, isFull}
 use Rattle.files.specs.Sides.{slotAt, isSide, withSlot, blockNumbers, turnedBy, nextBlock, filledAt, emptiedAt}
-use Rattle.pool.specs.Soundness.{isNoBuffer, oneIf, takenCount, partsHeld, fullFits, partFits, placeFits, isUnread}
-use Rattle.pool.proofs.Facts.{slotFits, secondFits, Sound, Fits, fits}
+use Rattle.pool.specs.Soundness.{isNoBuffer, oneIf, takenCount, partsHeld}
+use Rattle.pool.proofs.Facts.{slotFits, Sound}
 
 -- the buffer beside k, and whether k is a buffer of the file
 abbrev pub other : File → Side → Slot

@@ -1,14 +1,14 @@
 -- The lowest free buffers that an open takes: what `lowestFree` finds is free, in the pool and the lowest; where one or two are free, they are found.
 -- Assumes nothing.
-use mathlib.Core.Path.{_≡_, refl, sym, ap, _∙_}
-use mathlib.Core.Bool.{Bool, true, false}
+use mathlib.Core.Path.{_≡_, sym, ap, _∙_}
+use mathlib.Core.Bool.{true, false}
 use mathlib.Core.List.{List}
 use Prim.Native.Nat.{ℕ, suc, _+_, _-_, _≤_, _<_}
 use native.Mathlib.Nat.{sub-zero}
 use native.Mathlib.Omega.{arith}
 use Rattle.area.specs.declared.Found.the-variants.{At}
 use Rattle.area.specs.Lists.{firstAlong, countAlong}
-use Rattle.area.proofs.Marks.{Counted, first-counted, first-lowest}
+use Rattle.area.proofs.Marks.{first-counted, first-lowest}
 use Rattle.files.specs.declared.File.{File}
 use Rattle.pool.specs.Free.{isFree, lowestFree, freeCount}
 

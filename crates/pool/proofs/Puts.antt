@@ -1,12 +1,12 @@
 -- Put on a sound output file: what it comes to, that its words fit, and that the file after it is sound. Assumes nothing.
 use mathlib.Core.Path.{_≡_, refl, sym, ap, subst, _∙_}
-use mathlib.Core.Bool.{Bool, true, false, not, cond, _&&_, _||_}
-use Prim.Native.Nat.{ℕ, _+_, _-_, _≤_, _<_}
+use mathlib.Core.Bool.{Bool, true, false, cond}
+use Prim.Native.Nat.{ℕ, _+_, _-_, _≤_}
 use native.Mathlib.Omega.{arith}
-use borrow.Author.Tests.{leb-true, le-leb, ltb-true, ltb-false}
+use borrow.Author.Tests.{le-leb, le-ltb, ltb-false}
 use lib.Dec.{leb, ltb}
-use Rattle.area.proofs.Walks.{by-test, true-not-false, and-both}
-use Rattle.area.proofs.Marks.{cond-true, cond-false}
+use Rattle.area.proofs.Walks.{true-not-false, and-both}
+use Rattle.area.proofs.Marks.{cond-true}
 use Rattle.files.specs.declared.Slot.{Slot}
 use Rattle.files.specs.declared.Slot.the-variants.{Empty, Taken, Part, Full}
 use Rattle.files.specs.declared.Side.{Side}
@@ -16,9 +16,9 @@ use Rattle.files.specs.Slots.{isEmpty, isPart, partWords}
 use Rattle.files.specs.Sides.{slotAt, isSide, lower, emptySide, partSide, withSlot, filledAt}
 use Rattle.files.specs.Output.{putSide, wordsAfter, added, partLength, isComplete, sealed, afterPut}
 use Rattle.files.proofs.Which.{lower-cases, empty-there, part-there}
-use Rattle.pool.specs.Soundness.{oneIf, partsHeld}
+use Rattle.pool.specs.Soundness.{oneIf}
 use Rattle.pool.proofs.Facts.{slotFits, Sound}
-use Rattle.pool.proofs.Kept.{other, owns, slot-fits, part-sides, owned-side, Change, changed, beside, filled}
+use Rattle.pool.proofs.Kept.{other, owns, slot-fits, part-sides, changed, beside, filled}
 use Rattle.pool.proofs.Changes.{own-empty, own-part, part-numbers, one-record, within}
 
 -- the buffer k that a put adds to: it is the file's, has room for r words, and the one beside it is not part-filled
@@ -155,3 +155,17 @@ put-sound m w f S o s = subst (Sound m w) (sym (put-is f s P)) (go (ltb (f .size
         part-slot : (b : Bool) (n : ℕ) → f .rlen ≤ n → n + f .rlen ≤ f .size → slotFits b (f .size) (f .rlen) (Part n) ≡ true
         part-slot true n h l = and-both _ true (and-both (leb (f .rlen) n) _ (le-leb (f .rlen) n h) (le-leb (n + f .rlen) (f .size) l)) refl
         part-slot false n h l = and-both _ true (and-both (leb (f .rlen) n) _ (le-leb (f .rlen) n h) (le-leb (n + f .rlen) (f .size) l)) refl
+
+-- a block is sealed by the put that leaves less than r of B, and not by the next: in a sound file no part-filled block has less than r left
+pub sealed-in-time : (m w : ℕ) (f : File) → Sound m w f → isComplete f ≡ false
+unfolding isComplete partLength
+sealed-in-time m w f S = le-ltb (f .size) (partWords (slotAt f (partSide f)) + f .rlen) (go (isSide (partSide f)) refl)
+  where
+    none : (k : Side) → isSide k ≡ false → partWords (slotAt f k) ≡ 0
+    none Low s = true-not-false refl s
+    none High s = true-not-false refl s
+    none Neither s = refl
+
+    go : (t : Bool) → isSide (partSide f) ≡ t → partWords (slotAt f (partSide f)) + f .rlen ≤ f .size
+    go true s = at-part m w f S s .fit
+    go false s = omega (arith, none (partSide f) s, within m w f S)

@@ -1,17 +1,17 @@
 -- The files with one of them replaced: by one that holds what the old one held, by one that is opened on free buffers and a free unit, by a
 -- closed one. Each keeps sound files sound. Assumes nothing.
 use mathlib.Core.Path.{_≡_, refl, sym, ap, ap₂, _∙_}
-use mathlib.Core.Bool.{Bool, true, false, not, cond, _&&_, _||_}
-use mathlib.Core.List.{List, [], _∷_}
-use Prim.Native.Nat.{ℕ, zero, suc, _+_, _≤_, _<_}
+use mathlib.Core.Bool.{Bool, true, false, not, _&&_, _||_}
+use mathlib.Core.List.{List}
+use Prim.Native.Nat.{ℕ, zero, suc, _<_}
 use native.Mathlib.Omega.{arith}
-use borrow.Author.Tests.{eqb-true, eq-eqb, not-true, not-false}
+use borrow.Author.Tests.{eqb-true, eq-eqb, not-true}
 use lib.Dec.{eqb}
 use lib.ListN.{length, getD, set, replicate}
 use Rattle.area.specs.declared.Found.{Found}
 use Rattle.area.specs.declared.Found.the-variants.{At, Nothing}
-use Rattle.area.specs.Lists.{anyOf, allOf, allPairs, firstAlong, along}
-use Rattle.area.proofs.Walks.{by-test, true-not-false, and-left, and-right, and-both, or-either, at-all, none-at}
+use Rattle.area.specs.Lists.{allOf, allPairs, along}
+use Rattle.area.proofs.Walks.{true-not-false, and-left, and-right, and-both, or-either, at-all, none-at}
 use Rattle.area.proofs.Firsts.{first-misses}
 use Rattle.area.proofs.Marks.{along-suc, all-set, pairs-set, pairs-alike}
 use Rattle.files.specs.declared.Slot.{Slot}

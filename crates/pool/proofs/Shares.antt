@@ -3,17 +3,17 @@
 use mathlib.Core.Path.{_≡_, refl, sym, ap, ap₂, _∙_}
 use mathlib.Core.Bool.{Bool, true, false, not, cond, _&&_, _||_}
 use mathlib.Core.List.{List, [], _∷_}
-use Prim.Native.Nat.{ℕ, zero, suc, _+_, _≤_, _<_}
+use Prim.Native.Nat.{ℕ, suc, _+_, _<_}
 use native.Mathlib.Omega.{arith}
-use borrow.Author.Tests.{ltb-true, eqb-true, eq-eqb, ne-eqb, not-true}
+use borrow.Author.Tests.{ltb-true, eqb-true, ne-eqb, not-true}
 use lib.Dec.{eqb, ltb}
-use Rattle.area.specs.Lists.{anyOf, allOf, allPairs, countOf, countAlong}
-use Rattle.area.proofs.Walks.{by-test, true-not-false, and-left, and-right, and-both, or-either, or-left, or-right}
-use Rattle.area.proofs.Marks.{cond-true, cond-false, count-rest, count-zero, count-either, count-one, any-none, count-alone}
+use Rattle.area.specs.Lists.{anyOf, allOf, allPairs, countAlong}
+use Rattle.area.proofs.Walks.{by-test, true-not-false, and-left, and-right, and-both, or-either}
+use Rattle.area.proofs.Marks.{cond-true, count-rest, count-zero, count-either, count-one, any-none, count-alone}
 use Rattle.files.specs.declared.File.{File}
 use Rattle.files.specs.Opening.{buffersFor}
-use Rattle.pool.specs.Free.{heldBy, isHeld, isFree, freeCount, serves, holders, holding, allHolding}
-use Rattle.pool.specs.Soundness.{isNoBuffer, shareBuffer, shareUnit, apart, fileSound, filesSound}
+use Rattle.pool.specs.Free.{heldBy, isHeld, isFree, freeCount, holders, holding, allHolding}
+use Rattle.pool.specs.Soundness.{isNoBuffer, shareBuffer, apart, fileSound, filesSound}
 use Rattle.pool.proofs.Facts.{Sound, facts}
 
 -- ---- two files that are apart

@@ -1,7 +1,7 @@
 -- "A state passed back by the caller is sound if ..": what that paragraph of document 01 says of files, clause by clause, in its order.
 -- Its clauses on units and requests are judged where the channels are known. Assumes nothing.
 use Prim.Native.Nat.{ℕ, _+_}
-use mathlib.Core.Bool.{Bool, true, false, not, cond, _&&_, _||_}
+use mathlib.Core.Bool.{Bool, true, not, cond, _&&_, _||_}
 use mathlib.Core.List.{List}
 use lib.Dec.{leb, ltb, eqb}
 use Rattle.area.specs.Lists.{allOf, allPairs}

@@ -143,9 +143,9 @@ moved m frozen c d u t l e F = record {
   here = start-alike d frozen u .0 ∙ same u (λ k. requested (k .turn) ≡ requested t) (with-here c u t l);
   known = start-alike d frozen u .1 ∙ same u (λ k. k .declared ≡ declaredAt c u) (with-declared c u t l u);
   others = λ y ne.
-    let o : Alike c y (unitAt d y) = same y (Alike c y) (with-others c u t l y ne) in
-    let a = start-alike d frozen y in
-    (a .0 ∙ o .0, a .1 ∙ o .1);
+      let o : Alike c y (unitAt d y) = same y (Alike c y) (with-others c u t l y ne) in
+      let a = start-alike d frozen y in
+      (a .0 ∙ o .0, a .1 ∙ o .1);
 }
   where
     same : (y : ℕ) (P : Unit → Type 0) → P (unitAt (withTurn c u t) y) → P (unitAt d y)

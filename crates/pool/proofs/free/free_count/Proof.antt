@@ -1,10 +1,10 @@
 -- `pool::free_count` meets its contract, branch by branch, from the contract of `is_held`. Assumes nothing.
 use native.Mathlib.Nat.{zero-add, sub-zero}
 use borrow.Author.Needs.{needs}
-use mathlib.Core.Path.{_≡_, refl, sym, ap, _∙_}
+use mathlib.Core.Path.{_≡_, sym, ap, _∙_}
 use mathlib.Core.Bool.{not}
 use mathlib.Core.Logic.{⊎-elim}
-use Prim.Native.Nat.{suc, _+_, _≤_, _<_, _-_}
+use Prim.Native.Nat.{suc, _+_, _≤_, _-_}
 use native.Mathlib.Omega.{arith}
 use Rattle.area.specs.Lists.{countAlong}
 use Rattle.area.proofs.Marks.{count-hit, count-miss, count-done}

@@ -1,3 +1,4 @@
+-- `state::unit_served` meets its contract, branch by branch, from the contracts of `requested`, `is_none` and `is_served`. Assumes nothing.
 use mathlib.Core.Path.{_≡_, refl, sym, ap, _∙_}
 use mathlib.Core.Bool.{Bool, _||_}
 use Rattle.state.specs.Judged.{unitServed}

@@ -1,3 +1,4 @@
+-- `state::file_ready` meets its contract, from the contracts of `fits_output`, `taken_count`, `read_count`, `is_write` and `has_full`. Assumes nothing.
 use Rattle.state.specs.Judged.{fileReady}
 use borrow.Author.Needs.{needs}
 use Rattle.state.proofs.fits.file_ready.Statement.{statement}

@@ -1,21 +1,15 @@
+-- `state::before_start` meets its contract, from the contracts of `fresh` and `closed_file`. Assumes nothing.
 use Rattle.state.specs.Places.{beforeStart}
 use borrow.Author.Needs.{needs}
 use Rattle.state.proofs.places.before_start.Statement.{statement}
 use Rattle.state.proofs.places.before_start.Tie as tie
-use Rattle.state.proofs.places.before_start.Reads as reads
-use Rattle.state.proofs.places.before_start.Lts as lts
-use Rattle.channel.proofs.fresh.Reads as fresh-reads
-use Rattle.files.proofs.closed_file.Reads as closed-file-reads
 
--- src/places.rt:16:9
 fresh-requires : tie.Need-fresh-requires
 fresh-requires c κs = search needs
 
--- src/places.rt:17:9
 closed-file-requires : tie.Need-closed-file-requires
 closed-file-requires c κs = search needs
 
--- src/places.rt:13:1
 returns : tie.Need-returns
 unfolding beforeStart
 returns c = simp (c .before .fresh .ensures, c .closed-file .ensures)
