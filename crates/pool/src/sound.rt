@@ -1,6 +1,8 @@
 // Whether one file is sound: document 01's paragraph on a state that is passed back, clause by clause.
+use files::BLOCK_NUMBERS;
 use files::Buffer;
 use files::File;
+use files::LAST_ERROR;
 use files::Slot;
 use files::full_error;
 use files::full_place;
@@ -24,7 +26,7 @@ fn in_range(w: u16, f: File) -> bool
     let sizes = sizes_fit(w, f.sequence, f.check, f.size, f.rlen);
     let a = full_error(x);
     let b = full_error(y);
-    sizes & ((f.block < 32768) & ((a <= 3) & (b <= 3)))
+    sizes & (((f.block as u32) < BLOCK_NUMBERS) & ((a <= LAST_ERROR) & (b <= LAST_ERROR)))
 }
 
 fn is_no_buffer(b: Buffer) -> bool
