@@ -1,0 +1,26 @@
+use borrow.Author.Needs.{needs}
+use Rattle.input.proofs.drops.skip_on.Statement.{statement}
+use Rattle.input.proofs.drops.skip_on.Tie as tie
+use Rattle.input.proofs.drops.skip_on.Reads as reads
+use Rattle.input.proofs.drops.skip_on.Lts as lts
+use Rattle.files.proofs.without_oldest.Reads as without-oldest-reads
+use Rattle.input.proofs.drops.skip_refusal.Reads as skip-refusal-reads
+
+-- src/drops.rt:33:9
+skip-refusal-requires : tie.Need-skip-refusal-requires
+skip-refusal-requires c κs = search needs
+
+-- src/drops.rt:35:9
+returns : tie.Need-returns
+returns c = ?
+
+-- src/drops.rt:40:9
+without-oldest-requires : tie.Need-without-oldest-requires
+without-oldest-requires c κs = search needs
+
+-- src/drops.rt:30:1
+returns-2 : tie.Need-returns-2
+returns-2 c = ?
+
+pub skip-on-spec : {M : Type 1} → statement M
+skip-on-spec = tie.close (tie.spec skip-refusal-requires returns without-oldest-requires returns-2)
