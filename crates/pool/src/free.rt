@@ -68,12 +68,12 @@ pub fn free_count(m: u8, files: [File; FILES]) -> usize
 {
     let end = m as usize;
     let mut n: usize = 0;
-    let mut b: usize = 0;
-    while b < end {
-        if !is_held(files, b) {
+    let mut at: usize = 0;
+    while at < end {
+        if !is_held(files, at) {
             n += 1;
         }
-        b += 1;
+        at += 1;
     }
     n
 }

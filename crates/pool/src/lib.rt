@@ -1,5 +1,6 @@
 // The files over one pool of buffers: which buffers are free, which file serves a unit, and when the files are sound, each by itself and
 // every two of them. It knows nothing of channels and requests, and only numbers the buffers.
+mod clauses;
 mod free;
 mod pairs;
 mod sound;
