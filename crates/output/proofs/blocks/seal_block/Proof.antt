@@ -1,3 +1,4 @@
+use Rattle.output.specs.Blocks.{sealedArea}
 use borrow.Author.Needs.{needs}
 use Rattle.output.proofs.blocks.seal_block.Statement.{statement}
 use Rattle.output.proofs.blocks.seal_block.Tie as tie
@@ -25,7 +26,8 @@ same-length c = search needs
 
 -- src/blocks.rt:59:1
 returns : tie.Need-returns
-returns c = ?
+unfolding sealedArea
+returns c = rw (← c .before .before .before .before .before .part-start .ensures .0, ← c .before .before .before .before .part-length .ensures) (c .before .before .seal-in .ensures)
 
 pub seal-block-spec : {M : Type 1} → statement M
 seal-block-spec =

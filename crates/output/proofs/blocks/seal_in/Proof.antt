@@ -1,3 +1,4 @@
+use Rattle.output.proofs.Seals.{sealed-past, sealed-rest, sealed-whole}
 use borrow.Author.Needs.{needs}
 use Rattle.output.proofs.blocks.seal_in.Statement.{statement}
 use Rattle.output.proofs.blocks.seal_in.Tie as tie
@@ -7,7 +8,7 @@ use Rattle.word.proofs.seal.Reads as seal-reads
 
 -- src/blocks.rt:48:9
 returns : tie.Need-returns
-returns c = ?
+returns c = sealed-past (c .before .before .args .n) (c .before .before .args .sequence) (c .before .before .args .check) (c .before .before .args .number) (c .before .before .args .at) (c .before .before .args .w) (c .before .before .args .area .now) (c .if1 .taken)
 
 -- src/blocks.rt:50:8
 sub-if2 : tie.Need-sub-if2
@@ -39,7 +40,7 @@ same-length c = search needs
 
 -- src/blocks.rt:52:9
 returns-2 : tie.Need-returns-2
-returns-2 c = ?
+returns-2 c = sealed-rest (c .before .before .before .before .before .before .before .args .n) (c .before .before .before .before .before .before .before .args .sequence) (c .before .before .before .before .before .before .before .args .check) (c .before .before .before .before .before .before .before .args .number) (c .before .before .before .before .before .before .before .args .at) (c .before .before .before .before .before .before .before .args .w) (c .before .before .before .before .before .before .before .args .area .now) (c .before .before .seal .last .0) (c .before .before .before .before .before .if1 .left) (c .before .before .before .before .if2 .taken) (c .before .before .seal .ensures .1)
 
 -- src/blocks.rt:54:15
 add-end : tie.Need-add-end
@@ -71,7 +72,7 @@ same-length-2 c = search needs
 
 -- src/blocks.rt:36:1
 returns-3 : tie.Need-returns-3
-returns-3 c = ?
+returns-3 c = sealed-whole (c .before .before .before .before .before .before .before .args .n) (c .before .before .before .before .before .before .before .args .sequence) (c .before .before .before .before .before .before .before .args .check) (c .before .before .before .before .before .before .before .args .number) (c .before .before .before .before .before .before .before .args .at) (c .before .before .before .before .before .before .before .args .w) (c .before .before .before .before .before .before .before .args .area .now) (c .before .before .seal2 .last .0) (c .before .before .before .before .before .if1 .left) (c .before .before .before .before .if2 .left) (c .before .before .seal2 .ensures .1)
 
 pub seal-in-spec : {M : Type 1} → statement M
 seal-in-spec =

@@ -1,3 +1,9 @@
+use mathlib.Core.Path.{sym, ap, _∙_}
+use mathlib.Core.Bool.{Bool, not, _&&_}
+use mathlib.Core.List.{List}
+use Rattle.area.specs.Lists.{allOf}
+use Rattle.area.specs.Parts.{isWord, partOf}
+use Rattle.output.specs.Blocks.{heldRight}
 use borrow.Author.Needs.{needs}
 use Rattle.output.proofs.blocks.sums_spoilt.Statement.{statement}
 use Rattle.output.proofs.blocks.sums_spoilt.Tie as tie
@@ -25,11 +31,11 @@ part-are-words-requires c κs = search needs
 
 -- src/blocks.rt:30:9
 returns : tie.Need-returns
-returns c = ?
+returns c = rw (c .before .before .before .if1 .taken, c .part-are-words .ensures, c .before .part-length .ensures, c .before .before .part-start .ensures .0)
 
 -- src/blocks.rt:23:1
 returns-2 : tie.Need-returns-2
-returns-2 c = ?
+returns-2 c = rw (c .if1 .left)
 
 pub sums-spoilt-spec : {M : Type 1} → statement M
 sums-spoilt-spec =

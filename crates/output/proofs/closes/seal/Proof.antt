@@ -1,3 +1,4 @@
+use Rattle.output.proofs.Steps.{seal-area, seal-state-kept, seal-state}
 use borrow.Author.Needs.{needs}
 use Rattle.output.proofs.closes.seal.Statement.{statement}
 use Rattle.output.proofs.closes.seal.Tie as tie
@@ -26,7 +27,7 @@ same-length c = search needs
 
 -- src/closes.rt:61:9
 returns : tie.Need-returns
-returns c = ?
+returns c = (seal-state-kept (c .before .before .before .before .before .before .before .before .before .args .s) (c .before .before .before .before .before .before .before .before .before .args .area .now) (c .before .before .before .before .before .before .before .before .before .args .file) (c .before .before .before .before .before .before .before .is-misused .result) (c .before .before .before .before .before .before .file-at .result) (c .before .before .before .before .before .before .before .is-misused .ensures) (c .before .before .before .before .before .before .file-at .ensures) (c .before .before .before .before .seal-on .result) (c .before .before .before .before .seal-on .ensures .0) (c .if1 .taken), seal-area (c .before .before .before .before .before .before .before .before .before .args .s) (c .before .before .before .before .before .before .before .before .before .args .area .now) (c .before .before .before .before .before .before .before .before .before .args .file) (c .before .before .before .before .before .before .before .is-misused .result) (c .before .before .before .before .before .before .file-at .result) (c .before .before .before .before .before .before .before .is-misused .ensures) (c .before .before .before .before .before .before .file-at .ensures) (c .before .before .before .before .seal-on .result) (c .before .before .before .before .seal-on .ensures .0) _ (c .before .before .before .before .seal-on .ensures .1))
 
 -- src/closes.rt:67:9
 with-file-requires : tie.Need-with-file-requires
@@ -38,7 +39,7 @@ same-length-2 c = search needs
 
 -- src/closes.rt:53:1
 returns-2 : tie.Need-returns-2
-returns-2 c = ?
+returns-2 c = (seal-state (c .before .before .before .before .before .before .before .before .before .before .before .args .s) (c .before .before .before .before .before .before .before .before .before .before .before .args .area .now) (c .before .before .before .before .before .before .before .before .before .before .before .args .file) (c .before .before .before .before .before .before .before .before .before .is-misused .result) (c .before .before .before .before .before .before .before .before .file-at .result) (c .before .before .before .before .before .before .before .before .before .is-misused .ensures) (c .before .before .before .before .before .before .before .before .file-at .ensures) (c .before .before .before .before .before .before .seal-on .result) (c .before .before .before .before .before .before .seal-on .ensures .0) (c .before .before .if1 .left) (c .with-file .result) (c .with-file .ensures), seal-area (c .before .before .before .before .before .before .before .before .before .before .before .args .s) (c .before .before .before .before .before .before .before .before .before .before .before .args .area .now) (c .before .before .before .before .before .before .before .before .before .before .before .args .file) (c .before .before .before .before .before .before .before .before .before .is-misused .result) (c .before .before .before .before .before .before .before .before .file-at .result) (c .before .before .before .before .before .before .before .before .before .is-misused .ensures) (c .before .before .before .before .before .before .before .before .file-at .ensures) (c .before .before .before .before .before .before .seal-on .result) (c .before .before .before .before .before .before .seal-on .ensures .0) _ (c .before .before .before .before .before .before .seal-on .ensures .1))
 
 pub seal-spec : {M : Type 1} → statement M
 seal-spec =

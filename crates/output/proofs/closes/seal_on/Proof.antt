@@ -1,3 +1,4 @@
+use Rattle.output.proofs.Steps.{seal-refused, seal-taken}
 use borrow.Author.Needs.{needs}
 use Rattle.output.proofs.closes.seal_on.Statement.{statement}
 use Rattle.output.proofs.closes.seal_on.Tie as tie
@@ -17,7 +18,7 @@ same-length c = search needs
 
 -- src/closes.rt:39:9
 returns : tie.Need-returns
-returns c = ?
+returns c = seal-refused (c .before .before .before .before .args .c1) (c .before .before .before .before .args .f) (c .before .before .before .before .args .w) (c .before .before .before .before .args .area .now) (c .before .seal-refusal .result) (c .before .seal-refusal .ensures) (c .if1 .taken)
 
 -- src/closes.rt:44:5
 seal-block-requires : tie.Need-seal-block-requires
@@ -33,7 +34,7 @@ same-length-2 c = search needs
 
 -- src/closes.rt:33:1
 returns-2 : tie.Need-returns-2
-returns-2 c = ?
+returns-2 c = seal-taken (c .before .before .before .before .before .before .before .before .before .args .c1) (c .before .before .before .before .before .before .before .before .before .args .f) (c .before .before .before .before .before .before .before .before .before .args .w) (c .before .before .before .before .before .before .before .before .before .args .area .now) (c .before .before .before .before .before .before .seal-refusal .result) (c .before .before .before .before .before .before .seal-refusal .ensures) (c .before .before .before .before .before .if1 .left) (c .sealed .result) _ (c .sealed .ensures) (c .before .before .before .seal-block .ensures)
 
 pub seal-on-spec : {M : Type 1} → statement M
 seal-on-spec =

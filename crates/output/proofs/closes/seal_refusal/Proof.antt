@@ -1,3 +1,5 @@
+use mathlib.Core.Path.{refl, _∙_}
+use Rattle.output.proofs.Steps.{seal-rows}
 use borrow.Author.Needs.{needs}
 use Rattle.output.proofs.closes.seal_refusal.Statement.{statement}
 use Rattle.output.proofs.closes.seal_refusal.Tie as tie
@@ -21,7 +23,7 @@ lowest-of-requires c κs = search needs
 
 -- src/closes.rt:18:1
 returns : tie.Need-returns
-returns c = ?
+returns c = c .lowest-of .ensures ∙ seal-rows (c .before .before .before .before .before .before .before .before .before .args .c1) (c .before .before .before .before .before .before .before .has-part .result) _ (c .before .before .before .sums-spoilt .result) (c .before .before .before .before .before .before .before .before .before .args .f) (c .before .before .before .before .before .before .before .before .before .args .w) (c .before .before .before .before .before .before .before .before .before .args .area .now) (c .before .before .before .before .before .before .before .has-part .ensures) refl (c .before .before .before .sums-spoilt .ensures)
 
 pub seal-refusal-spec : {M : Type 1} → statement M
 seal-refusal-spec =

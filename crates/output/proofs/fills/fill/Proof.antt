@@ -1,3 +1,5 @@
+use mathlib.Core.Path.{ap, _∙_}
+use Rattle.output.specs.Put.{filledArea}
 use borrow.Author.Needs.{needs}
 use Rattle.output.proofs.fills.fill.Statement.{statement}
 use Rattle.output.proofs.fills.fill.Tie as tie
@@ -20,7 +22,8 @@ same-length c = search needs
 
 -- src/fills.rt:51:1
 returns : tie.Need-returns
-returns c = ?
+unfolding filledArea
+returns c = rw (← c .before .before .before .before .put-start .ensures .0) (c .before .before .copy-in .ensures .1)
 
 pub fill-spec : {M : Type 1} → statement M
 fill-spec = tie.close (tie.spec put-start-requires copy-in-requires same-length returns)

@@ -1,3 +1,5 @@
+use mathlib.Core.Path.{ap, _∙_}
+use Rattle.files.specs.Output.{isComplete}
 use borrow.Author.Needs.{needs}
 use Rattle.output.proofs.fills.is_summed.Statement.{statement}
 use Rattle.output.proofs.fills.is_summed.Tie as tie
@@ -25,7 +27,7 @@ cast-fits c = search needs
 
 -- src/fills.rt:21:1
 returns : tie.Need-returns
-returns c = ?
+returns c = rw (c .before .before .before .before .before .before .has-room .ensures, c .before .before .before .before .is-complete .ensures, c .before .before .before .before .before .added .ensures)
 
 pub is-summed-spec : {M : Type 1} → statement M
 is-summed-spec =

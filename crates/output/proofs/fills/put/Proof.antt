@@ -1,3 +1,4 @@
+use Rattle.output.proofs.Steps.{put-area, put-state-kept, put-state}
 use borrow.Author.Needs.{needs}
 use Rattle.output.proofs.fills.put.Statement.{statement}
 use Rattle.output.proofs.fills.put.Tie as tie
@@ -26,7 +27,7 @@ same-length c = search needs
 
 -- src/fills.rt:95:9
 returns : tie.Need-returns
-returns c = ?
+returns c = (put-state-kept (c .before .before .before .before .before .before .before .before .before .before .args .s) (c .before .before .before .before .before .before .before .before .before .before .args .area .now) (c .before .before .before .before .before .before .before .before .before .before .args .file) (c .before .before .before .before .before .before .before .is-misused .result) (c .before .before .before .before .before .before .file-at .result) (c .before .before .before .before .before .before .before .is-misused .ensures) (c .before .before .before .before .before .before .file-at .ensures) (c .before .before .before .before .before .before .before .before .before .before .args .words .now) (c .before .before .before .before .put-on .result) (c .before .before .before .before .put-on .ensures .0) (c .if1 .taken), put-area (c .before .before .before .before .before .before .before .before .before .before .args .s) (c .before .before .before .before .before .before .before .before .before .before .args .area .now) (c .before .before .before .before .before .before .before .before .before .before .args .file) (c .before .before .before .before .before .before .before .is-misused .result) (c .before .before .before .before .before .before .file-at .result) (c .before .before .before .before .before .before .before .is-misused .ensures) (c .before .before .before .before .before .before .file-at .ensures) (c .before .before .before .before .before .before .before .before .before .before .args .words .now) (c .before .before .before .before .put-on .result) (c .before .before .before .before .put-on .ensures .0) _ (c .before .before .before .before .put-on .ensures .1))
 
 -- src/fills.rt:101:9
 with-file-requires : tie.Need-with-file-requires
@@ -38,7 +39,7 @@ same-length-2 c = search needs
 
 -- src/fills.rt:87:1
 returns-2 : tie.Need-returns-2
-returns-2 c = ?
+returns-2 c = (put-state (c .before .before .before .before .before .before .before .before .before .before .before .before .args .s) (c .before .before .before .before .before .before .before .before .before .before .before .before .args .area .now) (c .before .before .before .before .before .before .before .before .before .before .before .before .args .file) (c .before .before .before .before .before .before .before .before .before .is-misused .result) (c .before .before .before .before .before .before .before .before .file-at .result) (c .before .before .before .before .before .before .before .before .before .is-misused .ensures) (c .before .before .before .before .before .before .before .before .file-at .ensures) (c .before .before .before .before .before .before .before .before .before .before .before .before .args .words .now) (c .before .before .before .before .before .before .put-on .result) (c .before .before .before .before .before .before .put-on .ensures .0) (c .before .before .if1 .left) (c .with-file .result) (c .with-file .ensures), put-area (c .before .before .before .before .before .before .before .before .before .before .before .before .args .s) (c .before .before .before .before .before .before .before .before .before .before .before .before .args .area .now) (c .before .before .before .before .before .before .before .before .before .before .before .before .args .file) (c .before .before .before .before .before .before .before .before .before .is-misused .result) (c .before .before .before .before .before .before .before .before .file-at .result) (c .before .before .before .before .before .before .before .before .before .is-misused .ensures) (c .before .before .before .before .before .before .before .before .file-at .ensures) (c .before .before .before .before .before .before .before .before .before .before .before .before .args .words .now) (c .before .before .before .before .before .before .put-on .result) (c .before .before .before .before .before .before .put-on .ensures .0) _ (c .before .before .before .before .before .before .put-on .ensures .1))
 
 pub put-spec : {M : Type 1} → statement M
 put-spec =

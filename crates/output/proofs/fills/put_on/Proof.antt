@@ -1,3 +1,5 @@
+use mathlib.Core.Path.{sym, _∙_}
+use Rattle.output.proofs.Steps.{put-refused, put-complete, put-open}
 use borrow.Author.Needs.{needs}
 use Rattle.output.proofs.fills.put_on.Statement.{statement}
 use Rattle.output.proofs.fills.put_on.Tie as tie
@@ -20,7 +22,7 @@ same-length c = search needs
 
 -- src/fills.rt:65:9
 returns : tie.Need-returns
-returns c = ?
+returns c = put-refused (c .before .before .before .before .before .args .c1) (c .before .before .before .before .before .args .f) (c .before .before .before .before .before .args .w) (c .before .before .before .before .before .args .area .now) (c .before .before .before .before .before .args .words .now) (c .before .put-refusal .result) (c .before .put-refusal .ensures) (c .if1 .taken)
 
 -- src/fills.rt:70:5
 fill-requires : tie.Need-fill-requires
@@ -48,7 +50,7 @@ same-length-2 c = search needs
 
 -- src/fills.rt:75:9
 returns-2 : tie.Need-returns-2
-returns-2 c = ?
+returns-2 c = put-complete (c .before .before .before .before .before .before .before .before .before .before .before .before .before .before .before .before .before .args .c1) (c .before .before .before .before .before .before .before .before .before .before .before .before .before .before .before .before .before .args .f) (c .before .before .before .before .before .before .before .before .before .before .before .before .before .before .before .before .before .args .w) (c .before .before .before .before .before .before .before .before .before .before .before .before .before .before .before .before .before .args .area .now) (c .before .before .before .before .before .before .before .before .before .before .before .before .before .before .before .before .before .args .words .now) (c .before .before .before .before .before .before .before .before .before .before .before .before .before .put-refusal .result) (c .before .before .before .before .before .before .before .before .before .before .before .before .before .put-refusal .ensures) (c .before .before .before .before .before .before .before .before .before .before .before .before .if1 .left) (c .before .before .before .before .before .before .before .added .result) (c .before .before .before .before .before .before .is-complete .result) _ (c .before .before .before .before .before .before .before .before .before .before .fill .ensures) (c .before .before .before .before .before .before .before .added .ensures) (c .before .before .before .before .before .before .is-complete .ensures) (c .before .before .before .before .before .if2 .taken) (c .sealed .result) _ (c .before .before .before .seal-block .ensures) (c .sealed .ensures)
 
 -- src/fills.rt:59:1
 same-length-3 : tie.Need-same-length-3
@@ -56,7 +58,7 @@ same-length-3 c = search needs
 
 -- src/fills.rt:59:1
 returns-3 : tie.Need-returns-3
-returns-3 c = ?
+returns-3 c = put-open (c .before .before .before .before .before .before .before .before .before .before .before .before .args .c1) (c .before .before .before .before .before .before .before .before .before .before .before .before .args .f) (c .before .before .before .before .before .before .before .before .before .before .before .before .args .w) (c .before .before .before .before .before .before .before .before .before .before .before .before .args .area .now) (c .before .before .before .before .before .before .before .before .before .before .before .before .args .words .now) (c .before .before .before .before .before .before .before .before .put-refusal .result) (c .before .before .before .before .before .before .before .before .put-refusal .ensures) (c .before .before .before .before .before .before .before .if1 .left) (c .before .before .added .result) (c .before .is-complete .result) _ (c .before .before .before .before .before .fill .ensures) (c .before .before .added .ensures) (c .before .is-complete .ensures) (c .if2 .left)
 
 pub put-on-spec : {M : Type 1} → statement M
 put-on-spec =

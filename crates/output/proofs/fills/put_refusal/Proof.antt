@@ -1,3 +1,5 @@
+use mathlib.Core.Path.{_∙_}
+use Rattle.output.proofs.Steps.{put-rows}
 use borrow.Author.Needs.{needs}
 use Rattle.output.proofs.fills.put_refusal.Statement.{statement}
 use Rattle.output.proofs.fills.put_refusal.Tie as tie
@@ -35,7 +37,7 @@ lowest-of-requires c κs = search needs
 
 -- src/fills.rt:32:1
 returns : tie.Need-returns
-returns c = ?
+returns c = c .lowest-of .ensures ∙ put-rows (c .before .before .before .before .before .before .before .before .before .before .args .c1) (c .before .before .before .before .before .before .before .are-words .result) (c .before .before .before .before .before .before .is-summed .result) (c .before .before .before .before .before .sums-spoilt .result) (c .before .before .before .before .has-room .result) (c .before .before .before .before .before .before .before .before .before .before .args .f) (c .before .before .before .before .before .before .before .before .before .before .args .w) (c .before .before .before .before .before .before .before .before .before .before .args .area .now) (c .before .before .before .before .before .before .before .before .before .before .args .words .now) (c .before .before .before .before .before .before .before .are-words .ensures) (c .before .before .before .before .before .before .is-summed .ensures) (c .before .before .before .before .before .sums-spoilt .ensures) (c .before .before .before .before .has-room .ensures)
 
 pub put-refusal-spec : {M : Type 1} → statement M
 put-refusal-spec =
