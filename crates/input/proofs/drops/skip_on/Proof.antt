@@ -1,3 +1,4 @@
+use Rattle.input.proofs.Steps.{skip-refused, skip-taken}
 use borrow.Author.Needs.{needs}
 use Rattle.input.proofs.drops.skip_on.Statement.{statement}
 use Rattle.input.proofs.drops.skip_on.Tie as tie
@@ -12,7 +13,7 @@ skip-refusal-requires c κs = search needs
 
 -- src/drops.rt:35:9
 returns : tie.Need-returns
-returns c = ?
+returns c = skip-refused (c .before .before .args .c1) (c .before .before .args .f) (c .before .skip-refusal .result) (c .before .skip-refusal .ensures) (c .if1 .taken)
 
 -- src/drops.rt:40:9
 without-oldest-requires : tie.Need-without-oldest-requires
@@ -20,7 +21,7 @@ without-oldest-requires c κs = search needs
 
 -- src/drops.rt:30:1
 returns-2 : tie.Need-returns-2
-returns-2 c = ?
+returns-2 c = skip-taken (c .before .before .before .args .c1) (c .before .before .before .args .f) (c .before .before .skip-refusal .result) (c .before .before .skip-refusal .ensures) (c .before .if1 .left) (c .without-oldest .result) (c .without-oldest .ensures)
 
 pub skip-on-spec : {M : Type 1} → statement M
 skip-on-spec = tie.close (tie.spec skip-refusal-requires returns without-oldest-requires returns-2)

@@ -1,3 +1,5 @@
+use mathlib.Core.Path.{_∙_}
+use Rattle.input.proofs.Steps.{skip-rows}
 use borrow.Author.Needs.{needs}
 use Rattle.input.proofs.drops.skip_refusal.Statement.{statement}
 use Rattle.input.proofs.drops.skip_refusal.Tie as tie
@@ -16,7 +18,7 @@ lowest-of-requires c κs = search needs
 
 -- src/drops.rt:17:1
 returns : tie.Need-returns
-returns c = ?
+returns c = c .lowest-of .ensures ∙ skip-rows (c .before .before .before .args .c1) (c .before .before .has-full .result) (c .before .before .before .args .f) (c .before .before .has-full .ensures)
 
 pub skip-refusal-spec : {M : Type 1} → statement M
 skip-refusal-spec = tie.close (tie.spec has-full-requires lowest-of-requires returns)

@@ -1,3 +1,5 @@
+use mathlib.Core.Path.{_∙_}
+use Rattle.input.proofs.Steps.{get-rows}
 use borrow.Author.Needs.{needs}
 use Rattle.input.proofs.finds.get_refusal.Statement.{statement}
 use Rattle.input.proofs.finds.get_refusal.Tie as tie
@@ -21,7 +23,7 @@ lowest-of-requires c κs = search needs
 
 -- src/finds.rt:38:1
 returns : tie.Need-returns
-returns c = ?
+returns c = c .lowest-of .ensures ∙ get-rows (c .before .before .before .before .before .before .before .args .c1) (c .before .before .before .before .are-words .result) (c .before .before .before .before .before .before .before .args .f) (c .before .before .before .before .before .before .before .args .g) (c .before .before .before .before .before .before .before .args .area .now) _ (c .before .before .before .before .before .got-words .ensures) (c .before .before .before .before .are-words .ensures)
 
 pub get-refusal-spec : {M : Type 1} → statement M
 get-refusal-spec =

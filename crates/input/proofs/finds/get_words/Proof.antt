@@ -1,3 +1,4 @@
+use Rattle.input.proofs.Steps.{get-shown}
 use borrow.Author.Needs.{needs}
 use Rattle.input.proofs.finds.get_words.Statement.{statement}
 use Rattle.input.proofs.finds.get_words.Tie as tie
@@ -26,7 +27,7 @@ got-words-requires c κs = search needs
 
 -- src/finds.rt:97:1
 returns : tie.Need-returns
-returns c = ?
+returns c = get-shown (c .before .before .before .before .before .args .s) (c .before .before .before .before .before .args .area .now) (c .before .before .before .before .before .args .file) (c .before .before .before .is-misused .result) (c .before .before .file-at .result) (c .before .before .before .is-misused .ensures) (c .before .before .file-at .ensures) (c .before .get-on .result) (c .before .get-on .ensures) _ (c .got-words .ensures)
 
 pub get-words-spec : {M : Type 1} → statement M
 get-words-spec =

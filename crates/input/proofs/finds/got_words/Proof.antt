@@ -21,7 +21,7 @@ part-requires c κs = search needs
 
 -- src/finds.rt:29:1
 returns : tie.Need-returns
-returns c = ?
+returns c = rw (← c .before .before .got-start .ensures, ← c .before .got-words .ensures) (c .part .ensures)
 
 pub got-words-spec : {M : Type 1} → statement M
 got-words-spec = tie.close (tie.spec got-start-requires got-words-requires part-requires returns)

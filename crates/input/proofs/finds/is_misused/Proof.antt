@@ -16,7 +16,7 @@ is-sound-requires c κs = search needs
 
 -- src/finds.rt:20:1
 returns : tie.Need-returns
-returns c = ?
+returns c = simp (c .before .area-short .ensures, c .is-sound .ensures)
 
 pub is-misused-spec : {M : Type 1} → statement M
 is-misused-spec = tie.close (tie.spec area-short-requires is-sound-requires returns)
