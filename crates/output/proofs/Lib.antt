@@ -1,2 +1,5 @@
 pub mod Seals
 pub mod Steps
+pub mod Written
+pub mod Buffers
+pub mod Fillings
