@@ -2,36 +2,32 @@
 -- it answers is what get finds in the file. Assumes nothing.
 use mathlib.Core.Path.{_≡_, refl, sym, ap, subst, _∙_}
 use mathlib.Core.Logic.{_≢_}
-use mathlib.Core.Bool.{Bool, true, false, not, cond, _&&_, _||_}
+use mathlib.Core.Bool.{Bool, true, false, not, cond, _&&_}
 use mathlib.Core.List.{List, []}
-use Prim.Native.Nat.{ℕ, _+_, _*_, _≤_, _<_}
+use Prim.Native.Nat.{ℕ, _+_, _*_, _≤_}
 use native.Mathlib.Nat.{le-trans}
-use native.Mathlib.Omega.{arith}
 use borrow.Author.Tests.{eqb-true, ltb-false, ne-eqb, not-false}
 use lib.Dec.{ltb, eqb}
-use lib.ListN.{length, getD, set}
+use lib.ListN.{length}
 use lib.Seq.{getD-set-same, getD-set-other}
 use Rattle.area.specs.Lists.{allOf}
 use Rattle.area.specs.Parts.{isWord}
 use Rattle.area.specs.Refusals.{Rows, lowest}
-use Rattle.area.proofs.Walks.{by-test, or-left, or-right, true-not-false}
+use Rattle.area.proofs.Walks.{or-left, or-right, true-not-false}
 use Rattle.area.proofs.Exactly.{Exactly, NoneApplies, here, later, exactly}
 use Rattle.files.specs.declared.File.{File}
 use Rattle.files.specs.Opening.{closedFile}
 use Rattle.gets.specs.declared.Got.{Got}
 use Rattle.gets.specs.Gets.{getFrom, gotStart, gotWords}
 use Rattle.gets.specs.Histories.{shown, get}
-use Rattle.pool.proofs.Facts.{Sound}
 use Rattle.pool.proofs.Changes.{get-sound}
 use Rattle.pool.proofs.Events.{event-alike}
 use Rattle.pool.proofs.Inside.{get-inside}
-use Rattle.pool.proofs.Replaced.{Alike}
 use Rattle.state.specs.declared.State.{State}
 use Rattle.state.specs.Places.{fileAt, withFile, areaShort}
 use Rattle.state.specs.Soundness.{sound, requestOf}
 use Rattle.state.proofs.Facts.{SoundFacts, sound-facts, facts-sound}
 use Rattle.state.proofs.Kept.{file-kept, place-of}
-use Rattle.input.specs.declared.Getting.{Getting}
 use Rattle.input.specs.Get.{misused, givesOut, getRows, getRefusal, noAnswer, getOn, getChange, getBy, getWords}
 use Rattle.input.proofs.Ready.{get-taken, input-ready, holdings}
 

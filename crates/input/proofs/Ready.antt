@@ -1,22 +1,20 @@
 -- What get and skip do to an input file leaves it ready for what is requested of its unit: a buffer that a read has taken stays taken.
 -- Assumes nothing.
-use mathlib.Core.Path.{_≡_, refl, sym, ap, ap₂, subst, _∙_}
-use mathlib.Core.Bool.{Bool, true, false, not, cond, _&&_, _||_}
-use mathlib.Core.List.{List}
+use mathlib.Core.Path.{_≡_, refl, sym, ap, _∙_}
+use mathlib.Core.Bool.{Bool, true, false, not, cond, _||_}
 use Prim.Native.Nat.{ℕ, _+_}
 use lib.Dec.{eqb}
-use Rattle.area.proofs.Walks.{true-not-false, and-left, and-right, and-both}
-use Rattle.channel.specs.declared.Op.{Op}
+use Rattle.area.proofs.Walks.{and-left, and-right, and-both}
 use Rattle.channel.specs.declared.Op.the-variants.{Read, Write, Mark}
 use Rattle.channel.specs.declared.Work.{Work}
 use Rattle.channel.specs.declared.Work.the-variants.{At, Nothing}
 use Rattle.files.specs.declared.Slot.{Slot}
-use Rattle.files.specs.declared.Slot.the-variants.{Empty, Taken, Part, Full}
+use Rattle.files.specs.declared.Slot.the-variants.{Empty}
 use Rattle.files.specs.declared.Side.{Side}
 use Rattle.files.specs.declared.Side.the-variants.{Low, High, Neither}
 use Rattle.files.specs.declared.File.{File}
 use Rattle.files.specs.Slots.{isTaken}
-use Rattle.files.specs.Sides.{slotAt, isSide, oldest, withSlot, emptiedAt, withoutOldest}
+use Rattle.files.specs.Sides.{slotAt, oldest, withSlot, emptiedAt, withoutOldest}
 use Rattle.files.specs.Input.{hasFull}
 use Rattle.files.proofs.Ages.{Aged, noBlock, old, aged}
 use Rattle.gets.specs.Gets.{isUsedUp, passed, lookedAt, slotAfter, afterFound, getFrom}

@@ -1,13 +1,12 @@
 -- Skip: exactly when it is refused, that a refusal changes nothing, that a sound state stays sound, that nothing else is touched, and that it
 -- drops the oldest full block. Assumes nothing.
-use mathlib.Core.Path.{_≡_, refl, sym, ap, subst, _∙_}
+use mathlib.Core.Path.{_≡_, refl, sym, ap, _∙_}
 use mathlib.Core.Logic.{_≢_}
-use mathlib.Core.Bool.{Bool, true, false, not, cond, _||_}
-use mathlib.Core.List.{List}
+use mathlib.Core.Bool.{Bool, true, false, not, cond}
 use Prim.Native.Nat.{ℕ}
 use borrow.Author.Tests.{eqb-true, ne-eqb, not-false}
 use lib.Dec.{ltb, eqb}
-use lib.ListN.{length, getD, set, drop}
+use lib.ListN.{drop}
 use lib.Seq.{getD-set-same, getD-set-other}
 use Rattle.area.specs.Refusals.{Rows, lowest}
 use Rattle.area.proofs.Walks.{or-right, true-not-false}

@@ -1,6 +1,6 @@
 -- What each call does, step by step as its code goes, comes to its definition. Assumes nothing.
-use mathlib.Core.Path.{_≡_, refl, sym, ap, ap₂, _∙_}
-use mathlib.Core.Bool.{Bool, true, false, not, cond, _&&_, _||_}
+use mathlib.Core.Path.{_≡_, ap, ap₂, _∙_}
+use mathlib.Core.Bool.{Bool, false, not, cond, _&&_}
 use mathlib.Core.List.{List, [], _∷_}
 use Prim.Native.Nat.{ℕ}
 use borrow.Author.Tests.{ne-eqb}
@@ -22,7 +22,7 @@ use Rattle.input.specs.declared.GetChange.{GetChange}
 use Rattle.input.specs.declared.Getting.{Getting}
 use Rattle.input.specs.declared.SkipChange.{SkipChange}
 use Rattle.input.specs.declared.Skipping.{Skipping}
-use Rattle.input.specs.Get.{misused, givesOut, getRows, getRefusal, noAnswer, getOn, getChange, getBy, getWords}
+use Rattle.input.specs.Get.{misused, getRows, getRefusal, noAnswer, getOn, getChange, getBy, getWords}
 use Rattle.input.specs.Skip.{skipMisused, skipRows, skipRefusal, skipOn, skipChange, skipBy}
 
 -- ---- the refusal: rows that the call does not have are false

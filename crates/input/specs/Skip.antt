@@ -1,7 +1,7 @@
 -- Skip (document 01, "Refusal numbers", and "Files and buffers", Input). Assumes nothing.
 use Prim.Native.Nat.{ℕ}
 use mathlib.Core.Bool.{Bool, not, cond, _||_}
-use mathlib.Core.List.{List, [], _∷_}
+use mathlib.Core.List.{[], _∷_}
 use lib.Dec.{ltb, eqb}
 use Rattle.area.specs.Refusals.{Rows, lowest}
 use Rattle.files.specs.declared.File.{File}

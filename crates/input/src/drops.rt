@@ -22,7 +22,20 @@ fn skip_refusal(c1: bool, f: File) -> u8
     let c6 = f.output;
     let c9 = !full;
     lowest_of(
-        c1, false, false, false, c5, c6, false, false, c9, false, false, false, false, false,
+        c1,
+        false,
+        false,
+        false,
+        c5,
+        c6,
+        false,
+        false,
+        c9,
+        false,
+        false,
+        false,
+        false,
+        false,
     )
 }
 

@@ -43,7 +43,20 @@ fn get_refusal(c1: bool, f: File, g: Got, area: &[u64]) -> u8
     let c5 = !f.opened;
     let c6 = f.output;
     lowest_of(
-        c1, c2, false, false, c5, c6, false, false, false, false, false, false, false, false,
+        c1,
+        c2,
+        false,
+        false,
+        c5,
+        c6,
+        false,
+        false,
+        false,
+        false,
+        false,
+        false,
+        false,
+        false,
     )
 }
 

@@ -4,14 +4,14 @@
 mod drops;
 mod finds;
 
+pub use drops::skip;
+pub use drops::skip_on;
 use files::File;
 pub use finds::get;
 pub use finds::get_on;
 pub use finds::get_words;
 pub use finds::got_words;
 use gets::Got;
-pub use drops::skip;
-pub use drops::skip_on;
 use state::State;
 
 // What get answers: the refusal, or 0 and then what it found; and the state after it.

@@ -1,18 +1,16 @@
 -- The buffer of a sound file that a put adds to and a seal closes: where it lies in the area, and what it holds after the words are added.
 -- Assumes nothing.
-use mathlib.Core.Path.{_≡_, refl, sym, ap, ap₂, subst, _∙_}
-use mathlib.Core.Bool.{Bool, true, false, not, cond, _&&_, _||_}
-use mathlib.Core.List.{List, []}
-use Prim.Native.Nat.{ℕ, suc, _+_, _*_, _≤_, _<_}
+use mathlib.Core.Path.{_≡_, refl, sym, ap, _∙_}
+use mathlib.Core.Bool.{Bool, true, false}
+use mathlib.Core.List.{List}
+use Prim.Native.Nat.{ℕ, _+_, _*_, _≤_, _<_}
 use native.Mathlib.Decide.{decLt}
 use native.Mathlib.Nat.{mul-le-mul-right, suc-mul}
 use native.Mathlib.Omega.{arith}
 use borrow.Author.Tests.{le-leb}
-use lib.Dec.{leb}
-use lib.ListN.{length, take}
 use Rattle.area.specs.Lists.{allOf}
 use Rattle.area.specs.Parts.{isWord, partOf}
-use Rattle.area.proofs.Walks.{by-test, true-not-false}
+use Rattle.area.proofs.Walks.{true-not-false}
 use Rattle.area.proofs.Marks.{cond-true, cond-false}
 use Rattle.files.specs.declared.Slot.{Slot}
 use Rattle.files.specs.declared.Slot.the-variants.{Empty, Taken, Part, Full}
@@ -23,9 +21,9 @@ use Rattle.files.specs.Slots.{isEmpty, isPart, partWords}
 use Rattle.files.specs.Sides.{bufferAt, slotAt, startAt, isSide, lower, emptySide, partSide, withSlot}
 use Rattle.files.specs.Opening.{extra}
 use Rattle.files.specs.Output.{putSide, wordsAfter, added, partStart, partLength}
-use Rattle.files.proofs.Which.{lower-cases, empty-there}
+use Rattle.files.proofs.Which.{empty-there}
 use Rattle.pool.proofs.Facts.{Sound}
-use Rattle.pool.proofs.Kept.{other, owns, owned-side}
+use Rattle.pool.proofs.Kept.{other}
 use Rattle.pool.proofs.Changes.{one-record}
 use Rattle.pool.proofs.Puts.{PutAt, put-at}
 use Rattle.pool.proofs.Inside.{put-inside, size-fits}
@@ -87,7 +85,7 @@ part-now f Neither n s a = true-not-false s refl
 
 sealed-at : (w : ℕ) (f : File) (k : Side) (n : ℕ) (xs : List ℕ) → isSide k ≡ true
     → sealedIn (startAt (withSlot f k (Part n) false (f .block)) w k) w (partWords (slotAt (withSlot f k (Part n) false (f .block)) k))
-      (withSlot f k (Part n) false (f .block) .sequence) (withSlot f k (Part n) false (f .block) .check) (withSlot f k (Part n) false (f .block) .block) xs
+    (withSlot f k (Part n) false (f .block) .sequence) (withSlot f k (Part n) false (f .block) .check) (withSlot f k (Part n) false (f .block) .block) xs
     ≡ sealedIn (startAt f w k) w n (f .sequence) (f .check) (f .block) xs
 sealed-at w f Low n xs s = refl
 sealed-at w f High n xs s = refl

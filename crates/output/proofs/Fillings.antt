@@ -8,22 +8,21 @@ use native.Mathlib.Omega.{arith}
 use lib.ListN.{length}
 use Rattle.area.specs.Lists.{allOf}
 use Rattle.area.specs.Parts.{isWord, partOf, pastedIn}
-use Rattle.area.proofs.Walks.{by-test, all-append}
+use Rattle.area.proofs.Walks.{all-append}
 use Rattle.word.specs.Sums.{logicalSum}
 use Rattle.word.specs.CheckWords.{checkWord, IsCheckWord}
 use Rattle.word.proofs.Laws.CheckWord.{check-word-is}
 use Rattle.files.specs.declared.File.{File}
 use Rattle.files.specs.Slots.{partWords}
-use Rattle.files.specs.Sides.{bufferAt, slotAt, startAt, isSide, partSide}
+use Rattle.files.specs.Sides.{slotAt, startAt, isSide, partSide}
 use Rattle.files.specs.Opening.{extra}
 use Rattle.files.specs.Output.{putSide, putStart, wordsAfter, added, isComplete, partStart, partLength}
 use Rattle.pool.proofs.Facts.{Sound}
-use Rattle.pool.proofs.Changes.{one-record}
 use Rattle.output.specs.Only.{Only}
-use Rattle.output.specs.Blocks.{heldRight, sealedIn, sealedArea}
+use Rattle.output.specs.Blocks.{heldRight, sealedArea}
 use Rattle.output.specs.Put.{filledArea, putArea}
-use Rattle.output.proofs.Written.{only-self, only-wider, only-then, pasted-only, pasted-part, part-join, part-same, sealed-only, sealed-block}
-use Rattle.output.proofs.Buffers.{part-first, room-too, held-is, some-words, buffer-within, block-fits, sealed-there}
+use Rattle.output.proofs.Written.{only-wider, only-then, pasted-only, pasted-part, part-join, part-same, sealed-only, sealed-block}
+use Rattle.output.proofs.Buffers.{part-first, room-too, held-is, buffer-within, block-fits, sealed-there}
 
 -- a block of these data words with its check word, if one is chosen
 abbrev pub withCheck : File → List ℕ → List ℕ

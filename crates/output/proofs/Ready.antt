@@ -1,22 +1,20 @@
 -- What put and seal do to an output file leaves it ready for what is requested of its unit: a file with a full block has one still. Assumes nothing.
-use mathlib.Core.Path.{_≡_, refl, sym, ap, subst, _∙_}
-use mathlib.Core.Bool.{Bool, true, false, not, cond, _&&_, _||_}
-use mathlib.Core.List.{List, []}
-use Prim.Native.Nat.{ℕ, _+_, _≤_, _<_}
+use mathlib.Core.Path.{_≡_, refl, sym, ap, _∙_}
+use mathlib.Core.Bool.{Bool, true, false, not, cond, _&&_}
+use Prim.Native.Nat.{ℕ, _+_, _≤_}
 use native.Mathlib.Omega.{arith}
-use borrow.Author.Tests.{le-leb, eqb-true, eq-eqb}
-use lib.Dec.{eqb, leb, ltb}
+use borrow.Author.Tests.{le-leb}
+use lib.Dec.{eqb, ltb}
 use lib.ListN.{length}
-use Rattle.area.proofs.Walks.{by-test, true-not-false, and-left, and-right, and-both}
+use Rattle.area.proofs.Walks.{true-not-false, and-left, and-right, and-both}
 use Rattle.area.proofs.Marks.{cond-true, unless, unless-so}
 use Rattle.channel.specs.declared.Work.{Work}
-use Rattle.files.specs.declared.Slot.{Slot}
-use Rattle.files.specs.declared.Slot.the-variants.{Empty, Taken, Part, Full}
+use Rattle.files.specs.declared.Slot.the-variants.{Part}
 use Rattle.files.specs.declared.Side.{Side}
 use Rattle.files.specs.declared.Side.the-variants.{Low, High, Neither}
 use Rattle.files.specs.declared.File.{File}
 use Rattle.files.specs.Slots.{isFull}
-use Rattle.files.specs.Sides.{slotAt, isSide, lower, oldest, partSide, withSlot, turnedBy, nextBlock, filledAt}
+use Rattle.files.specs.Sides.{isSide, lower, oldest, partSide, withSlot, turnedBy, filledAt}
 use Rattle.files.specs.Input.{hasFull}
 use Rattle.files.specs.Output.{putSide, wordsAfter, added, partLength, sealed, afterPut}
 use Rattle.files.specs.Blocks.{line}

@@ -2,15 +2,14 @@
 -- touched. Assumes nothing.
 use mathlib.Core.Path.{_≡_, refl, sym, ap, subst, _∙_}
 use mathlib.Core.Logic.{_≢_}
-use mathlib.Core.Bool.{Bool, true, false, not, cond, _&&_, _||_}
-use mathlib.Core.List.{List, _++_}
-use Prim.Native.Nat.{ℕ, _+_, _*_, _≤_, _<_}
+use mathlib.Core.Bool.{Bool, true, false, not, cond, _&&_}
+use mathlib.Core.List.{List}
+use Prim.Native.Nat.{ℕ, _+_, _*_, _≤_}
 use borrow.Author.Tests.{eqb-true, ltb-false, ne-eqb, not-false}
 use lib.Dec.{ltb, eqb}
-use lib.ListN.{length, getD, set}
+use lib.ListN.{length}
 use lib.Seq.{getD-set-same, getD-set-other}
-use Rattle.area.specs.Lists.{allOf}
-use Rattle.area.specs.Parts.{isWord, partOf}
+use Rattle.area.specs.Parts.{partOf}
 use Rattle.area.specs.Refusals.{Rows, lowest}
 use Rattle.area.proofs.Walks.{or-left, or-right, true-not-false, and-both}
 use Rattle.area.proofs.Exactly.{Exactly, NoneApplies, here, later, exactly}

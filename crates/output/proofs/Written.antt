@@ -1,17 +1,15 @@
 -- What a put and a seal write: the words in their place, the check word after the data words, and nothing else. Assumes nothing.
 use mathlib.Core.Path.{_≡_, refl, sym, ap, subst, _∙_}
-use mathlib.Core.Logic.{_≢_}
 use mathlib.Core.Bool.{Bool, true, false, not, cond, _&&_, _||_}
 use mathlib.Core.List.{List, [], _∷_, _++_, append-nil}
-use Prim.Native.Nat.{ℕ, suc, _+_, _-_, _*_, _^_, _≤_, _<_}
+use Prim.Native.Nat.{ℕ, _+_, _-_, _^_, _≤_, _<_}
 use native.Mathlib.Numerals.{add-one}
 use native.Mathlib.Omega.{arith}
-use borrow.Rule.Slice.PartMut.{midOf, putMid, set-mid-at, put-same}
+use borrow.Rule.Slice.PartMut.{putMid, set-mid-at, put-same}
 use lib.ListN.{length, take, drop, getD, set, length-set, length-drop}
-use lib.Seq.{getD-take, getD-drop, getD-set-same, getD-set-other, take-take, drop-drop, drop-set-add, take-set-le, take-suc-set, take-add, ext-getD}
+use lib.Seq.{getD-take, getD-drop, getD-set-other, take-take, drop-drop, drop-set-add, take-suc-set, take-add, ext-getD}
 use Rattle.area.specs.Lists.{allOf}
 use Rattle.area.specs.Parts.{isWord, partOf, paste, pastedIn}
-use Rattle.area.proofs.Walks.{by-test}
 use Rattle.area.proofs.Pastes.{length-part, length-paste, paste-fitting, paste-part, paste-before, paste-after}
 use Rattle.word.specs.Sums.{logicalSum}
 use Rattle.word.specs.CheckWords.{checkWord, IsCheckWord}
@@ -50,12 +48,12 @@ module _ (at : ℕ) (ys xs : List ℕ) (fit : at + length ys ≤ length xs) wher
         long = length-paste at ys xs fit;
         before = λ j h. sym (getD-take at (paste at ys xs) j 0 h) ∙ ap (λ (l : List ℕ). getD l j 0) (paste-before at ys xs (omega arith)) ∙ getD-take at xs j 0 h;
         after = λ j h.
-          let i : at + length ys + (j - (at + length ys)) ≡ j = omega arith in
-          ap (λ (n : ℕ). getD (paste at ys xs) n 0) (sym i)
-          ∙ sym (getD-drop (at + length ys) (paste at ys xs) (j - (at + length ys)) 0)
-          ∙ ap (λ (l : List ℕ). getD l (j - (at + length ys)) 0) (paste-after at ys xs (omega arith))
-          ∙ getD-drop (at + length ys) xs (j - (at + length ys)) 0
-          ∙ ap (λ (n : ℕ). getD xs n 0) i;
+            let i : at + length ys + (j - (at + length ys)) ≡ j = omega arith in
+            ap (λ (n : ℕ). getD (paste at ys xs) n 0) (sym i)
+            ∙ sym (getD-drop (at + length ys) (paste at ys xs) (j - (at + length ys)) 0)
+            ∙ ap (λ (l : List ℕ). getD l (j - (at + length ys)) 0) (paste-after at ys xs (omega arith))
+            ∙ getD-drop (at + length ys) xs (j - (at + length ys)) 0
+            ∙ ap (λ (n : ℕ). getD xs n 0) i;
       })
 
   pub pasted-part : partOf at (length ys) (pastedIn at ys xs) ≡ ys

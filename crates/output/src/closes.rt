@@ -1,9 +1,9 @@
 // Seal: the part-filled block of an output file gets its check word and is full.
 use crate::SealChange;
 use crate::Sealing;
-use crate::blocks::sums_spoilt;
 use crate::blocks::is_misused;
 use crate::blocks::seal_block;
+use crate::blocks::sums_spoilt;
 use files::File;
 use files::has_part;
 use files::sealed;
@@ -25,7 +25,20 @@ fn seal_refusal(c1: bool, f: File, w: u16, area: &[u64]) -> u8
     let c6 = !f.output;
     let c9 = !part;
     lowest_of(
-        c1, c2, false, false, c5, c6, false, false, c9, false, false, false, false, false,
+        c1,
+        c2,
+        false,
+        false,
+        c5,
+        c6,
+        false,
+        false,
+        c9,
+        false,
+        false,
+        false,
+        false,
+        false,
     )
 }
 

@@ -1,9 +1,9 @@
 // Put: words added to an output file, and the block sealed at once if no more fit.
 use crate::PutChange;
 use crate::Putting;
-use crate::blocks::sums_spoilt;
 use crate::blocks::is_misused;
 use crate::blocks::seal_block;
+use crate::blocks::sums_spoilt;
 use files::File;
 use files::added;
 use files::has_room;
@@ -43,7 +43,20 @@ fn put_refusal(c1: bool, f: File, w: u16, area: &[u64], words: &[u64]) -> u8
     let c9 = !room;
     let c13 = !fits;
     lowest_of(
-        c1, c2, false, false, c5, c6, false, false, c9, false, false, false, c13, false,
+        c1,
+        c2,
+        false,
+        false,
+        c5,
+        c6,
+        false,
+        false,
+        c9,
+        false,
+        false,
+        false,
+        c13,
+        false,
     )
 }
 

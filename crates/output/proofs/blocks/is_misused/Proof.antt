@@ -1,20 +1,14 @@
+-- `output::is_misused` meets its contract, from those of `area_short` and `is_sound`. Assumes nothing.
 use borrow.Author.Needs.{needs}
 use Rattle.output.proofs.blocks.is_misused.Statement.{statement}
 use Rattle.output.proofs.blocks.is_misused.Tie as tie
-use Rattle.output.proofs.blocks.is_misused.Reads as reads
-use Rattle.output.proofs.blocks.is_misused.Lts as lts
-use Rattle.state.proofs.area_short.Reads as area-short-reads
-use Rattle.state.proofs.is_sound.Reads as is-sound-reads
 
--- src/blocks.rt:17:9
 area-short-requires : tie.Need-area-short-requires
 area-short-requires c κs = search needs
 
--- src/blocks.rt:18:9
 is-sound-requires : tie.Need-is-sound-requires
 is-sound-requires c κs = search needs
 
--- src/blocks.rt:14:1
 returns : tie.Need-returns
 returns c = simp (c .before .area-short .ensures, c .is-sound .ensures)
 
