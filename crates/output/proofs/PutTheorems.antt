@@ -16,7 +16,7 @@ use Rattle.area.proofs.Walks.{or-left, or-right, true-not-false, and-both}
 use Rattle.area.proofs.Exactly.{Exactly, NoneApplies, here, later, exactly}
 use Rattle.files.specs.declared.File.{File}
 use Rattle.files.specs.Slots.{partWords}
-use Rattle.files.specs.Sides.{slotAt, startAt}
+use Rattle.files.specs.Sides.{bufferAt, slotAt, startAt}
 use Rattle.files.specs.Opening.{closedFile, extra}
 use Rattle.files.specs.Output.{putSide, hasRoom, putStart, wordsAfter, added, isComplete, afterPut}
 use Rattle.gets.specs.Histories as histories
@@ -31,7 +31,7 @@ use Rattle.state.proofs.Kept.{file-kept, place-of}
 use Rattle.output.specs.Only.{Only}
 use Rattle.output.specs.Blocks.{misused, heldRight}
 use Rattle.output.specs.Put.{isTaken, sums, putRows, putRefusal, putArea, putOn, putOnArea, putChange, putBy, putByArea}
-use Rattle.output.proofs.Written.{only-self}
+use Rattle.output.proofs.Written.{only-self, other-buffer}
 use Rattle.output.proofs.Fillings.{withCheck, put-only, put-buffer, put-added, put-sealed}
 use Rattle.output.proofs.Ready.{put-full, output-ready, holdings}
 
@@ -179,3 +179,7 @@ module _ (s : State) (area : List ℕ) (file : ℕ) (words : List ℕ) where
       go false e =
           subst (Only (startAt f (s .w) (putSide f)) (s .w) area) (sym (put-refused (λ z. true-not-false (ap (λ (n : ℕ). eqb n 0) z) e) .1))
           (only-self (startAt f (s .w) (putSide f)) (s .w) area)
+
+  -- so that every other buffer of the pool, free or held by any file, has the words that it had
+  pub put-other-buffers : (c : ℕ) → c ≢ bufferAt f (putSide f) .number → partOf (c * s .w) (s .w) (putByArea s area file words) ≡ partOf (c * s .w) (s .w) area
+  put-other-buffers c ne = other-buffer (s .w) (bufferAt f (putSide f) .number) c area (putByArea s area file words) put-area-frame ne

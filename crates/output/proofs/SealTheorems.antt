@@ -14,6 +14,7 @@ use Rattle.area.specs.Refusals.{Rows, lowest}
 use Rattle.area.proofs.Walks.{or-left, or-right, true-not-false, and-both}
 use Rattle.area.proofs.Exactly.{Exactly, NoneApplies, here, later, exactly}
 use Rattle.files.specs.declared.File.{File}
+use Rattle.files.specs.Sides.{bufferAt, partSide}
 use Rattle.files.specs.Opening.{closedFile, extra}
 use Rattle.files.specs.Output.{hasPart, partStart, partLength, sealed}
 use Rattle.gets.specs.Histories as histories
@@ -28,7 +29,7 @@ use Rattle.state.proofs.Kept.{file-kept, place-of}
 use Rattle.output.specs.Only.{Only}
 use Rattle.output.specs.Blocks.{misused, heldRight, sealedArea}
 use Rattle.output.specs.Seal.{sealSums, sealRows, sealRefusal, sealOn, sealOnArea, sealChange, sealBy, sealByArea}
-use Rattle.output.proofs.Written.{only-self}
+use Rattle.output.proofs.Written.{only-self, other-buffer}
 use Rattle.output.proofs.Fillings.{withCheck, seal-only, seal-buffer, seal-block}
 use Rattle.output.proofs.Ready.{sealed-full, output-ready, holdings}
 
@@ -152,3 +153,8 @@ module _ (s : State) (area : List ℕ) (file : ℕ) where
       go false e =
           subst (Only (partStart (s .w) f) (s .w) area) (sym (seal-refused (λ z. true-not-false (ap (λ (n : ℕ). eqb n 0) z) e) .1))
           (only-self (partStart (s .w) f) (s .w) area)
+
+  -- so that every other buffer of the pool, free or held by any file, has the words that it had
+  pub seal-other-buffers : (c : ℕ) → c ≢ bufferAt f (partSide f) .number → partOf (c * s .w) (s .w) (sealByArea s area file) ≡ partOf (c * s .w) (s .w) area
+  unfolding partStart
+  seal-other-buffers c ne = other-buffer (s .w) (bufferAt f (partSide f) .number) c area (sealByArea s area file) seal-area-frame ne

@@ -1,12 +1,15 @@
 -- What a put and a seal write: the words in their place, the check word after the data words, and nothing else. Assumes nothing.
 use mathlib.Core.Path.{_≡_, refl, sym, ap, subst, _∙_}
+use mathlib.Core.Logic.{_≢_}
 use mathlib.Core.Bool.{Bool, true, false, not, cond, _&&_, _||_}
 use mathlib.Core.List.{List, [], _∷_, _++_, append-nil}
-use Prim.Native.Nat.{ℕ, _+_, _-_, _^_, _≤_, _<_}
+use Prim.Native.Nat.{ℕ, min, _+_, _-_, _*_, _^_, _≤_, _<_}
+use native.Mathlib.Decide.{decLt}
+use native.Mathlib.Nat.{min-le-left, lt-of-lt-of-le, mul-le-mul-right, suc-mul}
 use native.Mathlib.Numerals.{add-one}
 use native.Mathlib.Omega.{arith}
 use borrow.Rule.Slice.PartMut.{putMid, set-mid-at, put-same}
-use lib.ListN.{length, take, drop, getD, set, length-set, length-drop}
+use lib.ListN.{length, take, drop, getD, set, length-set, length-drop, length-take}
 use lib.Seq.{getD-take, getD-drop, getD-set-other, take-take, drop-drop, drop-set-add, take-suc-set, take-add, ext-getD}
 use Rattle.area.specs.Lists.{allOf}
 use Rattle.area.specs.Parts.{isWord, partOf, paste, pastedIn}
@@ -155,3 +158,27 @@ part-same a s at n xs zs O l r =
   where
     at-part : (l : List ℕ) (i : ℕ) → i < s → getD (partOf a s l) i 0 ≡ getD l (a + i) 0
     at-part l i h = getD-take s (drop a l) i 0 h ∙ getD-drop a l i 0
+
+-- ---- a buffer beside the one that changes
+
+parts-equal : (a s : ℕ) (xs zs : List ℕ) → length zs ≡ length xs → ((i : ℕ) → i < s → getD zs (a + i) 0 ≡ getD xs (a + i) 0) → partOf a s zs ≡ partOf a s xs
+parts-equal a s xs zs long each =
+    ext-getD 0 (partOf a s zs) (partOf a s xs) (long-part zs ∙ ap (λ (n : ℕ). min s (n - a)) long ∙ sym (long-part xs))
+    (λ i h.
+    let here : i < s = lt-of-lt-of-le (subst (λ (j : ℕ). i < j) (long-part zs) h) (min-le-left s (length zs - a)) in
+    at-part zs i here ∙ each i here ∙ sym (at-part xs i here))
+  where
+    long-part : (l : List ℕ) → length (partOf a s l) ≡ min s (length l - a)
+    long-part l = length-take s (drop a l) ∙ ap (min s) (length-drop a l)
+
+    at-part : (l : List ℕ) (i : ℕ) → i < s → getD (partOf a s l) i 0 ≡ getD l (a + i) 0
+    at-part l i h = getD-take s (drop a l) i 0 h ∙ getD-drop a l i 0
+
+-- no word of buffer c changes where only words of buffer b do
+pub other-buffer : (w b c : ℕ) (xs zs : List ℕ) → Only (b * w) w xs zs → c ≢ b → partOf (c * w) w zs ≡ partOf (c * w) w xs
+other-buffer w b c xs zs O ne = go (decLt c b) (decLt b c)
+  where
+    go : Dec (c < b) → Dec (b < c) → partOf (c * w) w zs ≡ partOf (c * w) w xs
+    go (yes l) r = parts-equal (c * w) w xs zs (O .long) (λ i h. O .before (c * w + i) (omega (arith, mul-le-mul-right w l, suc-mul c w)))
+    go (no l) (yes r) = parts-equal (c * w) w xs zs (O .long) (λ i h. O .after (c * w + i) (omega (arith, mul-le-mul-right w r, suc-mul b w)))
+    go (no l) (no r) = absurd (ne (omega (arith, l, r)))
