@@ -1,0 +1,4 @@
+pub mod Only
+pub mod Blocks
+pub mod Put
+pub mod Seal

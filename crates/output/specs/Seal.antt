@@ -1,0 +1,57 @@
+-- Seal (document 01, "Refusal numbers", and "Files and buffers", Output). Assumes nothing.
+use Prim.Native.Nat.{ℕ}
+use mathlib.Core.Bool.{Bool, not, cond, _&&_}
+use mathlib.Core.List.{List, [], _∷_}
+use lib.Dec.{eqb}
+use lib.ListN.{length}
+use Rattle.area.specs.Refusals.{Rows, lowest}
+use Rattle.files.specs.declared.File.{File}
+use Rattle.files.specs.Output.{hasPart, sealed}
+use Rattle.state.specs.declared.State.{State}
+use Rattle.state.specs.Places.{fileAt, withFile}
+use Rattle.output.specs.declared.SealChange.{SealChange}
+use Rattle.output.specs.declared.Sealing.{Sealing}
+use Rattle.output.specs.Blocks.{misused, heldRight, sealedArea}
+
+-- ---- the refusal
+
+-- a seal that is taken and sums the block's words: check sums are chosen
+abbrev pub sealSums : File → Bool
+sealSums f = f .opened && (f .output && (hasPart f && f .check))
+
+-- 2: "a buffer word that the call sums .., is 2^36 or more"; 5: "file not open"; 6: "wrong direction: .. write, mark, put, seal on an input file";
+-- 9: "Seal: no part-filled buffer"
+unfoldable pub sealRows : Bool → File → ℕ → List ℕ → Rows
+sealRows wrong f w area =
+    (1, wrong) ∷
+    (2, sealSums f && not (heldRight w f area)) ∷
+    (5, not (f .opened)) ∷
+    (6, not (f .output)) ∷
+    (9, not (hasPart f)) ∷
+    []
+
+unfoldable pub sealRefusal : Bool → File → ℕ → List ℕ → ℕ
+sealRefusal wrong f w area = lowest (sealRows wrong f w area)
+
+-- ---- the effect: "it gets its check word and is full. Seal does this early."
+
+-- on one file: "A refusal returns the number alone and changes nothing."
+unfoldable pub sealOn : Bool → File → ℕ → List ℕ → SealChange
+sealOn wrong f w area =
+    let refusal = sealRefusal wrong f w area in
+    record { refusal = refusal; file = cond (eqb refusal 0) (sealed f) f }
+
+unfoldable pub sealOnArea : Bool → File → ℕ → List ℕ → List ℕ
+sealOnArea wrong f w area = cond (eqb (sealRefusal wrong f w area) 0) (sealedArea w f area) area
+
+-- on a state
+abbrev pub sealChange : State → List ℕ → ℕ → SealChange
+sealChange s area file = sealOn (misused s (length area) file) (fileAt s file) (s .w) area
+
+unfoldable pub sealBy : State → List ℕ → ℕ → Sealing
+sealBy s area file =
+    let c = sealChange s area file in
+    record { refusal = c .refusal; state = cond (eqb (c .refusal) 0) (withFile s file (c .file)) s }
+
+unfoldable pub sealByArea : State → List ℕ → ℕ → List ℕ
+sealByArea s area file = sealOnArea (misused s (length area) file) (fileAt s file) (s .w) area
