@@ -1,0 +1,15 @@
+use Rattle.frame.proofs.kinds.if_sized.Statement.{statement}
+use Rattle.frame.proofs.kinds.if_sized.Tie as tie
+use Rattle.frame.proofs.kinds.if_sized.Reads as reads
+use Rattle.frame.proofs.kinds.if_sized.Lts as lts
+
+-- src/kinds.rt:15:9
+returns : tie.Need-returns
+returns c = ?
+
+-- src/kinds.rt:11:1
+returns-2 : tie.Need-returns-2
+returns-2 c = ?
+
+pub if-sized-spec : {M : Type 1} → statement M
+if-sized-spec = tie.close (tie.spec returns returns-2)

@@ -1,0 +1,15 @@
+use Rattle.frame.proofs.kinds.words_after.Statement.{statement}
+use Rattle.frame.proofs.kinds.words_after.Tie as tie
+use Rattle.frame.proofs.kinds.words_after.Reads as reads
+use Rattle.frame.proofs.kinds.words_after.Lts as lts
+
+-- src/kinds.rt:38:9
+returns : tie.Need-returns
+returns c = ?
+
+-- src/kinds.rt:34:1
+returns-2 : tie.Need-returns-2
+returns-2 c = ?
+
+pub words-after-spec : {M : Type 1} → statement M
+words-after-spec = tie.close (tie.spec returns returns-2)
