@@ -8,7 +8,7 @@ use crate::Frame;
 use crate::kinds::ask;
 use crate::kinds::fresh;
 use crate::kinds::if_sized;
-use crate::kinds::open;
+use crate::kinds::opening;
 use crate::kinds::put;
 use crate::kinds::report;
 use digits::byte_at;
@@ -36,7 +36,7 @@ fn kind_of(line: &[u8], n: usize) -> Frame
     let file = byte_at(line, 1);
     match kind {
         0 => fresh(line, n),
-        1 => open(line, n),
+        1 => opening(line, n),
         2 => if_sized(n, 2, Frame::Close { file }),
         3 => ask(line, n),
         4 => report(line, n),

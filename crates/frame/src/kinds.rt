@@ -57,7 +57,7 @@ pub fn fresh(line: &[u8], n: usize) -> Frame
 }
 
 // The open of a file.
-pub fn open(line: &[u8], n: usize) -> Frame
+pub fn opening(line: &[u8], n: usize) -> Frame
     ensures { λ r. ⌜ r ≡ openOf n (bytesOf (now (line .entry))) ⌝ }
 {
     let file = byte_at(line, 1);

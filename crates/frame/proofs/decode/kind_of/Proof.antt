@@ -1,3 +1,9 @@
+use mathlib.Core.Path.{_≡_, refl, sym, ap, _∙_}
+use Prim.Native.Nat.{ℕ}
+use Rattle.digits.specs.Digits.{bytesOf}
+use Rattle.frame.specs.declared.Frame.the-variants.{Close, Get, Seal, Skip}
+use Rattle.frame.specs.Frames.{sized, kindBy}
+use Rattle.frame.proofs.Laws.Sizes.{kind-is, kind-none}
 use borrow.Author.Needs.{needs}
 use Rattle.frame.proofs.decode.kind_of.Statement.{statement}
 use Rattle.frame.proofs.decode.kind_of.Tie as tie
@@ -7,7 +13,7 @@ use Rattle.digits.proofs.byte_at.Reads as byte-at-reads
 use Rattle.frame.proofs.kinds.ask.Reads as ask-reads
 use Rattle.frame.proofs.kinds.fresh.Reads as fresh-reads
 use Rattle.frame.proofs.kinds.if_sized.Reads as if-sized-reads
-use Rattle.frame.proofs.kinds.open.Reads as open-reads
+use Rattle.frame.proofs.kinds.opening.Reads as opening-reads
 use Rattle.frame.proofs.kinds.put.Reads as put-reads
 use Rattle.frame.proofs.kinds.report.Reads as report-reads
 
@@ -24,8 +30,8 @@ fresh-requires : tie.Need-fresh-requires
 fresh-requires c κs = search needs
 
 -- src/decode.rt:39:14
-open-requires : tie.Need-open-requires
-open-requires c κs = search needs
+opening-requires : tie.Need-opening-requires
+opening-requires c κs = search needs
 
 -- src/decode.rt:40:14
 if-sized-requires : tie.Need-if-sized-requires
@@ -65,51 +71,62 @@ if-sized-requires-6 c κs = search needs
 
 -- src/decode.rt:32:1
 returns : tie.Need-returns
-returns c = ?
+unfolding kindBy
+returns c = c .fresh .ensures ∙ sym (kind-is 0 (c .before .before .before .before .before .args .n) (bytesOf (c .before .before .before .before .before .args .line .now)) (sym (c .before .before .before .byte-at .ensures) ∙ c .before .match .keys1))
 
 -- src/decode.rt:32:1
 returns-2 : tie.Need-returns-2
-returns-2 c = ?
+unfolding kindBy
+returns-2 c = c .opening .ensures ∙ sym (kind-is 1 (c .before .before .before .before .before .args .n) (bytesOf (c .before .before .before .before .before .args .line .now)) (sym (c .before .before .before .byte-at .ensures) ∙ c .before .match .keys2))
 
 -- src/decode.rt:32:1
 returns-3 : tie.Need-returns-3
-returns-3 c = ?
+unfolding kindBy
+returns-3 c = c .if-sized .ensures ∙ ap (λ (x : ℕ). sized (c .before .before .before .before .before .args .n) 2 (Close x)) (c .before .before .byte-at2 .ensures) ∙ sym (kind-is 2 (c .before .before .before .before .before .args .n) (bytesOf (c .before .before .before .before .before .args .line .now)) (sym (c .before .before .before .byte-at .ensures) ∙ c .before .match .keys3))
 
 -- src/decode.rt:32:1
 returns-4 : tie.Need-returns-4
-returns-4 c = ?
+unfolding kindBy
+returns-4 c = c .ask .ensures ∙ sym (kind-is 3 (c .before .before .before .before .before .args .n) (bytesOf (c .before .before .before .before .before .args .line .now)) (sym (c .before .before .before .byte-at .ensures) ∙ c .before .match .keys4))
 
 -- src/decode.rt:32:1
 returns-5 : tie.Need-returns-5
-returns-5 c = ?
+unfolding kindBy
+returns-5 c = c .report .ensures ∙ sym (kind-is 4 (c .before .before .before .before .before .args .n) (bytesOf (c .before .before .before .before .before .args .line .now)) (sym (c .before .before .before .byte-at .ensures) ∙ c .before .match .keys5))
 
 -- src/decode.rt:32:1
 returns-6 : tie.Need-returns-6
-returns-6 c = ?
+unfolding kindBy
+returns-6 c = c .if-sized2 .ensures ∙ ap (λ (x : ℕ). sized (c .before .before .before .before .before .args .n) 2 (Get x)) (c .before .before .byte-at2 .ensures) ∙ sym (kind-is 5 (c .before .before .before .before .before .args .n) (bytesOf (c .before .before .before .before .before .args .line .now)) (sym (c .before .before .before .byte-at .ensures) ∙ c .before .match .keys6))
 
 -- src/decode.rt:32:1
 returns-7 : tie.Need-returns-7
-returns-7 c = ?
+unfolding kindBy
+returns-7 c = c .put .ensures ∙ sym (kind-is 6 (c .before .before .before .before .before .args .n) (bytesOf (c .before .before .before .before .before .args .line .now)) (sym (c .before .before .before .byte-at .ensures) ∙ c .before .match .keys7))
 
 -- src/decode.rt:32:1
 returns-8 : tie.Need-returns-8
-returns-8 c = ?
+unfolding kindBy
+returns-8 c = c .if-sized3 .ensures ∙ ap (λ (x : ℕ). sized (c .before .before .before .before .before .args .n) 2 (Seal x)) (c .before .before .byte-at2 .ensures) ∙ sym (kind-is 7 (c .before .before .before .before .before .args .n) (bytesOf (c .before .before .before .before .before .args .line .now)) (sym (c .before .before .before .byte-at .ensures) ∙ c .before .match .keys8))
 
 -- src/decode.rt:32:1
 returns-9 : tie.Need-returns-9
-returns-9 c = ?
+unfolding kindBy
+returns-9 c = c .if-sized4 .ensures ∙ ap (λ (x : ℕ). sized (c .before .before .before .before .before .args .n) 2 (Skip x)) (c .before .before .byte-at2 .ensures) ∙ sym (kind-is 8 (c .before .before .before .before .before .args .n) (bytesOf (c .before .before .before .before .before .args .line .now)) (sym (c .before .before .before .byte-at .ensures) ∙ c .before .match .keys9))
 
 -- src/decode.rt:32:1
 returns-10 : tie.Need-returns-10
-returns-10 c = ?
+unfolding kindBy
+returns-10 c = c .if-sized5 .ensures ∙ sym (kind-is 9 (c .before .before .before .before .before .args .n) (bytesOf (c .before .before .before .before .before .args .line .now)) (sym (c .before .before .before .byte-at .ensures) ∙ c .before .match .keys10))
 
 -- src/decode.rt:32:1
 returns-11 : tie.Need-returns-11
-returns-11 c = ?
+unfolding kindBy
+returns-11 c = c .if-sized6 .ensures ∙ sym (kind-is 10 (c .before .before .before .before .before .args .n) (bytesOf (c .before .before .before .before .before .args .line .now)) (sym (c .before .before .before .byte-at .ensures) ∙ c .before .match .keys11))
 
 -- src/decode.rt:32:1
 returns-12 : tie.Need-returns-12
-returns-12 c = ?
+returns-12 c = sym (kind-is (c .before .before .byte-at .result) (c .before .before .before .before .args .n) (bytesOf (c .before .before .before .before .args .line .now)) (sym (c .before .before .byte-at .ensures)) ∙ kind-none _ _ _ (c .match .rest .0 .0 .0 .0 .0 .0 .0 .0 .0 .0 .1) (c .match .rest .0 .0 .0 .0 .0 .0 .0 .0 .0 .1) (c .match .rest .0 .0 .0 .0 .0 .0 .0 .0 .1) (c .match .rest .0 .0 .0 .0 .0 .0 .0 .1) (c .match .rest .0 .0 .0 .0 .0 .0 .1) (c .match .rest .0 .0 .0 .0 .0 .1) (c .match .rest .0 .0 .0 .0 .1) (c .match .rest .0 .0 .0 .1) (c .match .rest .0 .0 .1) (c .match .rest .0 .1) (c .match .rest .1))
 
 pub kind-of-spec : {M : Type 1} → statement M
 kind-of-spec =
@@ -118,7 +135,7 @@ kind-of-spec =
     byte-at-requires
     byte-at-requires-2
     fresh-requires
-    open-requires
+    opening-requires
     if-sized-requires
     ask-requires
     report-requires

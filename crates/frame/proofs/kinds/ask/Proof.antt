@@ -1,3 +1,5 @@
+use mathlib.Core.Path.{_∙_}
+use Rattle.frame.specs.Frames.{askOf}
 use borrow.Author.Needs.{needs}
 use Rattle.frame.proofs.kinds.ask.Statement.{statement}
 use Rattle.frame.proofs.kinds.ask.Tie as tie
@@ -24,7 +26,8 @@ if-sized-requires c κs = search needs
 
 -- src/kinds.rt:84:1
 returns : tie.Need-returns
-returns c = ?
+unfolding askOf
+returns c = c .if-sized .ensures ∙ rw (c .before .before .before .byte-at .ensures, c .before .before .byte-at2 .ensures, c .before .byte-at3 .ensures)
 
 pub ask-spec : {M : Type 1} → statement M
 ask-spec =

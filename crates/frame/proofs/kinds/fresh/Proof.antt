@@ -1,3 +1,5 @@
+use mathlib.Core.Path.{_∙_}
+use Rattle.frame.specs.Frames.{freshOf}
 use borrow.Author.Needs.{needs}
 use Rattle.frame.proofs.kinds.fresh.Statement.{statement}
 use Rattle.frame.proofs.kinds.fresh.Tie as tie
@@ -41,7 +43,8 @@ if-sized-requires c κs = search needs
 
 -- src/kinds.rt:44:1
 returns : tie.Need-returns
-returns c = ?
+unfolding freshOf
+returns c = c .if-sized .ensures ∙ rw (c .before .before .before .before .before .before .before .size-at .ensures, c .before .before .before .before .before .before .size-at2 .ensures, c .before .before .before .before .before .size-at3 .ensures, c .before .before .before .before .size-at4 .ensures, c .before .before .before .size-at5 .ensures, c .before .before .byte-at .ensures, c .before .size-at6 .ensures)
 
 pub fresh-spec : {M : Type 1} → statement M
 fresh-spec =

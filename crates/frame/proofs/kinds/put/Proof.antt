@@ -1,3 +1,5 @@
+use mathlib.Core.Path.{_∙_}
+use Rattle.frame.specs.Frames.{putOf}
 use borrow.Author.Needs.{needs}
 use Rattle.frame.proofs.kinds.put.Statement.{statement}
 use Rattle.frame.proofs.kinds.put.Tie as tie
@@ -21,7 +23,8 @@ if-worded-requires c κs = search needs
 
 -- src/kinds.rt:114:1
 returns : tie.Need-returns
-returns c = ?
+unfolding putOf
+returns c = c .if-worded .ensures ∙ rw (c .before .before .byte-at .ensures, c .before .words-after .ensures)
 
 pub put-spec : {M : Type 1} → statement M
 put-spec = tie.close (tie.spec byte-at-requires words-after-requires if-worded-requires returns)

@@ -1,3 +1,5 @@
+use mathlib.Core.Path.{_∙_}
+use Rattle.frame.specs.Frames.{reportOf}
 use borrow.Author.Needs.{needs}
 use Rattle.frame.proofs.kinds.report.Statement.{statement}
 use Rattle.frame.proofs.kinds.report.Tie as tie
@@ -29,7 +31,8 @@ if-worded-requires c κs = search needs
 
 -- src/kinds.rt:94:1
 returns : tie.Need-returns
-returns c = ?
+unfolding reportOf
+returns c = c .if-worded .ensures ∙ rw (c .before .before .before .before .byte-at .ensures, c .before .before .before .byte-at2 .ensures, c .before .before .byte-at3 .ensures, c .before .words-after .ensures)
 
 pub report-spec : {M : Type 1} → statement M
 report-spec =

@@ -1,3 +1,6 @@
+use mathlib.Core.Path.{refl, sym}
+use Rattle.frame.specs.Frames.{wordsAfter}
+use Rattle.frame.proofs.Laws.Sizes.{words-none}
 use Rattle.frame.proofs.kinds.words_after.Statement.{statement}
 use Rattle.frame.proofs.kinds.words_after.Tie as tie
 use Rattle.frame.proofs.kinds.words_after.Reads as reads
@@ -5,11 +8,12 @@ use Rattle.frame.proofs.kinds.words_after.Lts as lts
 
 -- src/kinds.rt:38:9
 returns : tie.Need-returns
-returns c = ?
+returns c = sym (words-none (c .before .args .n) (c .before .args .head) (c .if1 .taken))
 
 -- src/kinds.rt:34:1
 returns-2 : tie.Need-returns-2
-returns-2 c = ?
+unfolding wordsAfter
+returns-2 c = refl
 
 pub words-after-spec : {M : Type 1} → statement M
 words-after-spec = tie.close (tie.spec returns returns-2)

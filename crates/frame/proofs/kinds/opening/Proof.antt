@@ -1,8 +1,10 @@
+use mathlib.Core.Path.{_∙_}
+use Rattle.frame.specs.Frames.{openOf}
 use borrow.Author.Needs.{needs}
-use Rattle.frame.proofs.kinds.open.Statement.{statement}
-use Rattle.frame.proofs.kinds.open.Tie as tie
-use Rattle.frame.proofs.kinds.open.Reads as reads
-use Rattle.frame.proofs.kinds.open.Lts as lts
+use Rattle.frame.proofs.kinds.opening.Statement.{statement}
+use Rattle.frame.proofs.kinds.opening.Tie as tie
+use Rattle.frame.proofs.kinds.opening.Reads as reads
+use Rattle.frame.proofs.kinds.opening.Lts as lts
 use Rattle.digits.proofs.byte_at.Reads as byte-at-reads
 use Rattle.digits.proofs.size_at.Reads as size-at-reads
 use Rattle.frame.proofs.kinds.if_sized.Reads as if-sized-reads
@@ -37,10 +39,11 @@ if-sized-requires c κs = search needs
 
 -- src/kinds.rt:60:1
 returns : tie.Need-returns
-returns c = ?
+unfolding openOf
+returns c = c .if-sized .ensures ∙ rw (c .before .before .before .before .before .before .byte-at .ensures, c .before .before .before .before .before .byte-at2 .ensures, c .before .before .before .before .byte-at3 .ensures, c .before .before .before .byte-at4 .ensures, c .before .before .size-at .ensures, c .before .size-at2 .ensures)
 
-pub open-spec : {M : Type 1} → statement M
-open-spec =
+pub opening-spec : {M : Type 1} → statement M
+opening-spec =
     tie.close
     (tie.spec
     byte-at-requires
