@@ -74,7 +74,7 @@ digits-are (b ∷ bs) h =
     let l : b % 16 < 16 = omega arith in
     and-both _ _ (digit-is (b / 16) k) (and-both _ _ (digit-is (b % 16) l) (digits-are bs (and-right (isByte b) _ h)))
 
-concat-append : (f : ℕ → List ℕ) (xs ys : List ℕ) → concatMap f (xs ++ ys) ≡ concatMap f xs ++ concatMap f ys
+pub concat-append : (f : ℕ → List ℕ) (xs ys : List ℕ) → concatMap f (xs ++ ys) ≡ concatMap f xs ++ concatMap f ys
 unfolding concatMap
 concat-append f [] ys = refl
 concat-append f (x ∷ xs) ys = ap (λ (l : List ℕ). f x ++ l) (concat-append f xs ys) ∙ sym (append-assoc (f x) (concatMap f xs) (concatMap f ys))

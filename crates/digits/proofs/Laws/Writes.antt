@@ -68,15 +68,15 @@ module _ (at n : ℕ) (ys xs : List ℕ) (long : length ys ≡ n) (t : Bool) (te
 -- ---- the bytes of a number, one after the other
 
 -- one piece more after those that are written
-more : (at n : ℕ) (ys zs xs out new : List ℕ) → length ys ≡ n → at + n ≤ length xs → out ≡ paste at ys xs → new ≡ paste (at + n) zs out
+pub paste-more : (at n : ℕ) (ys zs xs out new : List ℕ) → length ys ≡ n → at + n ≤ length xs → out ≡ paste at ys xs → new ≡ paste (at + n) zs out
     → new ≡ paste at (ys ++ zs) xs
-more at n ys zs xs out new long room o w = w ∙ ap (paste (at + n) zs) o ∙ paste-paste at n ys zs xs long room
+paste-more at n ys zs xs out new long room o w = w ∙ ap (paste (at + n) zs) o ∙ paste-paste at n ys zs xs long room
 
 module _ (at : ℕ) (xs : List ℕ) where
   pub size-written : (n : ℕ) (o p : List ℕ) → at + 4 ≤ length xs → o ≡ paste at (byteDigits (n / 2 ^ 8 % 256)) xs
       → p ≡ paste (at + 2) (byteDigits (n % 256)) o → p ≡ paste at (sizeDigits n) xs
   unfolding sizeDigits sizeBytes byteDigits concatMap
-  size-written n o p room e f = more at 2 (byteDigits (n / 2 ^ 8 % 256)) (byteDigits (n % 256)) xs o p refl (omega arith) e f
+  size-written n o p room e f = paste-more at 2 (byteDigits (n / 2 ^ 8 % 256)) (byteDigits (n % 256)) xs o p refl (omega arith) e f
 
   module _ (w : ℕ) where
     pub word-written : (o p q r s : List ℕ) → at + 10 ≤ length xs → o ≡ paste at (byteDigits (w / 2 ^ 32 % 256)) xs
@@ -88,10 +88,10 @@ module _ (at : ℕ) (xs : List ℕ) where
         let b = byteDigits (w / 2 ^ 24 % 256) in
         let c = byteDigits (w / 2 ^ 16 % 256) in
         let d = byteDigits (w / 2 ^ 8 % 256) in
-        let two = more at 2 a b xs o p refl (omega arith) e f in
-        let three = more at 4 (a ++ b) c xs p q refl (omega arith) two g in
-        let four = more at 6 ((a ++ b) ++ c) d xs q r refl (omega arith) three h in
-        more at 8 (((a ++ b) ++ c) ++ d) (byteDigits (w % 256)) xs r s refl (omega arith) four i
+        let two = paste-more at 2 a b xs o p refl (omega arith) e f in
+        let three = paste-more at 4 (a ++ b) c xs p q refl (omega arith) two g in
+        let four = paste-more at 6 ((a ++ b) ++ c) d xs q r refl (omega arith) three h in
+        paste-more at 8 (((a ++ b) ++ c) ++ d) (byteDigits (w % 256)) xs r s refl (omega arith) four i
 
 -- ---- the loop that writes what f makes of each element, k characters each
 
