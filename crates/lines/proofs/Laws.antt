@@ -1,0 +1,4 @@
+pub mod Feeds
+pub mod Grows
+pub mod Holding
+pub mod Sessions
