@@ -1,7 +1,7 @@
 // An answer to its line: the bytes of the answer and its words as digits, and a line feed, into a lent area.
 // Which answer a call has is the pack's to say; this crate knows nothing of calls.
-pub mod ahead;
-pub mod line;
+mod ahead;
+mod line;
 
 pub use ahead::working_byte;
 pub use line::write_answer;
@@ -13,15 +13,9 @@ pub enum Answer {
     // a call whose answer adds nothing
     Done,
     // ask: the unit that the channel works for
-    Asked {
-        working: u8,
-    },
+    Asked { working: u8 },
     // report: its result, the check error, the unit that the channel works for; words if it ends a write
-    Reported {
-        result: u8,
-        error: u8,
-        working: u8,
-    },
+    Reported { result: u8, error: u8, working: u8 },
     // get: a record and its words; nothing yet; the end; a block's check error; a leftover and its words
     Record,
     Nothing,

@@ -1,7 +1,7 @@
 // Upper-case hexadecimal digits in lent byte areas: bytes, sizes of two bytes and words of five, read and written, highest first.
 // Every function answers any bytes at any place. It knows nothing of frames and answers.
-pub mod read;
-pub mod write;
+mod read;
+mod write;
 
 pub use read::all_digits;
 pub use read::byte_at;

@@ -1,8 +1,8 @@
 // A line of a session to a call: which kind it is and its numbers, as they stand in the line. Whether a number is in its range
 // is judged by the pack. Words stay in the line until `words_into` brings them to a lent room.
 // It knows nothing of files, channels or how lines are cut.
-pub mod decode;
-pub mod kinds;
+mod decode;
+mod kinds;
 
 pub use decode::frame_of;
 pub use decode::words_into;

@@ -1,8 +1,8 @@
 // The lines of a session, put together from parts of any size: a part may end anywhere. The line that has begun lies at the front of
 // a lent room; a line that is longer than the room is overlong, and nothing is kept of it but that.
 // It knows nothing of what a line means: whoever plays the session calls `next_line` until a part is used up.
-pub mod grow;
-pub mod next;
+mod grow;
+mod next;
 
 pub use next::has_begun;
 pub use next::next_line;

@@ -66,8 +66,18 @@ words-step b at h =
     let h2 : suc (suc at) < length b = omega arith in
     let h3 : suc (suc (suc at)) < length b = omega arith in
     let h4 : suc (suc (suc (suc at))) < length b = omega arith in
-    rw (e5, e4, e3, e2, e1, drop-cons b at 0 h0, drop-cons b (suc at) 0 h1, drop-cons b (suc (suc at)) 0 h2,
-    drop-cons b (suc (suc (suc at))) 0 h3, drop-cons b (suc (suc (suc (suc at)))) 0 h4)
+    rw (
+      e5,
+      e4,
+      e3,
+      e2,
+      e1,
+      drop-cons b at 0 h0,
+      drop-cons b (suc at) 0 h1,
+      drop-cons b (suc (suc at)) 0 h2,
+      drop-cons b (suc (suc (suc at))) 0 h3,
+      drop-cons b (suc (suc (suc (suc at)))) 0 h4,
+    )
 
 -- a fifth as many words as bytes
 pub length-words : (b : List ℕ) → length (wordsOf b) ≡ length b / 5

@@ -59,8 +59,19 @@ pub kind-none : (k n : ℕ) (b : List ℕ) → (k ≡ 0 → ⊥) → (k ≡ 1 �
     → (k ≡ 6 → ⊥) → (k ≡ 7 → ⊥) → (k ≡ 8 → ⊥) → (k ≡ 9 → ⊥) → (k ≡ 10 → ⊥) → kindBy k n b ≡ Malformed
 unfolding kindBy
 kind-none k n b h0 h1 h2 h3 h4 h5 h6 h7 h8 h9 h10 =
-    rw (ne-eqb k 0 h0, ne-eqb k 1 h1, ne-eqb k 2 h2, ne-eqb k 3 h3, ne-eqb k 4 h4, ne-eqb k 5 h5, ne-eqb k 6 h6, ne-eqb k 7 h7,
-    ne-eqb k 8 h8, ne-eqb k 9 h9, ne-eqb k 10 h10)
+    rw (
+      ne-eqb k 0 h0,
+      ne-eqb k 1 h1,
+      ne-eqb k 2 h2,
+      ne-eqb k 3 h3,
+      ne-eqb k 4 h4,
+      ne-eqb k 5 h5,
+      ne-eqb k 6 h6,
+      ne-eqb k 7 h7,
+      ne-eqb k 8 h8,
+      ne-eqb k 9 h9,
+      ne-eqb k 10 h10,
+    )
 
 -- ---- a whole line
 

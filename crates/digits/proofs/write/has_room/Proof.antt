@@ -1,19 +1,16 @@
+-- `digits::write::has_room` meets its contract: what is left after the place decides. Assumes nothing.
+use borrow.Author.Tests.{lt-leb}
+use mathlib.Core.Path.{sym}
 use Prim.Native.Nat.{_+_, _<_}
 use native.Mathlib.Omega.{arith}
-use mathlib.Core.Path.{sym}
-use borrow.Author.Tests.{lt-leb}
 use Rattle.digits.proofs.Laws.Writes.{room-left}
 use Rattle.digits.proofs.write.has_room.Statement.{statement}
 use Rattle.digits.proofs.write.has_room.Tie as tie
-use Rattle.digits.proofs.write.has_room.Reads as reads
-use Rattle.digits.proofs.write.has_room.Lts as lts
 
--- src/write.rt:17:9
 returns : tie.Need-returns
 returns c = let h : c .before .args .len < c .before .args .at + c .before .args .n = omega arith in
     sym (lt-leb _ _ h)
 
--- src/write.rt:13:1
 returns-2 : tie.Need-returns-2
 returns-2 c = room-left (c .before .args .len) (c .before .args .at) (c .before .args .n) (c .if1 .left)
 

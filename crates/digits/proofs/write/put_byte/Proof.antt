@@ -1,39 +1,30 @@
-use Prim.Native.Nat.{_+_}
-use lib.ListN.{length}
-use mathlib.Core.Path.{sym, _∙_}
-use native.Mathlib.Omega.{arith}
+-- `digits::write::put_byte` meets its contract, by whether the digits fit. Assumes nothing.
 use borrow.Author.Tests.{leb-true}
+use borrow.Author.Needs.{needs}
+use mathlib.Core.Path.{sym, _∙_}
+use Prim.Native.Nat.{_+_}
+use native.Mathlib.Omega.{arith}
+use lib.ListN.{length}
 use Rattle.digits.specs.Digits.{byteDigits}
 use Rattle.digits.proofs.Laws.Writes.{length-byte, written, unwritten}
-use borrow.Author.Needs.{needs}
 use Rattle.digits.proofs.write.put_byte.Statement.{statement}
 use Rattle.digits.proofs.write.put_byte.Tie as tie
-use Rattle.digits.proofs.write.put_byte.Reads as reads
-use Rattle.digits.proofs.write.put_byte.Lts as lts
-use Rattle.digits.proofs.write.has_room.Reads as has-room-reads
-use Rattle.digits.proofs.write.write_byte.Reads as write-byte-reads
 
--- src/write.rt:79:9
 has-room-requires : tie.Need-has-room-requires
 has-room-requires c κs = search needs
 
--- src/write.rt:81:9
 write-byte-requires : tie.Need-write-byte-requires
 write-byte-requires c κs = leb-true _ _ (sym (c .before .before .has-room .ensures) ∙ c .before .if1 .taken)
 
--- src/write.rt:82:16
 add-result : tie.Need-add-result
 add-result c = omega (arith, leb-true (c .before .before .before .before .before .before .before .args .at + 2) (length (c .before .before .before .before .before .before .before .args .out .now)) (sym (c .before .before .before .before .before .has-room .ensures) ∙ c .before .before .before .before .if1 .taken))
 
--- src/write.rt:82:9
 same-length : tie.Need-same-length
 same-length c = search needs
 
--- src/write.rt:82:9
 returns : tie.Need-returns
 returns c = written (c .before .before .before .before .before .before .before .args .at) 2 (byteDigits (c .before .before .before .before .before .before .before .args .b)) (c .before .before .before .before .before .before .before .args .out .now) (length-byte (c .before .before .before .before .before .before .before .args .b)) _ (c .before .before .before .before .before .has-room .ensures) (c .before .before .before .before .if1 .taken) _ (c .before .before .write-byte .ensures)
 
--- src/write.rt:75:1
 returns-2 : tie.Need-returns-2
 returns-2 c = unwritten (c .before .before .before .args .at) 2 (byteDigits (c .before .before .before .args .b)) (c .before .before .before .args .out .now) (length-byte (c .before .before .before .args .b)) _ (c .before .has-room .ensures) (c .if1 .left)
 

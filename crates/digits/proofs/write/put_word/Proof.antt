@@ -1,39 +1,30 @@
-use Prim.Native.Nat.{_+_}
-use lib.ListN.{length}
-use mathlib.Core.Path.{sym, _∙_}
-use native.Mathlib.Omega.{arith}
+-- `digits::write::put_word` meets its contract, by whether the digits fit. Assumes nothing.
 use borrow.Author.Tests.{leb-true}
+use borrow.Author.Needs.{needs}
+use mathlib.Core.Path.{sym, _∙_}
+use Prim.Native.Nat.{_+_}
+use native.Mathlib.Omega.{arith}
+use lib.ListN.{length}
 use Rattle.digits.specs.Fields.{wordDigits}
 use Rattle.digits.proofs.Laws.Writes.{length-word, written, unwritten}
-use borrow.Author.Needs.{needs}
 use Rattle.digits.proofs.write.put_word.Statement.{statement}
 use Rattle.digits.proofs.write.put_word.Tie as tie
-use Rattle.digits.proofs.write.put_word.Reads as reads
-use Rattle.digits.proofs.write.put_word.Lts as lts
-use Rattle.digits.proofs.write.has_room.Reads as has-room-reads
-use Rattle.digits.proofs.write.write_word.Reads as write-word-reads
 
--- src/write.rt:107:9
 has-room-requires : tie.Need-has-room-requires
 has-room-requires c κs = search needs
 
--- src/write.rt:109:9
 write-word-requires : tie.Need-write-word-requires
 write-word-requires c κs = leb-true _ _ (sym (c .before .before .has-room .ensures) ∙ c .before .if1 .taken)
 
--- src/write.rt:110:16
 add-result : tie.Need-add-result
 add-result c = omega (arith, leb-true (c .before .before .before .before .before .before .before .args .at + 10) (length (c .before .before .before .before .before .before .before .args .out .now)) (sym (c .before .before .before .before .before .has-room .ensures) ∙ c .before .before .before .before .if1 .taken))
 
--- src/write.rt:110:9
 same-length : tie.Need-same-length
 same-length c = search needs
 
--- src/write.rt:110:9
 returns : tie.Need-returns
 returns c = written (c .before .before .before .before .before .before .before .args .at) 10 (wordDigits (c .before .before .before .before .before .before .before .args .w)) (c .before .before .before .before .before .before .before .args .out .now) (length-word (c .before .before .before .before .before .before .before .args .w)) _ (c .before .before .before .before .before .has-room .ensures) (c .before .before .before .before .if1 .taken) _ (c .before .before .write-word .ensures)
 
--- src/write.rt:103:1
 returns-2 : tie.Need-returns-2
 returns-2 c = unwritten (c .before .before .before .args .at) 10 (wordDigits (c .before .before .before .args .w)) (c .before .before .before .args .out .now) (length-word (c .before .before .before .args .w)) _ (c .before .has-room .ensures) (c .if1 .left)
 

@@ -1,19 +1,16 @@
+-- `digits::write::put_words` meets its contract. What is left of the words, written from where the loop stands, gives the whole. Assumes nothing.
+use borrow.Author.Tests.{leb-true, not-true, not-false}
+use borrow.Author.Needs.{needs}
 use mathlib.Core.Path.{_≡_, refl, sym, ap, _∙_}
 use Prim.Native.Nat.{ℕ, _+_, _*_, _-_, _≤_, _<_}
 use native.Mathlib.Omega.{arith}
-use borrow.Author.Tests.{leb-true, not-true, not-false}
 use lib.ListN.{length, drop}
 use Rattle.area.specs.Parts.{paste}
 use Rattle.digits.specs.Digits.{concatMap}
 use Rattle.digits.specs.Fields.{wordDigits}
 use Rattle.digits.proofs.Laws.Writes.{length-word, length-concat, written, unwritten, write-one, write-length, write-all}
-use borrow.Author.Needs.{needs}
 use Rattle.digits.proofs.write.put_words.Statement.{statement}
 use Rattle.digits.proofs.write.put_words.Tie as tie
-use Rattle.digits.proofs.write.put_words.Reads as reads
-use Rattle.digits.proofs.write.put_words.Lts as lts
-use Rattle.digits.proofs.write.words_fit.Reads as words-fit-reads
-use Rattle.digits.proofs.write.write_word.Reads as write-word-reads
 
 abbrev Inv-loop : tie.InvT-loop
 Inv-loop out₀ at words room to₀ i₀ out to i =
@@ -23,43 +20,33 @@ Inv-loop out₀ at words room to₀ i₀ out to i =
 abbrev μ-loop : tie.MeasureT-loop
 μ-loop out₀ at words room to₀ i₀ out to i = length words - i
 
--- src/write.rt:120:9
 words-fit-requires : tie.Need-words-fit-requires Inv-loop μ-loop
 words-fit-requires c κs = search needs
 
--- src/write.rt:122:9
 returns : tie.Need-returns Inv-loop μ-loop
 returns c = unwritten (c .before .before .before .before .args .at) (10 * length (c .before .before .before .before .args .words .now)) (concatMap wordDigits (c .before .before .before .before .args .words .now)) (c .before .before .before .before .args .out .now) (length-concat wordDigits 10 length-word (c .before .before .before .before .args .words .now)) _ (c .before .words-fit .ensures) (not-true _ (c .if1 .taken))
 
--- src/write.rt:126:5
 loop-holds : tie.Need-loop-holds Inv-loop μ-loop
 loop-holds c = (omega arith, omega arith, refl, leb-true _ _ (sym (c .before .words-fit .ensures) ∙ not-false _ (c .if1 .left)), refl)
 
--- src/write.rt:127:29
 mul-write-word : tie.Need-mul-write-word Inv-loop μ-loop
 mul-write-word c = search needs
 
--- src/write.rt:127:29
 shared-slice-read-write-word : tie.Need-shared-slice-read-write-word Inv-loop μ-loop
 shared-slice-read-write-word c = search needs
 
--- src/write.rt:127:9
 write-word-requires : tie.Need-write-word-requires Inv-loop μ-loop
 write-word-requires c κs = search needs
 
--- src/write.rt:128:9
 add-to : tie.Need-add-to Inv-loop μ-loop
 add-to c = search needs
 
--- src/write.rt:129:9
 add-i : tie.Need-add-i Inv-loop μ-loop
 add-i c = search needs
 
--- src/write.rt:126:5
 loop-less : tie.Need-loop-less Inv-loop μ-loop
 loop-less c = search needs
 
--- src/write.rt:126:5
 loop-again : tie.Need-loop-again Inv-loop μ-loop
 loop-again c = let t = c .before .before .before .before .before .before .loop in
     let a = c .before .before .before .before .before .before .before .before .before .before .before .args in
@@ -72,11 +59,9 @@ loop-again c = let t = c .before .before .before .before .before .before .loop i
       write-one wordDigits 10 length-word (a .out .now) (a .words .now) (t .out) (t .to) (t .i) (a .at) h r (t .inv .4) _ (c .before .before .write-word .ensures),
     )
 
--- src/write.rt:116:1
 same-length : tie.Need-same-length Inv-loop μ-loop
 same-length c = c .before .loop .inv .2
 
--- src/write.rt:116:1
 returns-2 : tie.Need-returns-2 Inv-loop μ-loop
 returns-2 c = let t = c .before .loop in
     let a = c .before .before .before .before .before .before .args in

@@ -1,20 +1,16 @@
-use Prim.Native.Nat.{_+_, _*_, _<_}
-use Rattle.digits.proofs.Laws.Writes.{words-left}
-use native.Mathlib.Omega.{arith}
-use mathlib.Core.Path.{sym}
+-- `digits::write::words_fit` meets its contract: what is left after the place decides. Assumes nothing.
 use borrow.Author.Tests.{lt-leb}
-use Rattle.digits.proofs.Laws.Writes.{room-left}
+use mathlib.Core.Path.{sym}
+use Prim.Native.Nat.{_+_, _*_, _<_}
+use native.Mathlib.Omega.{arith}
+use Rattle.digits.proofs.Laws.Writes.{words-left}
 use Rattle.digits.proofs.write.words_fit.Statement.{statement}
 use Rattle.digits.proofs.write.words_fit.Tie as tie
-use Rattle.digits.proofs.write.words_fit.Reads as reads
-use Rattle.digits.proofs.write.words_fit.Lts as lts
 
--- src/write.rt:27:9
 returns : tie.Need-returns
 returns c = let h : c .before .args .len < c .before .args .at + 10 * c .before .args .n = omega arith in
     sym (lt-leb _ _ h)
 
--- src/write.rt:23:1
 returns-2 : tie.Need-returns-2
 returns-2 c = words-left (c .before .args .len) (c .before .args .at) (c .before .args .n) (c .if1 .left)
 

@@ -1,77 +1,55 @@
-use mathlib.Core.Path.{ap, _∙_}
-use Rattle.area.specs.Parts.{paste}
-use Rattle.digits.specs.Digits.{byteDigits}
-use Rattle.digits.proofs.Laws.Writes.{word-written}
-use Prim.Native.Nat.{ℕ, _+_}
+-- `digits::write::write_word` meets its contract: five pastes, one right after the other, are one. Assumes nothing.
 use borrow.Author.Needs.{needs}
+use mathlib.Core.Path.{_∙_}
+use Rattle.digits.proofs.Laws.Writes.{word-written}
 use Rattle.digits.proofs.write.write_word.Statement.{statement}
 use Rattle.digits.proofs.write.write_word.Tie as tie
-use Rattle.digits.proofs.write.write_word.Reads as reads
-use Rattle.digits.proofs.write.write_word.Lts as lts
-use Rattle.digits.proofs.write.low.Reads as low-reads
-use Rattle.digits.proofs.write.write_byte.Reads as write-byte-reads
 
--- src/write.rt:67:25
 low-requires : tie.Need-low-requires
 low-requires c κs = search needs
 
--- src/write.rt:67:5
 write-byte-requires : tie.Need-write-byte-requires
 write-byte-requires c κs = search needs
 
--- src/write.rt:68:21
 add-write-byte : tie.Need-add-write-byte
 add-write-byte c = search needs
 
--- src/write.rt:68:29
 low-requires-2 : tie.Need-low-requires-2
 low-requires-2 c κs = search needs
 
--- src/write.rt:68:5
 write-byte-requires-2 : tie.Need-write-byte-requires-2
 write-byte-requires-2 c κs = search needs
 
--- src/write.rt:69:21
 add-write-byte-2 : tie.Need-add-write-byte-2
 add-write-byte-2 c = search needs
 
--- src/write.rt:69:29
 low-requires-3 : tie.Need-low-requires-3
 low-requires-3 c κs = search needs
 
--- src/write.rt:69:5
 write-byte-requires-3 : tie.Need-write-byte-requires-3
 write-byte-requires-3 c κs = search needs
 
--- src/write.rt:70:21
 add-write-byte-3 : tie.Need-add-write-byte-3
 add-write-byte-3 c = search needs
 
--- src/write.rt:70:29
 low-requires-4 : tie.Need-low-requires-4
 low-requires-4 c κs = search needs
 
--- src/write.rt:70:5
 write-byte-requires-4 : tie.Need-write-byte-requires-4
 write-byte-requires-4 c κs = search needs
 
--- src/write.rt:71:21
 add-write-byte-4 : tie.Need-add-write-byte-4
 add-write-byte-4 c = search needs
 
--- src/write.rt:71:29
 low-requires-5 : tie.Need-low-requires-5
 low-requires-5 c κs = search needs
 
--- src/write.rt:71:5
 write-byte-requires-5 : tie.Need-write-byte-requires-5
 write-byte-requires-5 c κs = search needs
 
--- src/write.rt:63:1
 same-length : tie.Need-same-length
 same-length c = search needs
 
--- src/write.rt:63:1
 returns : tie.Need-returns
 returns c = word-written (c .before .before .before .before .before .before .before .before .before .before .before .before .before .before .before .before .before .before .before .before .before .before .before .before .before .before .args .at) (c .before .before .before .before .before .before .before .before .before .before .before .before .before .before .before .before .before .before .before .before .before .before .before .before .before .before .args .out .now) (c .before .before .before .before .before .before .before .before .before .before .before .before .before .before .before .before .before .before .before .before .before .before .before .before .before .before .args .w) _ _ _ _ _ (c .before .before .before .before .before .before .before .before .before .before .before .before .before .before .before .before .before .before .before .before .before .before .before .before .before .before .pre) (c .before .before .before .before .before .before .before .before .before .before .before .before .before .before .before .before .before .before .before .before .before .before .write-byte .ensures ∙ rw (c .before .before .before .before .before .before .before .before .before .before .before .before .before .before .before .before .before .before .before .before .before .before .before .low .ensures)) (c .before .before .before .before .before .before .before .before .before .before .before .before .before .before .before .before .before .write-byte2 .ensures ∙ rw (c .before .before .before .before .before .before .before .before .before .before .before .before .before .before .before .before .before .before .low2 .ensures)) (c .before .before .before .before .before .before .before .before .before .before .before .before .write-byte3 .ensures ∙ rw (c .before .before .before .before .before .before .before .before .before .before .before .before .before .low3 .ensures)) (c .before .before .before .before .before .before .before .write-byte4 .ensures ∙ rw (c .before .before .before .before .before .before .before .before .low4 .ensures)) (c .before .before .write-byte5 .ensures ∙ rw (c .before .before .before .low5 .ensures))
 

@@ -1,130 +1,97 @@
-use mathlib.Core.Path.{_≡_, refl, sym, ap, _∙_}
+-- `frame::decode::kind_of` meets its contract: each arm is the case of the definition that its first byte names. Assumes nothing.
+use borrow.Author.Needs.{needs}
+use mathlib.Core.Path.{sym, ap, _∙_}
 use Prim.Native.Nat.{ℕ}
 use Rattle.digits.specs.Digits.{bytesOf}
 use Rattle.frame.specs.declared.Frame.the-variants.{Close, Get, Seal, Skip}
 use Rattle.frame.specs.Frames.{sized, kindBy}
 use Rattle.frame.proofs.Laws.Sizes.{kind-is, kind-none}
-use borrow.Author.Needs.{needs}
 use Rattle.frame.proofs.decode.kind_of.Statement.{statement}
 use Rattle.frame.proofs.decode.kind_of.Tie as tie
-use Rattle.frame.proofs.decode.kind_of.Reads as reads
-use Rattle.frame.proofs.decode.kind_of.Lts as lts
-use Rattle.digits.proofs.byte_at.Reads as byte-at-reads
-use Rattle.frame.proofs.kinds.ask.Reads as ask-reads
-use Rattle.frame.proofs.kinds.fresh.Reads as fresh-reads
-use Rattle.frame.proofs.kinds.if_sized.Reads as if-sized-reads
-use Rattle.frame.proofs.kinds.opening.Reads as opening-reads
-use Rattle.frame.proofs.kinds.put.Reads as put-reads
-use Rattle.frame.proofs.kinds.report.Reads as report-reads
 
--- src/decode.rt:35:9
 byte-at-requires : tie.Need-byte-at-requires
 byte-at-requires c κs = search needs
 
--- src/decode.rt:36:9
 byte-at-requires-2 : tie.Need-byte-at-requires-2
 byte-at-requires-2 c κs = search needs
 
--- src/decode.rt:38:14
 fresh-requires : tie.Need-fresh-requires
 fresh-requires c κs = search needs
 
--- src/decode.rt:39:14
 opening-requires : tie.Need-opening-requires
 opening-requires c κs = search needs
 
--- src/decode.rt:40:14
 if-sized-requires : tie.Need-if-sized-requires
 if-sized-requires c κs = search needs
 
--- src/decode.rt:41:14
 ask-requires : tie.Need-ask-requires
 ask-requires c κs = search needs
 
--- src/decode.rt:42:14
 report-requires : tie.Need-report-requires
 report-requires c κs = search needs
 
--- src/decode.rt:43:14
 if-sized-requires-2 : tie.Need-if-sized-requires-2
 if-sized-requires-2 c κs = search needs
 
--- src/decode.rt:44:14
 put-requires : tie.Need-put-requires
 put-requires c κs = search needs
 
--- src/decode.rt:45:14
 if-sized-requires-3 : tie.Need-if-sized-requires-3
 if-sized-requires-3 c κs = search needs
 
--- src/decode.rt:46:14
 if-sized-requires-4 : tie.Need-if-sized-requires-4
 if-sized-requires-4 c κs = search needs
 
--- src/decode.rt:47:14
 if-sized-requires-5 : tie.Need-if-sized-requires-5
 if-sized-requires-5 c κs = search needs
 
--- src/decode.rt:48:15
 if-sized-requires-6 : tie.Need-if-sized-requires-6
 if-sized-requires-6 c κs = search needs
 
--- src/decode.rt:32:1
 returns : tie.Need-returns
 unfolding kindBy
 returns c = c .fresh .ensures ∙ sym (kind-is 0 (c .before .before .before .before .before .args .n) (bytesOf (c .before .before .before .before .before .args .line .now)) (sym (c .before .before .before .byte-at .ensures) ∙ c .before .match .keys1))
 
--- src/decode.rt:32:1
 returns-2 : tie.Need-returns-2
 unfolding kindBy
 returns-2 c = c .opening .ensures ∙ sym (kind-is 1 (c .before .before .before .before .before .args .n) (bytesOf (c .before .before .before .before .before .args .line .now)) (sym (c .before .before .before .byte-at .ensures) ∙ c .before .match .keys2))
 
--- src/decode.rt:32:1
 returns-3 : tie.Need-returns-3
 unfolding kindBy
 returns-3 c = c .if-sized .ensures ∙ ap (λ (x : ℕ). sized (c .before .before .before .before .before .args .n) 2 (Close x)) (c .before .before .byte-at2 .ensures) ∙ sym (kind-is 2 (c .before .before .before .before .before .args .n) (bytesOf (c .before .before .before .before .before .args .line .now)) (sym (c .before .before .before .byte-at .ensures) ∙ c .before .match .keys3))
 
--- src/decode.rt:32:1
 returns-4 : tie.Need-returns-4
 unfolding kindBy
 returns-4 c = c .ask .ensures ∙ sym (kind-is 3 (c .before .before .before .before .before .args .n) (bytesOf (c .before .before .before .before .before .args .line .now)) (sym (c .before .before .before .byte-at .ensures) ∙ c .before .match .keys4))
 
--- src/decode.rt:32:1
 returns-5 : tie.Need-returns-5
 unfolding kindBy
 returns-5 c = c .report .ensures ∙ sym (kind-is 4 (c .before .before .before .before .before .args .n) (bytesOf (c .before .before .before .before .before .args .line .now)) (sym (c .before .before .before .byte-at .ensures) ∙ c .before .match .keys5))
 
--- src/decode.rt:32:1
 returns-6 : tie.Need-returns-6
 unfolding kindBy
 returns-6 c = c .if-sized2 .ensures ∙ ap (λ (x : ℕ). sized (c .before .before .before .before .before .args .n) 2 (Get x)) (c .before .before .byte-at2 .ensures) ∙ sym (kind-is 5 (c .before .before .before .before .before .args .n) (bytesOf (c .before .before .before .before .before .args .line .now)) (sym (c .before .before .before .byte-at .ensures) ∙ c .before .match .keys6))
 
--- src/decode.rt:32:1
 returns-7 : tie.Need-returns-7
 unfolding kindBy
 returns-7 c = c .put .ensures ∙ sym (kind-is 6 (c .before .before .before .before .before .args .n) (bytesOf (c .before .before .before .before .before .args .line .now)) (sym (c .before .before .before .byte-at .ensures) ∙ c .before .match .keys7))
 
--- src/decode.rt:32:1
 returns-8 : tie.Need-returns-8
 unfolding kindBy
 returns-8 c = c .if-sized3 .ensures ∙ ap (λ (x : ℕ). sized (c .before .before .before .before .before .args .n) 2 (Seal x)) (c .before .before .byte-at2 .ensures) ∙ sym (kind-is 7 (c .before .before .before .before .before .args .n) (bytesOf (c .before .before .before .before .before .args .line .now)) (sym (c .before .before .before .byte-at .ensures) ∙ c .before .match .keys8))
 
--- src/decode.rt:32:1
 returns-9 : tie.Need-returns-9
 unfolding kindBy
 returns-9 c = c .if-sized4 .ensures ∙ ap (λ (x : ℕ). sized (c .before .before .before .before .before .args .n) 2 (Skip x)) (c .before .before .byte-at2 .ensures) ∙ sym (kind-is 8 (c .before .before .before .before .before .args .n) (bytesOf (c .before .before .before .before .before .args .line .now)) (sym (c .before .before .before .byte-at .ensures) ∙ c .before .match .keys9))
 
--- src/decode.rt:32:1
 returns-10 : tie.Need-returns-10
 unfolding kindBy
 returns-10 c = c .if-sized5 .ensures ∙ sym (kind-is 9 (c .before .before .before .before .before .args .n) (bytesOf (c .before .before .before .before .before .args .line .now)) (sym (c .before .before .before .byte-at .ensures) ∙ c .before .match .keys10))
 
--- src/decode.rt:32:1
 returns-11 : tie.Need-returns-11
 unfolding kindBy
 returns-11 c = c .if-sized6 .ensures ∙ sym (kind-is 10 (c .before .before .before .before .before .args .n) (bytesOf (c .before .before .before .before .before .args .line .now)) (sym (c .before .before .before .byte-at .ensures) ∙ c .before .match .keys11))
 
--- src/decode.rt:32:1
 returns-12 : tie.Need-returns-12
 returns-12 c = sym (kind-is (c .before .before .byte-at .result) (c .before .before .before .before .args .n) (bytesOf (c .before .before .before .before .args .line .now)) (sym (c .before .before .byte-at .ensures)) ∙ kind-none _ _ _ (c .match .rest .0 .0 .0 .0 .0 .0 .0 .0 .0 .0 .1) (c .match .rest .0 .0 .0 .0 .0 .0 .0 .0 .0 .1) (c .match .rest .0 .0 .0 .0 .0 .0 .0 .0 .1) (c .match .rest .0 .0 .0 .0 .0 .0 .0 .1) (c .match .rest .0 .0 .0 .0 .0 .0 .1) (c .match .rest .0 .0 .0 .0 .0 .1) (c .match .rest .0 .0 .0 .0 .1) (c .match .rest .0 .0 .0 .1) (c .match .rest .0 .0 .1) (c .match .rest .0 .1) (c .match .rest .1))
 

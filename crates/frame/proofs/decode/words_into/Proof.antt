@@ -1,19 +1,14 @@
+-- `frame::decode::words_into` meets its contract. The words that are left fill the rest of the room (`Fills`). Assumes nothing.
+use borrow.Author.Needs.{needs}
+use mathlib.Core.Path.{_≡_, refl}
 use Prim.Native.Nat.{_+_, _-_, _/_, _≤_, _<_}
-use mathlib.Core.Path.{_≡_, refl, sym, ap, _∙_}
-use mathlib.Core.List.{List}
 use native.Mathlib.Omega.{arith}
-use lib.ListN.{length, set, length-set}
+use lib.ListN.{length, length-set}
 use Rattle.area.specs.Parts.{paste}
-use Rattle.digits.specs.Digits.{bytesOf}
-use Rattle.digits.specs.Fields.{wordAt}
 use Rattle.frame.specs.Frames.{wordsFrom}
 use Rattle.frame.proofs.Laws.Words.{Fills, fills-none, fills-one, filled-line, filled-room}
-use borrow.Author.Needs.{needs}
 use Rattle.frame.proofs.decode.words_into.Statement.{statement}
 use Rattle.frame.proofs.decode.words_into.Tie as tie
-use Rattle.frame.proofs.decode.words_into.Reads as reads
-use Rattle.frame.proofs.decode.words_into.Lts as lts
-use Rattle.digits.proofs.word_at.Reads as word-at-reads
 
 abbrev Inv-loop : tie.InvT-loop
 Inv-loop line start room₀ n at₀ i₀ room at i =
@@ -23,51 +18,39 @@ Inv-loop line start room₀ n at₀ i₀ room at i =
 abbrev μ-loop : tie.MeasureT-loop
 μ-loop line start room₀ n at₀ i₀ room at i = length room₀ - i
 
--- src/decode.rt:74:5
 loop-holds : tie.Need-loop-holds Inv-loop μ-loop
 loop-holds c = (refl, search needs, refl, fills-none (c .before .before .args .line .now) (c .before .before .args .room .now) (c .before .before .args .start) (length (c .before .before .args .room .now)))
 
--- src/decode.rt:76:13
 same-length : tie.Need-same-length Inv-loop μ-loop
 same-length c = c .before .before .loop .inv .2
 
--- src/decode.rt:76:13
 returns : tie.Need-returns Inv-loop μ-loop
 returns c = filled-line (c .before .before .before .before .before .args .line .now) (c .before .before .loop .room) _ (c .before .before .loop .at) (c .before .before .loop .i) (length (c .before .before .before .before .before .args .room .now)) _ (omega arith) (c .before .before .loop .inv .3)
 
--- src/decode.rt:79:13
 same-length-2 : tie.Need-same-length-2 Inv-loop μ-loop
 same-length-2 c = c .before .before .before .loop .inv .2
 
--- src/decode.rt:79:13
 returns-2 : tie.Need-returns-2 Inv-loop μ-loop
 returns-2 c = filled-line (c .before .before .before .before .before .before .args .line .now) (c .before .before .before .loop .room) _ (c .before .before .before .loop .at) (c .before .before .before .loop .i) (length (c .before .before .before .before .before .before .args .room .now)) _ (omega arith) (c .before .before .before .loop .inv .3)
 
--- src/decode.rt:81:13
 word-at-requires : tie.Need-word-at-requires Inv-loop μ-loop
 word-at-requires c κs = search needs
 
--- src/decode.rt:82:9
 mul-room : tie.Need-mul-room Inv-loop μ-loop
 mul-room c = search needs
 
--- src/decode.rt:82:9
 slice-write-room : tie.Need-slice-write-room Inv-loop μ-loop
 slice-write-room c = search needs
 
--- src/decode.rt:83:9
 add-i : tie.Need-add-i Inv-loop μ-loop
 add-i c = search needs
 
--- src/decode.rt:84:9
 add-at : tie.Need-add-at Inv-loop μ-loop
 add-at c = search needs
 
--- src/decode.rt:74:5
 loop-less : tie.Need-loop-less Inv-loop μ-loop
 loop-less c = search needs
 
--- src/decode.rt:74:5
 loop-again : tie.Need-loop-again Inv-loop μ-loop
 loop-again c = let t = c .before .before .before .before .loop in
     let a = c .before .before .before .before .before .before .before .args in
@@ -75,11 +58,9 @@ loop-again c = let t = c .before .before .before .before .loop in
     let left : t .at + 5 ≤ length (a .line .now) / 2 = omega arith in
     (t .inv .0, omega arith, simp length-set (t .inv .2), rw (c .word-at .ensures) (fills-one (a .line .now) (t .room) _ (t .at) (t .i) (length (a .room .now)) _ (t .inv .2) below left (t .inv .3)))
 
--- src/decode.rt:67:1
 same-length-3 : tie.Need-same-length-3 Inv-loop μ-loop
 same-length-3 c = c .before .loop .inv .2
 
--- src/decode.rt:67:1
 returns-3 : tie.Need-returns-3 Inv-loop μ-loop
 returns-3 c = filled-room (c .before .before .before .before .args .line .now) (c .before .loop .room) _ (c .before .loop .at) (c .before .loop .i) (length (c .before .before .before .before .args .room .now)) _ (omega arith) (c .before .loop .inv .3)
 

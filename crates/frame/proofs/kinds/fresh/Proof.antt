@@ -1,47 +1,34 @@
+-- `frame::kinds::fresh` meets its contract: each number is the field that its definition names. Assumes nothing.
+use borrow.Author.Needs.{needs}
 use mathlib.Core.Path.{_∙_}
 use Rattle.frame.specs.Frames.{freshOf}
-use borrow.Author.Needs.{needs}
 use Rattle.frame.proofs.kinds.fresh.Statement.{statement}
 use Rattle.frame.proofs.kinds.fresh.Tie as tie
-use Rattle.frame.proofs.kinds.fresh.Reads as reads
-use Rattle.frame.proofs.kinds.fresh.Lts as lts
-use Rattle.digits.proofs.byte_at.Reads as byte-at-reads
-use Rattle.digits.proofs.size_at.Reads as size-at-reads
-use Rattle.frame.proofs.kinds.if_sized.Reads as if-sized-reads
 
--- src/kinds.rt:48:12
 size-at-requires : tie.Need-size-at-requires
 size-at-requires c κs = search needs
 
--- src/kinds.rt:49:12
 size-at-requires-2 : tie.Need-size-at-requires-2
 size-at-requires-2 c κs = search needs
 
--- src/kinds.rt:50:12
 size-at-requires-3 : tie.Need-size-at-requires-3
 size-at-requires-3 c κs = search needs
 
--- src/kinds.rt:51:12
 size-at-requires-4 : tie.Need-size-at-requires-4
 size-at-requires-4 c κs = search needs
 
--- src/kinds.rt:52:12
 size-at-requires-5 : tie.Need-size-at-requires-5
 size-at-requires-5 c κs = search needs
 
--- src/kinds.rt:54:9
 byte-at-requires : tie.Need-byte-at-requires
 byte-at-requires c κs = search needs
 
--- src/kinds.rt:55:9
 size-at-requires-6 : tie.Need-size-at-requires-6
 size-at-requires-6 c κs = search needs
 
--- src/kinds.rt:56:5
 if-sized-requires : tie.Need-if-sized-requires
 if-sized-requires c κs = search needs
 
--- src/kinds.rt:44:1
 returns : tie.Need-returns
 unfolding freshOf
 returns c = c .if-sized .ensures ∙ rw (c .before .before .before .before .before .before .before .size-at .ensures, c .before .before .before .before .before .before .size-at2 .ensures, c .before .before .before .before .before .size-at3 .ensures, c .before .before .before .before .size-at4 .ensures, c .before .before .before .size-at5 .ensures, c .before .before .byte-at .ensures, c .before .size-at6 .ensures)

@@ -1,19 +1,15 @@
+-- `frame::kinds::if_worded` meets its contract, by what is left after the head. Assumes nothing.
 use mathlib.Core.Path.{sym}
 use Rattle.frame.proofs.Laws.Sizes.{worded-short, worded-yes, worded-no}
 use Rattle.frame.proofs.kinds.if_worded.Statement.{statement}
 use Rattle.frame.proofs.kinds.if_worded.Tie as tie
-use Rattle.frame.proofs.kinds.if_worded.Reads as reads
-use Rattle.frame.proofs.kinds.if_worded.Lts as lts
 
--- src/kinds.rt:25:9
 returns : tie.Need-returns
 returns c = sym (worded-short (c .before .args .n) (c .before .args .head) (c .before .args .f) (c .if1 .taken))
 
--- src/kinds.rt:28:9
 returns-2 : tie.Need-returns-2
 returns-2 c = sym (worded-yes (c .before .before .args .n) (c .before .before .args .head) (c .before .before .args .f) (c .before .if1 .left) (c .if2 .taken))
 
--- src/kinds.rt:21:1
 returns-3 : tie.Need-returns-3
 returns-3 c = sym (worded-no (c .before .before .args .n) (c .before .before .args .head) (c .before .before .args .f) (c .before .if1 .left) (c .if2 .left))
 

@@ -1,16 +1,13 @@
+-- `frame::kinds::words_after` meets its contract, by whether the head is there. Assumes nothing.
 use mathlib.Core.Path.{refl, sym}
 use Rattle.frame.specs.Frames.{wordsAfter}
 use Rattle.frame.proofs.Laws.Sizes.{words-none}
 use Rattle.frame.proofs.kinds.words_after.Statement.{statement}
 use Rattle.frame.proofs.kinds.words_after.Tie as tie
-use Rattle.frame.proofs.kinds.words_after.Reads as reads
-use Rattle.frame.proofs.kinds.words_after.Lts as lts
 
--- src/kinds.rt:38:9
 returns : tie.Need-returns
 returns c = sym (words-none (c .before .args .n) (c .before .args .head) (c .if1 .taken))
 
--- src/kinds.rt:34:1
 returns-2 : tie.Need-returns-2
 unfolding wordsAfter
 returns-2 c = refl

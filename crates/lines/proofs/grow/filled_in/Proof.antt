@@ -1,18 +1,14 @@
-use mathlib.Core.Path.{sym}
+-- `lines::grow::filled_in` meets its contract, by whether the room has as many. Assumes nothing.
 use borrow.Author.Tests.{lt-ltb, le-ltb}
 use borrow.Author.Needs.{needs}
 use Rattle.lines.specs.Machine.{filledIn}
 use Rattle.lines.proofs.grow.filled_in.Statement.{statement}
 use Rattle.lines.proofs.grow.filled_in.Tie as tie
-use Rattle.lines.proofs.grow.filled_in.Reads as reads
-use Rattle.lines.proofs.grow.filled_in.Lts as lts
 
--- src/grow.rt:32:9
 returns : tie.Need-returns
 unfolding filledIn
 returns c = (rw (lt-ltb _ _ (c .if1 .taken)), search needs)
 
--- src/grow.rt:28:1
 returns-2 : tie.Need-returns-2
 unfolding filledIn
 returns-2 c = (rw (le-ltb _ _ (c .if1 .left)), search needs)

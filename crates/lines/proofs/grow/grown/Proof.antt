@@ -1,57 +1,38 @@
-use mathlib.Core.Path.{sym, ap, _∙_}
-use Prim.Native.Nat.{ℕ, _+_, _≤_}
-use mathlib.Core.List.{List}
-use lib.ListN.{length}
-use Rattle.area.specs.Parts.{pasteFits, pastedIn}
-use Rattle.lines.specs.Machine.{filledIn}
-use Rattle.lines.proofs.Laws.Grows.{grown-over, fits-as, misfit-as}
+-- `lines::grow::grown` meets its contract, by the three cases of a line that grows. Assumes nothing.
 use borrow.Author.Needs.{needs}
+use mathlib.Core.Path.{sym, _∙_}
+use Rattle.lines.proofs.Laws.Grows.{grown-over, fits-as, misfit-as}
 use Rattle.lines.proofs.grow.grown.Statement.{statement}
 use Rattle.lines.proofs.grow.grown.Tie as tie
-use Rattle.lines.proofs.grow.grown.Reads as reads
-use Rattle.lines.proofs.grow.grown.Lts as lts
-use Rattle.lines.proofs.grow.copy_in.Reads as copy-in-reads
-use Rattle.lines.proofs.grow.filled_in.Reads as filled-in-reads
-use Rattle.lines.proofs.grow.overlong_line.Reads as overlong-line-reads
 
--- src/grow.rt:53:9
 overlong-line-requires : tie.Need-overlong-line-requires
 overlong-line-requires c κs = search needs
 
--- src/grow.rt:53:9
 returns : tie.Need-returns
 returns c = let g = grown-over (c .before .before .before .before .args .line) (c .before .before .before .before .args .piece .now) (c .before .before .before .before .args .room .now) (c .before .if1 .taken) in
     (c .overlong-line .ensures ∙ sym (g .0), sym (g .1))
 
--- src/grow.rt:55:9
 filled-in-requires : tie.Need-filled-in-requires
 filled-in-requires c κs = search needs
 
--- src/grow.rt:56:9
 copy-in-requires : tie.Need-copy-in-requires
 copy-in-requires c κs = search needs
 
--- src/grow.rt:59:21
 add-t11 : tie.Need-add-t11
 add-t11 c = search needs
 
--- src/grow.rt:58:9
 same-length : tie.Need-same-length
 same-length c = search needs
 
--- src/grow.rt:58:9
 returns-2 : tie.Need-returns-2
 returns-2 c = fits-as (c .before .before .before .before .before .before .before .before .before .args .line) (c .before .before .before .before .before .before .before .before .before .args .piece .now) (c .before .before .before .before .before .before .before .before .before .args .room .now) (c .before .before .before .before .before .filled-in .result) (c .before .before .before .before .before .filled-in .ensures .0) (c .before .before .before .before .before .before .if1 .left) _ _ (c .before .before .before .copy-in .ensures .0) (c .if2 .taken) (c .before .before .before .copy-in .ensures .1)
 
--- src/grow.rt:63:5
 overlong-line-requires-2 : tie.Need-overlong-line-requires-2
 overlong-line-requires-2 c κs = search needs
 
--- src/grow.rt:48:1
 same-length-2 : tie.Need-same-length-2
 same-length-2 c = search needs
 
--- src/grow.rt:48:1
 returns-3 : tie.Need-returns-3
 returns-3 c = misfit-as (c .before .before .before .before .before .before .before .before .before .before .args .line) (c .before .before .before .before .before .before .before .before .before .before .args .piece .now) (c .before .before .before .before .before .before .before .before .before .before .args .room .now) (c .before .before .before .before .before .before .filled-in .result) (c .before .before .before .before .before .before .filled-in .ensures .0) (c .before .before .before .before .before .before .before .if1 .left) _ _ (c .before .before .before .before .copy-in .ensures .0) (c .before .if2 .left) (c .before .before .before .before .copy-in .ensures .1) _ (c .overlong-line2 .ensures)
 

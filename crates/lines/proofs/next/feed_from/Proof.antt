@@ -1,14 +1,13 @@
-use Prim.Native.Nat.{_+_, _-_, _≤_, max}
+-- `lines::next::feed_from` meets its contract. From every place on the way the same line feed is the next. Assumes nothing.
+use borrow.Author.Needs.{needs}
 use mathlib.Core.Path.{_≡_, refl}
+use Prim.Native.Nat.{_+_, _-_, _≤_, max}
 use native.Mathlib.Omega.{arith}
 use lib.ListN.{length, drop}
 use Rattle.lines.specs.Lines.{feedAt}
 use Rattle.lines.proofs.Laws.Feeds.{feed-hit, feed-miss, feed-done}
-use borrow.Author.Needs.{needs}
 use Rattle.lines.proofs.next.feed_from.Statement.{statement}
 use Rattle.lines.proofs.next.feed_from.Tie as tie
-use Rattle.lines.proofs.next.feed_from.Reads as reads
-use Rattle.lines.proofs.next.feed_from.Lts as lts
 
 abbrev Inv-loop : tie.InvT-loop
 Inv-loop bytes at i₀ i = (at ≤ i) × (i ≤ max at (length bytes)) × (at + feedAt (drop at bytes) ≡ i + feedAt (drop i bytes))
@@ -16,31 +15,24 @@ Inv-loop bytes at i₀ i = (at ≤ i) × (i ≤ max at (length bytes)) × (at + 
 abbrev μ-loop : tie.MeasureT-loop
 μ-loop bytes at i₀ i = length bytes - i
 
--- src/next.rt:36:5
 loop-holds : tie.Need-loop-holds Inv-loop μ-loop
 loop-holds c = (search needs, search needs, refl)
 
--- src/next.rt:37:12
 shared-slice-read-if1 : tie.Need-shared-slice-read-if1 Inv-loop μ-loop
 shared-slice-read-if1 c = search needs
 
--- src/next.rt:38:13
 returns : tie.Need-returns Inv-loop μ-loop
 returns c = (feed-hit (c .before .before .before .before .args .bytes .now) (c .before .before .before .loop .i) _ (c .before .before .loop-test .taken) (c .before .before .before .loop .inv .2) (c .if1 .taken), search needs, search needs)
 
--- src/next.rt:40:9
 add-i : tie.Need-add-i Inv-loop μ-loop
 add-i c = search needs
 
--- src/next.rt:36:5
 loop-less : tie.Need-loop-less Inv-loop μ-loop
 loop-less c = search needs
 
--- src/next.rt:36:5
 loop-again : tie.Need-loop-again Inv-loop μ-loop
 loop-again c = (search needs, omega arith, feed-miss (c .before .before .before .before .args .bytes .now) (c .before .before .before .loop .i) _ (c .before .before .loop-test .taken) (c .before .before .before .loop .inv .2) (c .if1 .left))
 
--- src/next.rt:32:1
 returns-2 : tie.Need-returns-2 Inv-loop μ-loop
 returns-2 c = (feed-done (c .before .before .args .bytes .now) (c .before .loop .i) _ (c .loop-test .left) (c .before .loop .inv .2), search needs, search needs)
 
