@@ -35,11 +35,17 @@ line-fits-requires : tie.Need-line-fits-requires
 line-fits-requires c κs = leads (c .before .before .before .before .args .a) (c .before .lead-of .result) (c .before .lead-of .ensures) .most
 
 returns : tie.Need-returns
-returns c = text-unwritten (c .before .before .before .before .before .before .args .a) (c .before .before .before .lead-of .result) (c .before .before .before .before .before .before .args .words .now) _ (leads (c .before .before .before .before .before .before .args .a) (c .before .before .before .lead-of .result) (c .before .before .before .lead-of .ensures)) (c .before .before .shown .ensures) (c .before .before .before .before .before .before .args .out .now) _ (c .before .line-fits .ensures) (not-true _ (c .if1 .taken))
+returns c =
+    let a = c .before .before .before .before .before .before .args in
+    let lead-of = c .before .before .before .lead-of in
+    text-unwritten (a .a) (lead-of .result) (a .words .now) _ (leads (a .a) (lead-of .result) (lead-of .ensures)) (c .before .before .shown .ensures) (a .out .now) _ (c .before .line-fits .ensures) (not-true _ (c .if1 .taken))
 
 write-lead-requires : tie.Need-write-lead-requires
-write-lead-requires c κs = let is = leads (c .before .before .before .before .before .before .before .args .a) (c .before .before .before .before .lead-of .result) (c .before .before .before .before .lead-of .ensures) in
-    (is .some, is .most, omega (arith, leb-true (2 * c .before .before .before .before .lead-of .result .count + 10 * length (c .before .before .before .shown .result .now) + 1) (length (c .before .before .before .before .before .before .before .args .out .now)) (sym (c .before .before .line-fits .ensures) ∙ not-false _ (c .before .if1 .left))))
+write-lead-requires c κs =
+    let a = c .before .before .before .before .before .before .before .args in
+    let lead-of = c .before .before .before .before .lead-of in
+    let is = leads (a .a) (lead-of .result) (lead-of .ensures) in
+    (is .some, is .most, omega (arith, leb-true (2 * lead-of .result .count + 10 * length (c .before .before .before .shown .result .now) + 1) (length (a .out .now)) (sym (c .before .before .line-fits .ensures) ∙ not-false _ (c .before .if1 .left))))
 
 put-words-requires : tie.Need-put-words-requires
 put-words-requires c κs = search needs

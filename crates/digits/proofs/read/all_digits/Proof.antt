@@ -26,7 +26,9 @@ is-digit-requires : tie.Need-is-digit-requires Inv-loop μ-loop
 is-digit-requires c κs = search needs
 
 returns : tie.Need-returns Inv-loop μ-loop
-returns c = all-hit isDigit (c .before .before .before .before .before .before .args .line .now) 0 (c .before .before .before .before .loop .i) _ (c .before .before .before .loop-test .taken) (c .before .before .before .before .loop .inv) (sym (c .before .is-digit .ensures) ∙ not-true _ (c .if1 .taken))
+returns c =
+    let t = c .before .before .before .before .loop in
+    all-hit isDigit (c .before .before .before .before .before .before .args .line .now) 0 (t .i) _ (c .before .before .before .loop-test .taken) (t .inv) (sym (c .before .is-digit .ensures) ∙ not-true _ (c .if1 .taken))
 
 add-i : tie.Need-add-i Inv-loop μ-loop
 add-i c = search needs
@@ -35,7 +37,9 @@ loop-less : tie.Need-loop-less Inv-loop μ-loop
 loop-less c = search needs
 
 loop-again : tie.Need-loop-again Inv-loop μ-loop
-loop-again c = all-miss isDigit (c .before .before .before .before .before .before .args .line .now) 0 (c .before .before .before .before .loop .i) _ (c .before .before .before .loop-test .taken) (c .before .before .before .before .loop .inv) (sym (c .before .is-digit .ensures) ∙ not-false _ (c .if1 .left))
+loop-again c =
+    let t = c .before .before .before .before .loop in
+    all-miss isDigit (c .before .before .before .before .before .before .args .line .now) 0 (t .i) _ (c .before .before .before .loop-test .taken) (t .inv) (sym (c .before .is-digit .ensures) ∙ not-false _ (c .if1 .left))
 
 returns-2 : tie.Need-returns-2 Inv-loop μ-loop
 returns-2 c = all-done isDigit (c .before .before .before .args .line .now) 0 (c .before .loop .i) _ (c .loop-test .left) (c .before .loop .inv)

@@ -6,7 +6,9 @@ use Rattle.digits.proofs.read.byte_at.Statement.{statement}
 use Rattle.digits.proofs.read.byte_at.Tie as tie
 
 returns : tie.Need-returns
-returns c = sym (byte-past (c .before .before .args .line .now) (c .before .before .args .k) (c .if1 .taken))
+returns c =
+    let a = c .before .before .args in
+    sym (byte-past (a .line .now) (a .k) (c .if1 .taken))
 
 mul-at : tie.Need-mul-at
 mul-at c = search needs
@@ -33,7 +35,9 @@ add-result : tie.Need-add-result
 add-result c = search needs
 
 returns-2 : tie.Need-returns-2
-returns-2 c = rw (c .before .before .value .ensures .0, c .value2 .ensures .0) (sym (byte-digits (c .before .before .before .before .before .before .args .line .now) (c .before .before .before .before .before .before .args .k) (c .before .before .before .before .if1 .left)))
+returns-2 c =
+    let a = c .before .before .before .before .before .before .args in
+    rw (c .before .before .value .ensures .0, c .value2 .ensures .0) (sym (byte-digits (a .line .now) (a .k) (c .before .before .before .before .if1 .left)))
 
 pub byte-at-spec : {M : Type 1} → statement M
 byte-at-spec =

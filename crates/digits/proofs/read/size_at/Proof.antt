@@ -6,7 +6,9 @@ use Rattle.digits.proofs.read.size_at.Statement.{statement}
 use Rattle.digits.proofs.read.size_at.Tie as tie
 
 returns : tie.Need-returns
-returns c = sym (size-past (c .before .before .args .line .now) (c .before .before .args .k) (c .if1 .taken))
+returns c =
+    let a = c .before .before .args in
+    sym (size-past (a .line .now) (a .k) (c .if1 .taken))
 
 byte-at-requires : tie.Need-byte-at-requires
 byte-at-requires c κs = search needs

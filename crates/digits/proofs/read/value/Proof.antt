@@ -16,7 +16,9 @@ sub-result-2 : tie.Need-sub-result-2
 sub-result-2 c = omega (arith, letter-range (c .before .before .args .c) (c .if2 .taken))
 
 returns-2 : tie.Need-returns-2
-returns-2 c = (sym (value-letter (c .before .before .args .c) (c .before .if1 .left) (c .if2 .taken)), omega (arith, letter-range (c .before .before .args .c) (c .if2 .taken)))
+returns-2 c =
+    let a = c .before .before .args in
+    (sym (value-letter (a .c) (c .before .if1 .left) (c .if2 .taken)), omega (arith, letter-range (a .c) (c .if2 .taken)))
 
 returns-3 : tie.Need-returns-3
 returns-3 c = (sym (value-other (c .before .before .args .c) (c .before .if1 .left) (c .if2 .left)), search needs)

@@ -6,7 +6,9 @@ use Rattle.digits.proofs.read.word_at.Statement.{statement}
 use Rattle.digits.proofs.read.word_at.Tie as tie
 
 returns : tie.Need-returns
-returns c = sym (word-past (c .before .before .args .line .now) (c .before .before .args .k) (c .if1 .taken))
+returns c =
+    let a = c .before .before .args in
+    sym (word-past (a .line .now) (a .k) (c .if1 .taken))
 
 byte-at-requires : tie.Need-byte-at-requires
 byte-at-requires c κs = search needs

@@ -17,16 +17,22 @@ write-byte-requires : tie.Need-write-byte-requires
 write-byte-requires c κs = leb-true _ _ (sym (c .before .before .has-room .ensures) ∙ c .before .if1 .taken)
 
 add-result : tie.Need-add-result
-add-result c = omega (arith, leb-true (c .before .before .before .before .before .before .before .args .at + 2) (length (c .before .before .before .before .before .before .before .args .out .now)) (sym (c .before .before .before .before .before .has-room .ensures) ∙ c .before .before .before .before .if1 .taken))
+add-result c =
+    let a = c .before .before .before .before .before .before .before .args in
+    omega (arith, leb-true (a .at + 2) (length (a .out .now)) (sym (c .before .before .before .before .before .has-room .ensures) ∙ c .before .before .before .before .if1 .taken))
 
 same-length : tie.Need-same-length
 same-length c = search needs
 
 returns : tie.Need-returns
-returns c = written (c .before .before .before .before .before .before .before .args .at) 2 (byteDigits (c .before .before .before .before .before .before .before .args .b)) (c .before .before .before .before .before .before .before .args .out .now) (length-byte (c .before .before .before .before .before .before .before .args .b)) _ (c .before .before .before .before .before .has-room .ensures) (c .before .before .before .before .if1 .taken) _ (c .before .before .write-byte .ensures)
+returns c =
+    let a = c .before .before .before .before .before .before .before .args in
+    written (a .at) 2 (byteDigits (a .b)) (a .out .now) (length-byte (a .b)) _ (c .before .before .before .before .before .has-room .ensures) (c .before .before .before .before .if1 .taken) _ (c .before .before .write-byte .ensures)
 
 returns-2 : tie.Need-returns-2
-returns-2 c = unwritten (c .before .before .before .args .at) 2 (byteDigits (c .before .before .before .args .b)) (c .before .before .before .args .out .now) (length-byte (c .before .before .before .args .b)) _ (c .before .has-room .ensures) (c .if1 .left)
+returns-2 c =
+    let a = c .before .before .before .args in
+    unwritten (a .at) 2 (byteDigits (a .b)) (a .out .now) (length-byte (a .b)) _ (c .before .has-room .ensures) (c .if1 .left)
 
 pub put-byte-spec : {M : Type 1} → statement M
 put-byte-spec =

@@ -17,28 +17,42 @@ low-requires : tie.Need-low-requires
 low-requires c κs = search needs
 
 write-byte-requires : tie.Need-write-byte-requires
-write-byte-requires c κs = omega (arith, leb-true (c .before .before .before .before .before .args .at + 4) (length (c .before .before .before .before .before .args .out .now)) (sym (c .before .before .before .has-room .ensures) ∙ c .before .before .if1 .taken))
+write-byte-requires c κs =
+    let a = c .before .before .before .before .before .args in
+    omega (arith, leb-true (a .at + 4) (length (a .out .now)) (sym (c .before .before .before .has-room .ensures) ∙ c .before .before .if1 .taken))
 
 add-write-byte : tie.Need-add-write-byte
-add-write-byte c = omega (arith, leb-true (c .before .before .before .before .before .before .before .before .before .args .at + 4) (length (c .before .before .before .before .before .before .before .before .before .args .out .now)) (sym (c .before .before .before .before .before .before .before .has-room .ensures) ∙ c .before .before .before .before .before .before .if1 .taken))
+add-write-byte c =
+    let a = c .before .before .before .before .before .before .before .before .before .args in
+    omega (arith, leb-true (a .at + 4) (length (a .out .now)) (sym (c .before .before .before .before .before .before .before .has-room .ensures) ∙ c .before .before .before .before .before .before .if1 .taken))
 
 low-requires-2 : tie.Need-low-requires-2
 low-requires-2 c κs = search needs
 
 write-byte-requires-2 : tie.Need-write-byte-requires-2
-write-byte-requires-2 c κs = omega (arith, leb-true (c .before .before .before .before .before .before .before .before .before .before .args .at + 4) (length (c .before .before .before .before .before .before .before .before .before .before .args .out .now)) (sym (c .before .before .before .before .before .before .before .before .has-room .ensures) ∙ c .before .before .before .before .before .before .before .if1 .taken))
+write-byte-requires-2 c κs =
+    let a = c .before .before .before .before .before .before .before .before .before .before .args in
+    omega (arith, leb-true (a .at + 4) (length (a .out .now)) (sym (c .before .before .before .before .before .before .before .before .has-room .ensures) ∙ c .before .before .before .before .before .before .before .if1 .taken))
 
 add-result : tie.Need-add-result
-add-result c = omega (arith, leb-true (c .before .before .before .before .before .before .before .before .before .before .before .before .before .args .at + 4) (length (c .before .before .before .before .before .before .before .before .before .before .before .before .before .args .out .now)) (sym (c .before .before .before .before .before .before .before .before .before .before .before .has-room .ensures) ∙ c .before .before .before .before .before .before .before .before .before .before .if1 .taken))
+add-result c =
+    let a = c .before .before .before .before .before .before .before .before .before .before .before .before .before .args in
+    omega (arith, leb-true (a .at + 4) (length (a .out .now)) (sym (c .before .before .before .before .before .before .before .before .before .before .before .has-room .ensures) ∙ c .before .before .before .before .before .before .before .before .before .before .if1 .taken))
 
 same-length : tie.Need-same-length
 same-length c = search needs
 
 returns : tie.Need-returns
-returns c = written (c .before .before .before .before .before .before .before .before .before .before .before .before .before .args .at) 4 (sizeDigits (c .before .before .before .before .before .before .before .before .before .before .before .before .before .args .n)) (c .before .before .before .before .before .before .before .before .before .before .before .before .before .args .out .now) (length-size (c .before .before .before .before .before .before .before .before .before .before .before .before .before .args .n)) _ (c .before .before .before .before .before .before .before .before .before .before .before .has-room .ensures) (c .before .before .before .before .before .before .before .before .before .before .if1 .taken) _ (size-written (c .before .before .before .before .before .before .before .before .before .before .before .before .before .args .at) (c .before .before .before .before .before .before .before .before .before .before .before .before .before .args .out .now) (c .before .before .before .before .before .before .before .before .before .before .before .before .before .args .n) _ _ (leb-true _ _ (sym (c .before .before .before .before .before .before .before .before .before .before .before .has-room .ensures) ∙ c .before .before .before .before .before .before .before .before .before .before .if1 .taken)) (c .before .before .before .before .before .before .before .write-byte .ensures ∙ rw (c .before .before .before .before .before .before .before .before .low .ensures)) (c .before .before .write-byte2 .ensures ∙ rw (c .before .before .before .low2 .ensures)))
+returns c =
+    let a = c .before .before .before .before .before .before .before .before .before .before .before .before .before .args in
+    let has-room = c .before .before .before .before .before .before .before .before .before .before .before .has-room in
+    let if1 = c .before .before .before .before .before .before .before .before .before .before .if1 in
+    written (a .at) 4 (sizeDigits (a .n)) (a .out .now) (length-size (a .n)) _ (has-room .ensures) (if1 .taken) _ (size-written (a .at) (a .out .now) (a .n) _ _ (leb-true _ _ (sym (has-room .ensures) ∙ if1 .taken)) (c .before .before .before .before .before .before .before .write-byte .ensures ∙ rw (c .before .before .before .before .before .before .before .before .low .ensures)) (c .before .before .write-byte2 .ensures ∙ rw (c .before .before .before .low2 .ensures)))
 
 returns-2 : tie.Need-returns-2
-returns-2 c = unwritten (c .before .before .before .args .at) 4 (sizeDigits (c .before .before .before .args .n)) (c .before .before .before .args .out .now) (length-size (c .before .before .before .args .n)) _ (c .before .has-room .ensures) (c .if1 .left)
+returns-2 c =
+    let a = c .before .before .before .args in
+    unwritten (a .at) 4 (sizeDigits (a .n)) (a .out .now) (length-size (a .n)) _ (c .before .has-room .ensures) (c .if1 .left)
 
 pub put-size-spec : {M : Type 1} → statement M
 put-size-spec =

@@ -24,7 +24,9 @@ words-fit-requires : tie.Need-words-fit-requires Inv-loop μ-loop
 words-fit-requires c κs = search needs
 
 returns : tie.Need-returns Inv-loop μ-loop
-returns c = unwritten (c .before .before .before .before .args .at) (10 * length (c .before .before .before .before .args .words .now)) (concatMap wordDigits (c .before .before .before .before .args .words .now)) (c .before .before .before .before .args .out .now) (length-concat wordDigits 10 length-word (c .before .before .before .before .args .words .now)) _ (c .before .words-fit .ensures) (not-true _ (c .if1 .taken))
+returns c =
+    let a = c .before .before .before .before .args in
+    unwritten (a .at) (10 * length (a .words .now)) (concatMap wordDigits (a .words .now)) (a .out .now) (length-concat wordDigits 10 length-word (a .words .now)) _ (c .before .words-fit .ensures) (not-true _ (c .if1 .taken))
 
 loop-holds : tie.Need-loop-holds Inv-loop μ-loop
 loop-holds c = (omega arith, omega arith, refl, leb-true _ _ (sym (c .before .words-fit .ensures) ∙ not-false _ (c .if1 .left)), refl)
@@ -48,15 +50,17 @@ loop-less : tie.Need-loop-less Inv-loop μ-loop
 loop-less c = search needs
 
 loop-again : tie.Need-loop-again Inv-loop μ-loop
-loop-again c = let t = c .before .before .before .before .before .before .loop in
+loop-again c =
+    let write-word = c .before .before .write-word in
+    let t = c .before .before .before .before .before .before .loop in
     let a = c .before .before .before .before .before .before .before .before .before .before .before .args in
     let h : t .i < length (a .words .now) = c .before .before .before .before .before .loop-test .taken in
     let r : t .to + 10 ≤ length (t .out) = omega arith in (
       omega arith,
       omega arith,
-      write-length wordDigits 10 length-word (a .out .now) (a .words .now) (t .out) (t .to) (t .i) r _ (c .before .before .write-word .ensures) ∙ t .inv .2,
+      write-length wordDigits 10 length-word (a .out .now) (a .words .now) (t .out) (t .to) (t .i) r _ (write-word .ensures) ∙ t .inv .2,
       t .inv .3,
-      write-one wordDigits 10 length-word (a .out .now) (a .words .now) (t .out) (t .to) (t .i) (a .at) h r (t .inv .4) _ (c .before .before .write-word .ensures),
+      write-one wordDigits 10 length-word (a .out .now) (a .words .now) (t .out) (t .to) (t .i) (a .at) h r (t .inv .4) _ (write-word .ensures),
     )
 
 same-length : tie.Need-same-length Inv-loop μ-loop

@@ -51,7 +51,9 @@ same-length : tie.Need-same-length
 same-length c = search needs
 
 returns : tie.Need-returns
-returns c = word-written (c .before .before .before .before .before .before .before .before .before .before .before .before .before .before .before .before .before .before .before .before .before .before .before .before .before .before .args .at) (c .before .before .before .before .before .before .before .before .before .before .before .before .before .before .before .before .before .before .before .before .before .before .before .before .before .before .args .out .now) (c .before .before .before .before .before .before .before .before .before .before .before .before .before .before .before .before .before .before .before .before .before .before .before .before .before .before .args .w) _ _ _ _ _ (c .before .before .before .before .before .before .before .before .before .before .before .before .before .before .before .before .before .before .before .before .before .before .before .before .before .before .pre) (c .before .before .before .before .before .before .before .before .before .before .before .before .before .before .before .before .before .before .before .before .before .before .write-byte .ensures ∙ rw (c .before .before .before .before .before .before .before .before .before .before .before .before .before .before .before .before .before .before .before .before .before .before .before .low .ensures)) (c .before .before .before .before .before .before .before .before .before .before .before .before .before .before .before .before .before .write-byte2 .ensures ∙ rw (c .before .before .before .before .before .before .before .before .before .before .before .before .before .before .before .before .before .before .low2 .ensures)) (c .before .before .before .before .before .before .before .before .before .before .before .before .write-byte3 .ensures ∙ rw (c .before .before .before .before .before .before .before .before .before .before .before .before .before .low3 .ensures)) (c .before .before .before .before .before .before .before .write-byte4 .ensures ∙ rw (c .before .before .before .before .before .before .before .before .low4 .ensures)) (c .before .before .write-byte5 .ensures ∙ rw (c .before .before .before .low5 .ensures))
+returns c =
+    let a = c .before .before .before .before .before .before .before .before .before .before .before .before .before .before .before .before .before .before .before .before .before .before .before .before .before .before .args in
+    word-written (a .at) (a .out .now) (a .w) _ _ _ _ _ (c .before .before .before .before .before .before .before .before .before .before .before .before .before .before .before .before .before .before .before .before .before .before .before .before .before .before .pre) (c .before .before .before .before .before .before .before .before .before .before .before .before .before .before .before .before .before .before .before .before .before .before .write-byte .ensures ∙ rw (c .before .before .before .before .before .before .before .before .before .before .before .before .before .before .before .before .before .before .before .before .before .before .before .low .ensures)) (c .before .before .before .before .before .before .before .before .before .before .before .before .before .before .before .before .before .write-byte2 .ensures ∙ rw (c .before .before .before .before .before .before .before .before .before .before .before .before .before .before .before .before .before .before .low2 .ensures)) (c .before .before .before .before .before .before .before .before .before .before .before .before .write-byte3 .ensures ∙ rw (c .before .before .before .before .before .before .before .before .before .before .before .before .before .low3 .ensures)) (c .before .before .before .before .before .before .before .write-byte4 .ensures ∙ rw (c .before .before .before .before .before .before .before .before .low4 .ensures)) (c .before .before .write-byte5 .ensures ∙ rw (c .before .before .before .low5 .ensures))
 
 pub write-word-spec : {M : Type 1} → statement M
 write-word-spec =

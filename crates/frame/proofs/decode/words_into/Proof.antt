@@ -19,19 +19,27 @@ abbrev μ-loop : tie.MeasureT-loop
 μ-loop line start room₀ n at₀ i₀ room at i = length room₀ - i
 
 loop-holds : tie.Need-loop-holds Inv-loop μ-loop
-loop-holds c = (refl, search needs, refl, fills-none (c .before .before .args .line .now) (c .before .before .args .room .now) (c .before .before .args .start) (length (c .before .before .args .room .now)))
+loop-holds c =
+    let a = c .before .before .args in
+    (refl, search needs, refl, fills-none (a .line .now) (a .room .now) (a .start) (length (a .room .now)))
 
 same-length : tie.Need-same-length Inv-loop μ-loop
 same-length c = c .before .before .loop .inv .2
 
 returns : tie.Need-returns Inv-loop μ-loop
-returns c = filled-line (c .before .before .before .before .before .args .line .now) (c .before .before .loop .room) _ (c .before .before .loop .at) (c .before .before .loop .i) (length (c .before .before .before .before .before .args .room .now)) _ (omega arith) (c .before .before .loop .inv .3)
+returns c =
+    let a = c .before .before .before .before .before .args in
+    let t = c .before .before .loop in
+    filled-line (a .line .now) (t .room) _ (t .at) (t .i) (length (a .room .now)) _ (omega arith) (t .inv .3)
 
 same-length-2 : tie.Need-same-length-2 Inv-loop μ-loop
 same-length-2 c = c .before .before .before .loop .inv .2
 
 returns-2 : tie.Need-returns-2 Inv-loop μ-loop
-returns-2 c = filled-line (c .before .before .before .before .before .before .args .line .now) (c .before .before .before .loop .room) _ (c .before .before .before .loop .at) (c .before .before .before .loop .i) (length (c .before .before .before .before .before .before .args .room .now)) _ (omega arith) (c .before .before .before .loop .inv .3)
+returns-2 c =
+    let a = c .before .before .before .before .before .before .args in
+    let t = c .before .before .before .loop in
+    filled-line (a .line .now) (t .room) _ (t .at) (t .i) (length (a .room .now)) _ (omega arith) (t .inv .3)
 
 word-at-requires : tie.Need-word-at-requires Inv-loop μ-loop
 word-at-requires c κs = search needs
@@ -62,7 +70,9 @@ same-length-3 : tie.Need-same-length-3 Inv-loop μ-loop
 same-length-3 c = c .before .loop .inv .2
 
 returns-3 : tie.Need-returns-3 Inv-loop μ-loop
-returns-3 c = filled-room (c .before .before .before .before .args .line .now) (c .before .loop .room) _ (c .before .loop .at) (c .before .loop .i) (length (c .before .before .before .before .args .room .now)) _ (omega arith) (c .before .loop .inv .3)
+returns-3 c =
+    let a = c .before .before .before .before .args in
+    filled-room (a .line .now) (c .before .loop .room) _ (c .before .loop .at) (c .before .loop .i) (length (a .room .now)) _ (omega arith) (c .before .loop .inv .3)
 
 pub words-into-spec : {M : Type 1} → statement M
 words-into-spec =

@@ -9,7 +9,9 @@ overlong-line-requires : tie.Need-overlong-line-requires
 overlong-line-requires c κs = search needs
 
 returns : tie.Need-returns
-returns c = let g = grown-over (c .before .before .before .before .args .line) (c .before .before .before .before .args .piece .now) (c .before .before .before .before .args .room .now) (c .before .if1 .taken) in
+returns c =
+    let a = c .before .before .before .before .args in
+    let g = grown-over (a .line) (a .piece .now) (a .room .now) (c .before .if1 .taken) in
     (c .overlong-line .ensures ∙ sym (g .0), sym (g .1))
 
 filled-in-requires : tie.Need-filled-in-requires
@@ -25,7 +27,11 @@ same-length : tie.Need-same-length
 same-length c = search needs
 
 returns-2 : tie.Need-returns-2
-returns-2 c = fits-as (c .before .before .before .before .before .before .before .before .before .args .line) (c .before .before .before .before .before .before .before .before .before .args .piece .now) (c .before .before .before .before .before .before .before .before .before .args .room .now) (c .before .before .before .before .before .filled-in .result) (c .before .before .before .before .before .filled-in .ensures .0) (c .before .before .before .before .before .before .if1 .left) _ _ (c .before .before .before .copy-in .ensures .0) (c .if2 .taken) (c .before .before .before .copy-in .ensures .1)
+returns-2 c =
+    let a = c .before .before .before .before .before .before .before .before .before .args in
+    let filled-in = c .before .before .before .before .before .filled-in in
+    let copy-in = c .before .before .before .copy-in in
+    fits-as (a .line) (a .piece .now) (a .room .now) (filled-in .result) (filled-in .ensures .0) (c .before .before .before .before .before .before .if1 .left) _ _ (copy-in .ensures .0) (c .if2 .taken) (copy-in .ensures .1)
 
 overlong-line-requires-2 : tie.Need-overlong-line-requires-2
 overlong-line-requires-2 c κs = search needs
@@ -34,7 +40,11 @@ same-length-2 : tie.Need-same-length-2
 same-length-2 c = search needs
 
 returns-3 : tie.Need-returns-3
-returns-3 c = misfit-as (c .before .before .before .before .before .before .before .before .before .before .args .line) (c .before .before .before .before .before .before .before .before .before .before .args .piece .now) (c .before .before .before .before .before .before .before .before .before .before .args .room .now) (c .before .before .before .before .before .before .filled-in .result) (c .before .before .before .before .before .before .filled-in .ensures .0) (c .before .before .before .before .before .before .before .if1 .left) _ _ (c .before .before .before .before .copy-in .ensures .0) (c .before .if2 .left) (c .before .before .before .before .copy-in .ensures .1) _ (c .overlong-line2 .ensures)
+returns-3 c =
+    let a = c .before .before .before .before .before .before .before .before .before .before .args in
+    let filled-in = c .before .before .before .before .before .before .filled-in in
+    let copy-in = c .before .before .before .before .copy-in in
+    misfit-as (a .line) (a .piece .now) (a .room .now) (filled-in .result) (filled-in .ensures .0) (c .before .before .before .before .before .before .before .if1 .left) _ _ (copy-in .ensures .0) (c .before .if2 .left) (copy-in .ensures .1) _ (c .overlong-line2 .ensures)
 
 pub grown-spec : {M : Type 1} → statement M
 grown-spec =

@@ -22,7 +22,9 @@ shared-slice-read-if1 : tie.Need-shared-slice-read-if1 Inv-loop μ-loop
 shared-slice-read-if1 c = search needs
 
 returns : tie.Need-returns Inv-loop μ-loop
-returns c = (feed-hit (c .before .before .before .before .args .bytes .now) (c .before .before .before .loop .i) _ (c .before .before .loop-test .taken) (c .before .before .before .loop .inv .2) (c .if1 .taken), search needs, search needs)
+returns c =
+    let t = c .before .before .before .loop in
+    (feed-hit (c .before .before .before .before .args .bytes .now) (t .i) _ (c .before .before .loop-test .taken) (t .inv .2) (c .if1 .taken), search needs, search needs)
 
 add-i : tie.Need-add-i Inv-loop μ-loop
 add-i c = search needs
@@ -31,7 +33,9 @@ loop-less : tie.Need-loop-less Inv-loop μ-loop
 loop-less c = search needs
 
 loop-again : tie.Need-loop-again Inv-loop μ-loop
-loop-again c = (search needs, omega arith, feed-miss (c .before .before .before .before .args .bytes .now) (c .before .before .before .loop .i) _ (c .before .before .loop-test .taken) (c .before .before .before .loop .inv .2) (c .if1 .left))
+loop-again c =
+    let t = c .before .before .before .loop in
+    (search needs, omega arith, feed-miss (c .before .before .before .before .args .bytes .now) (t .i) _ (c .before .before .loop-test .taken) (t .inv .2) (c .if1 .left))
 
 returns-2 : tie.Need-returns-2 Inv-loop μ-loop
 returns-2 c = (feed-done (c .before .before .args .bytes .now) (c .before .loop .i) _ (c .loop-test .left) (c .before .loop .inv .2), search needs, search needs)

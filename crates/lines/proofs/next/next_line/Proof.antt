@@ -24,13 +24,23 @@ same-length : tie.Need-same-length
 same-length c = search needs
 
 returns : tie.Need-returns
-returns c = step-ends (c .before .before .before .before .before .before .before .before .before .args .line) (c .before .before .before .grown .result) (c .before .before .before .before .before .before .before .before .before .args .bytes .now) (c .before .before .before .before .before .before .before .before .before .args .room .now) _ (c .before .before .before .before .before .before .before .before .before .args .at) (c .before .before .before .before .before .before .feed-from .result) (c .before .before .before .before .before .before .feed-from .ensures .0) (c .before .before .before .grown .ensures .0 ∙ ap (λ (p : List ℕ). grownLine (c .before .before .before .before .before .before .before .before .before .args .line) p (c .before .before .before .before .before .before .before .before .before .args .room .now)) (c .before .before .before .before .before .piece-of .ensures)) (c .before .before .before .grown .ensures .1 ∙ ap (λ (p : List ℕ). grownRoom (c .before .before .before .before .before .before .before .before .before .args .line) p (c .before .before .before .before .before .before .before .before .before .args .room .now)) (c .before .before .before .before .before .piece-of .ensures)) (c .if1 .taken)
+returns c =
+    let a = c .before .before .before .before .before .before .before .before .before .args in
+    let feed-from = c .before .before .before .before .before .before .feed-from in
+    let piece-of = c .before .before .before .before .before .piece-of in
+    let grown = c .before .before .before .grown in
+    step-ends (a .line) (grown .result) (a .bytes .now) (a .room .now) _ (a .at) (feed-from .result) (feed-from .ensures .0) (grown .ensures .0 ∙ ap (λ (p : List ℕ). grownLine (a .line) p (a .room .now)) (piece-of .ensures)) (grown .ensures .1 ∙ ap (λ (p : List ℕ). grownRoom (a .line) p (a .room .now)) (piece-of .ensures)) (c .if1 .taken)
 
 same-length-2 : tie.Need-same-length-2
 same-length-2 c = search needs
 
 returns-2 : tie.Need-returns-2
-returns-2 c = step-stops (c .before .before .before .before .before .before .before .before .before .args .line) (c .before .before .before .grown .result) (c .before .before .before .before .before .before .before .before .before .args .bytes .now) (c .before .before .before .before .before .before .before .before .before .args .room .now) _ (c .before .before .before .before .before .before .before .before .before .args .at) (c .before .before .before .before .before .before .feed-from .result) (c .before .before .before .before .before .before .feed-from .ensures .0) (c .before .before .before .grown .ensures .0 ∙ ap (λ (p : List ℕ). grownLine (c .before .before .before .before .before .before .before .before .before .args .line) p (c .before .before .before .before .before .before .before .before .before .args .room .now)) (c .before .before .before .before .before .piece-of .ensures)) (c .before .before .before .grown .ensures .1 ∙ ap (λ (p : List ℕ). grownRoom (c .before .before .before .before .before .before .before .before .before .args .line) p (c .before .before .before .before .before .before .before .before .before .args .room .now)) (c .before .before .before .before .before .piece-of .ensures)) (c .if1 .left)
+returns-2 c =
+    let a = c .before .before .before .before .before .before .before .before .before .args in
+    let feed-from = c .before .before .before .before .before .before .feed-from in
+    let piece-of = c .before .before .before .before .before .piece-of in
+    let grown = c .before .before .before .grown in
+    step-stops (a .line) (grown .result) (a .bytes .now) (a .room .now) _ (a .at) (feed-from .result) (feed-from .ensures .0) (grown .ensures .0 ∙ ap (λ (p : List ℕ). grownLine (a .line) p (a .room .now)) (piece-of .ensures)) (grown .ensures .1 ∙ ap (λ (p : List ℕ). grownRoom (a .line) p (a .room .now)) (piece-of .ensures)) (c .if1 .left)
 
 pub next-line-spec : {M : Type 1} → statement M
 next-line-spec =

@@ -10,7 +10,9 @@ slice-aggregate-result : tie.Need-slice-aggregate-result
 slice-aggregate-result c = search needs
 
 returns : tie.Need-returns
-returns c = sym (part-past (c .before .before .args .at) (c .before .before .args .end - c .before .before .args .at) (c .before .before .args .bytes .now) (c .before .if1 .taken))
+returns c =
+    let a = c .before .before .args in
+    sym (part-past (a .at) (a .end - a .at) (a .bytes .now) (c .before .if1 .taken))
 
 sub-result : tie.Need-sub-result
 sub-result c = search needs
