@@ -55,17 +55,19 @@ step-same : {l m : Line} {a b : ℕ} {t u : Bool} → l ≡ m → a ≡ b → t 
     → _≡_ {A = Step} (record { line = l; at = a; ended = t }) (record { line = m; at = b; ended = u })
 step-same p q r = rw (p, q, r)
 
-module _ (line grown : Line) (bytes room new : List ℕ) (at end : ℕ) (found : end ≡ at + feedAt (drop at bytes))
-    (grew : grown ≡ grownLine line (take (end - at) (drop at bytes)) room) (made : new ≡ grownRoom line (take (end - at) (drop at bytes)) room) where
-  far : end - at ≡ feedAt (drop at bytes)
-  far = omega arith
+module _ (line grown : Line) (bytes piece room new : List ℕ) (at end : ℕ) (found : end ≡ at + feedAt (drop at bytes))
+    (cut : piece ≡ take (end - at) (drop at bytes)) (grew : grown ≡ grownLine line piece room) (made : new ≡ grownRoom line piece room) where
+  piece-is : piece ≡ take (feedAt (drop at bytes)) (drop at bytes)
+  piece-is =
+      let far : end - at ≡ feedAt (drop at bytes) = omega arith in
+      cut ∙ ap (λ (n : ℕ). take n (drop at bytes)) far
 
   line-is : grown ≡ grownLine line (take (feedAt (drop at bytes)) (drop at bytes)) room
-  line-is = grew ∙ ap (λ (n : ℕ). grownLine line (take n (drop at bytes)) room) far
+  line-is = grew ∙ ap (λ (p : List ℕ). grownLine line p room) piece-is
 
   room-is : new ≡ roomOf line (drop at bytes) room
   unfolding roomOf
-  room-is = made ∙ ap (λ (n : ℕ). grownRoom line (take n (drop at bytes)) room) far
+  room-is = made ∙ ap (λ (p : List ℕ). grownRoom line p room) piece-is
 
   pub step-ends : end < length bytes
       → (_≡_ {A = Step} (record { line = grown; at = end + 1; ended = true }) (stepOf line (drop at bytes) at room)) × (new ≡ roomOf line (drop at bytes) room)

@@ -1,9 +1,5 @@
 -- `lines::next::next_line` meets its contract, by whether a line feed was found. Assumes nothing.
 use borrow.Author.Needs.{needs}
-use mathlib.Core.Path.{ap, _∙_}
-use mathlib.Core.List.{List}
-use Prim.Native.Nat.{ℕ, _-_}
-use Rattle.lines.specs.Machine.{grownLine, grownRoom}
 use Rattle.lines.proofs.Laws.Grows.{step-ends, step-stops}
 use Rattle.lines.proofs.next.next_line.Statement.{statement}
 use Rattle.lines.proofs.next.next_line.Tie as tie
@@ -29,7 +25,7 @@ returns c =
     let feed-from = c .before .before .before .before .before .before .feed-from in
     let piece-of = c .before .before .before .before .before .piece-of in
     let grown = c .before .before .before .grown in
-    step-ends (a .line) (grown .result) (a .bytes .now) (a .room .now) _ (a .at) (feed-from .result) (feed-from .ensures .0) (grown .ensures .0 ∙ ap (λ (p : List ℕ). grownLine (a .line) p (a .room .now)) (piece-of .ensures)) (grown .ensures .1 ∙ ap (λ (p : List ℕ). grownRoom (a .line) p (a .room .now)) (piece-of .ensures)) (c .if1 .taken)
+    step-ends (a .line) (grown .result) (a .bytes .now) (piece-of .result .now) (a .room .now) _ (a .at) (feed-from .result) (feed-from .ensures .0) (piece-of .ensures) (grown .ensures .0) (grown .ensures .1) (c .if1 .taken)
 
 same-length-2 : tie.Need-same-length-2
 same-length-2 c = search needs
@@ -40,7 +36,7 @@ returns-2 c =
     let feed-from = c .before .before .before .before .before .before .feed-from in
     let piece-of = c .before .before .before .before .before .piece-of in
     let grown = c .before .before .before .grown in
-    step-stops (a .line) (grown .result) (a .bytes .now) (a .room .now) _ (a .at) (feed-from .result) (feed-from .ensures .0) (grown .ensures .0 ∙ ap (λ (p : List ℕ). grownLine (a .line) p (a .room .now)) (piece-of .ensures)) (grown .ensures .1 ∙ ap (λ (p : List ℕ). grownRoom (a .line) p (a .room .now)) (piece-of .ensures)) (c .if1 .left)
+    step-stops (a .line) (grown .result) (a .bytes .now) (piece-of .result .now) (a .room .now) _ (a .at) (feed-from .result) (feed-from .ensures .0) (piece-of .ensures) (grown .ensures .0) (grown .ensures .1) (c .if1 .left)
 
 pub next-line-spec : {M : Type 1} → statement M
 next-line-spec =
