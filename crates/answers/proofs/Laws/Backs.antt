@@ -1,11 +1,10 @@
 -- The longest answer, and an answer's line read back: its bytes and its words are those that were written. Assumes nothing.
-use mathlib.Core.Path.{_≡_, refl, sym, ap, _∙_}
-use mathlib.Core.Bool.{Bool, true, false, cond, _&&_}
+use mathlib.Core.Path.{_≡_, refl, ap, _∙_}
+use mathlib.Core.Bool.{Bool, true, false, cond}
 use mathlib.Core.List.{List, [], _∷_, _++_}
-use Prim.Native.Nat.{ℕ, _+_, _-_, _*_, _^_, _≤_, _<_}
+use Prim.Native.Nat.{ℕ, _+_, _-_, _^_, _≤_, _<_}
 use native.Mathlib.Omega.{arith}
 use borrow.Author.Tests.{ltb-true, lt-ltb, le-leb}
-use lib.Dec.{leb}
 use lib.ListN.{length, take, drop, length-append}
 use lib.Seq.{take-at, drop-at}
 use Rattle.area.specs.Lists.{allOf}
@@ -17,7 +16,6 @@ use Rattle.digits.specs.Fields.{isFive, wordBytes, wordsOf}
 use Rattle.digits.specs.Writes.{placeAfter}
 use Rattle.digits.proofs.Laws.Trips.{bytes-back, words-back, word-bytes-are, digits-are}
 use Rattle.answers.specs.declared.Answer.{Answer}
-use Rattle.answers.specs.declared.Lead.{Lead}
 use Rattle.answers.specs.Answers.{answerBytes, answerText}
 use Rattle.answers.specs.Leads.{leadOf, leadBytes, shownOf}
 use Rattle.answers.proofs.Laws.Texts.{leads, text-length}

@@ -1,15 +1,15 @@
 -- An answer's line, piece by piece. Assumes nothing.
 use mathlib.Core.Path.{_≡_, refl, sym, ap, ap₂, _∙_, subst}
 use mathlib.Core.Bool.{Bool, true, false, cond}
-use mathlib.Core.List.{List, [], _∷_, _++_, append-assoc}
-use Prim.Native.Nat.{ℕ, zero, suc, _+_, _-_, _*_, _/_, _≤_, _<_}
+use mathlib.Core.List.{List, [], _∷_, _++_}
+use Prim.Native.Nat.{ℕ, _+_, _-_, _*_, _/_, _≤_, _<_}
 use native.Mathlib.Omega.{arith}
-use borrow.Author.Tests.{le-leb, lt-leb, leb-true}
+use borrow.Author.Tests.{le-leb}
 use lib.Dec.{leb}
-use lib.ListN.{length, take, drop, set, length-append}
+use lib.ListN.{length, set, length-append}
 use Rattle.area.specs.Parts.{paste, pastedIn}
 use Rattle.area.proofs.Pastes.{paste-fitting, length-paste}
-use Rattle.area.proofs.Joins.{set-paste, paste-paste}
+use Rattle.area.proofs.Joins.{set-paste}
 use Rattle.digits.specs.Digits.{byteDigits, concatMap}
 use Rattle.digits.specs.Fields.{wordBytes, wordDigits}
 use Rattle.digits.specs.Writes.{placeAfter}

@@ -1,15 +1,15 @@
 -- There and back: what is written reads back as the same number, a byte below 2^8, a size below 2^16, a word below 2^40. Assumes nothing.
 use mathlib.Core.Path.{_≡_, refl, sym, ap, _∙_}
-use mathlib.Core.Bool.{Bool, true, false}
+use mathlib.Core.Bool.{true, false}
 use mathlib.Core.List.{List, [], _∷_, _++_, append-assoc}
-use Prim.Native.Nat.{ℕ, suc, _+_, _-_, _*_, _/_, _%_, _^_, _≤_, _<_}
+use Prim.Native.Nat.{ℕ, _+_, _-_, _*_, _/_, _%_, _^_, _≤_, _<_}
 use native.Mathlib.Nat.{div-add-mod', div-div-eq-div-mul, mod-eq-of-lt}
 use native.Mathlib.Omega.{arith}
 use borrow.Author.Tests.{ltb-true, ltb-false, le-leb, lt-leb, lt-ltb}
-use lib.Dec.{ltb, leb}
-use lib.ListN.{length, getD, take, drop}
+use lib.Dec.{ltb}
+use lib.ListN.{length}
 use Rattle.area.specs.Lists.{allOf}
-use Rattle.area.specs.Parts.{partOf, paste, pastedIn}
+use Rattle.area.specs.Parts.{partOf, pastedIn}
 use Rattle.area.proofs.Pastes.{paste-part, paste-fitting}
 use Rattle.area.proofs.Walks.{by-test, and-both, and-left, and-right, or-first, or-second}
 use Rattle.digits.specs.Digits.{isDecimal, isLetter, isDigit, isByte, valueOf, digitOf, bytesOf, byteDigits, concatMap}

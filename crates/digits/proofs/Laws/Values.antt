@@ -1,12 +1,11 @@
 -- Laws of a digit and its value. Assumes nothing.
-use mathlib.Core.Path.{_≡_, refl, sym, ap, _∙_}
-use mathlib.Core.Bool.{Bool, true, false, _&&_}
+use mathlib.Core.Path.{_≡_}
+use mathlib.Core.Bool.{true, false}
 use Prim.Native.Nat.{ℕ, _+_, _-_, _≤_, _<_}
-use native.Mathlib.Omega.{arith}
-use borrow.Author.Tests.{lt-ltb, le-ltb, le-leb, lt-leb, leb-true}
-use lib.Dec.{ltb, leb}
-use Rattle.area.proofs.Walks.{by-test, and-left, and-right, and-both, or-first, or-second}
-use Rattle.digits.specs.Digits.{isDecimal, isLetter, isDigit, valueOf, digitOf}
+use borrow.Author.Tests.{lt-ltb, le-ltb, leb-true}
+use lib.Dec.{leb}
+use Rattle.area.proofs.Walks.{and-left, and-right}
+use Rattle.digits.specs.Digits.{isDecimal, isLetter, valueOf, digitOf}
 
 -- ---- the cases of a value
 

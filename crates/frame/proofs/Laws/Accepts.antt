@@ -1,21 +1,20 @@
 -- A line is decoded to something else than Malformed exactly if it is well formed. Assumes nothing.
 use mathlib.Core.Path.{_≡_, refl, sym, ap, _∙_, subst}
-use mathlib.Core.Bool.{Bool, true, false, cond, _&&_}
+use mathlib.Core.Bool.{Bool, true, false, cond}
 use mathlib.Core.List.{List}
 use Prim.Native.Nat.{ℕ, _+_, _-_, _*_, _/_, _%_, _≤_, _<_}
 use native.Mathlib.Omega.{arith}
-use borrow.Author.Tests.{ltb-true, ltb-false, leb-true, le-leb, eqb-true, eq-eqb}
+use borrow.Author.Tests.{ltb-false, leb-true, le-leb, eqb-true, eq-eqb}
 use lib.Dec.{ltb, leb, eqb}
 use lib.ListN.{length}
 use Rattle.area.specs.Lists.{allOf}
 use Rattle.area.proofs.Walks.{by-test, and-left, and-right, and-both}
 use Rattle.digits.specs.Digits.{isDigit, bytesOf, byteDigits, isByte, concatMap}
 use Rattle.digits.specs.Fields.{byteAt}
-use Rattle.digits.proofs.Laws.Bytes.{length-bytes}
 use Rattle.digits.proofs.Laws.Writes.{length-byte, length-concat}
 use Rattle.digits.proofs.Laws.Trips.{bytes-back, digits-are}
 use Rattle.frame.specs.declared.Frame.{Frame}
-use Rattle.frame.specs.declared.Frame.the-variants.{Malformed, Fresh, Open, Close, Ask, Report, Get, Put, Seal, Skip, Freeze, Thaw}
+use Rattle.frame.specs.declared.Frame.the-variants.{Malformed, Close, Report, Get, Put, Seal, Skip, Freeze, Thaw}
 use Rattle.frame.specs.Frames.{longest, isText, sized, worded, wordsAfter, freshOf, openOf, askOf, reportOf, putOf, kindBy, kindOf, frameOf}
 use Rattle.frame.specs.Formed.{Kind, fresh, opens, close, ask, report, get, put, seal, skip, freeze, thaw, WellFormed}
 use Rattle.frame.proofs.Laws.Sizes.{worded-yes, text-long, frame-text, frame-other}

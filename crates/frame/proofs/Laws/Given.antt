@@ -1,14 +1,14 @@
 -- The count that a report or a put holds is that of its words, at most 1,024: a room of 1,024 words takes them all. Assumes nothing.
-use mathlib.Core.Path.{_≡_, refl, sym, ap, _∙_, subst}
-use mathlib.Core.Bool.{Bool, true, false, cond, _&&_}
+use mathlib.Core.Path.{_≡_, refl, sym, subst}
+use mathlib.Core.Bool.{Bool, true, false, cond}
 use mathlib.Core.List.{List}
 use Prim.Native.Nat.{ℕ, _+_, _-_, _*_, _/_, _%_, _≤_, _<_}
 use native.Mathlib.Omega.{arith}
 use borrow.Author.Tests.{ltb-false, leb-true, eqb-true}
-use lib.Dec.{ltb, leb, eqb}
+use lib.Dec.{ltb, eqb}
 use lib.ListN.{length, drop, length-drop}
 use lib.Seq.{take-all}
-use Rattle.area.proofs.Walks.{by-test, and-left, and-right}
+use Rattle.area.proofs.Walks.{by-test, and-left}
 use Rattle.digits.specs.Digits.{bytesOf}
 use Rattle.digits.specs.Fields.{byteAt, wordsOf}
 use Rattle.digits.proofs.Laws.Bytes.{length-bytes, length-words}

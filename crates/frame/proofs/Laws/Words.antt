@@ -1,10 +1,10 @@
 -- The words of a line, brought one after the other into a room. Assumes nothing.
-use mathlib.Core.Path.{_≡_, refl, sym, ap, ap₂, _∙_}
-use mathlib.Core.List.{List, [], _∷_, _++_}
-use Prim.Native.Nat.{ℕ, zero, suc, _+_, _-_, _*_, _/_, _≤_, _<_}
+use mathlib.Core.Path.{_≡_, refl, sym, ap, _∙_}
+use mathlib.Core.List.{List, [], _∷_}
+use Prim.Native.Nat.{ℕ, suc, _+_, _-_, _/_, _≤_, _<_}
 use native.Mathlib.Omega.{arith}
-use lib.ListN.{length, take, drop, set, length-drop, length-take}
-use lib.Seq.{take-nil, take-all}
+use lib.ListN.{length, take, drop, set, length-drop}
+use lib.Seq.{take-nil}
 use Rattle.area.specs.Parts.{paste}
 use Rattle.area.proofs.Pastes.{paste-nothing}
 use Rattle.area.proofs.Joins.{set-paste, paste-paste}

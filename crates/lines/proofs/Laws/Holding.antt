@@ -2,19 +2,19 @@
 use mathlib.Core.Path.{_≡_, refl, sym, ap, _∙_, subst}
 use mathlib.Core.Bool.{Bool, true, false, not, cond, _||_}
 use mathlib.Core.List.{List, [], _∷_, _++_}
-use Prim.Native.Nat.{ℕ, zero, suc, _+_, _≤_, _<_}
+use Prim.Native.Nat.{ℕ, suc, _+_, _≤_, _<_}
 use native.Mathlib.Omega.{arith}
-use borrow.Author.Tests.{le-leb, lt-leb, leb-true, leb-false, le-ltb, eq-eqb, ne-eqb, eqb-true, eqb-false}
-use lib.Dec.{leb, ltb, eqb}
-use lib.ListN.{length, take, drop, length-append}
+use borrow.Author.Tests.{le-leb, lt-leb, leb-true, leb-false, le-ltb, eq-eqb, ne-eqb}
+use lib.Dec.{leb, eqb}
+use lib.ListN.{length, take, length-append}
 use lib.Seq.{length-take-le}
-use Rattle.area.specs.Parts.{paste, pasteFits, pastedIn}
+use Rattle.area.specs.Parts.{paste, pasteFits}
 use Rattle.area.proofs.Pastes.{length-paste, paste-fitting, paste-misfit}
 use Rattle.area.proofs.Joins.{take-paste}
 use Rattle.area.proofs.Marks.{cond-true, cond-false}
 use Rattle.area.proofs.Walks.{by-test}
 use Rattle.lines.specs.declared.Line.{Line}
-use Rattle.lines.specs.Lines.{Held, Text, Overlong, clip}
+use Rattle.lines.specs.Lines.{Text, Overlong, clip}
 use Rattle.lines.specs.Machine.{noLine, overlongLine, hasBegun, heldOf, Holds, filledIn, grownLine, grownRoom}
 use Rattle.lines.proofs.Laws.Grows.{grown-over, grown-fits, grown-misfit}
 
