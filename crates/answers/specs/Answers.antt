@@ -1,8 +1,9 @@
 -- Answer lines (document 01, "The session program"). Assumes nothing.
 use mathlib.Core.Bool.{cond}
 use mathlib.Core.List.{List, [], _∷_, _++_}
-use Prim.Native.Nat.{ℕ}
+use Prim.Native.Nat.{ℕ, _-_}
 use lib.Dec.{ltb}
+use lib.ListN.{length, take}
 use Rattle.area.specs.declared.Found.{Found}
 use Rattle.area.specs.declared.Found.the-variants as found
 use Rattle.digits.specs.Digits.{byteDigits, concatMap}
@@ -35,3 +36,7 @@ answerBytes Leftover ws = 0 ∷ 4 ∷ concatMap wordBytes ws
 -- "pairs of upper-case hexadecimal digits, line feed"
 unfoldable pub answerText : Answer → List ℕ → List ℕ
 answerText a ws = concatMap byteDigits (answerBytes a ws) ++ (10 ∷ [])
+
+-- what comes before the line feed
+unfoldable pub answerLine : Answer → List ℕ → List ℕ
+answerLine a ws = take (length (answerText a ws) - 1) (answerText a ws)

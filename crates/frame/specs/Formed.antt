@@ -7,7 +7,8 @@ use lib.ListN.{length}
 use Rattle.area.specs.Lists.{allOf}
 use Rattle.digits.specs.Digits.{isDigit, bytesOf}
 use Rattle.digits.specs.Fields.{byteAt}
-use Rattle.frame.specs.Frames.{longest}
+use Rattle.frame.specs.declared.Frame.the-variants.{Malformed}
+use Rattle.frame.specs.Frames.{longest, frameOf}
 
 -- the kind that a line's first byte names, and how many bytes a line of that kind has
 pub data Kind : ℕ → ℕ → Type 0 where
@@ -23,10 +24,14 @@ pub data Kind : ℕ → ℕ → Type 0 where
   freeze : Kind 9 1
   thaw : Kind 10 1
 
--- a line that is a frame: law `accepted-exactly` says that these and no others are decoded
+-- a line that is a frame
 pub record WellFormed (line : List ℕ) : Type 0 where
   pub pairs : ℕ
   pub even : length line ≡ 2 * pairs
   pub short : length line ≤ longest
   pub digits : allOf isDigit line ≡ true
   pub kind : Kind (byteAt (bytesOf line) 0) pairs
+
+-- a line is decoded to a call: law `accepted-exactly` says that this is so of the well-formed lines and of no others
+unfoldable pub Accepted : List ℕ → Type 0
+Accepted line = frameOf line ≡ Malformed → ⊥

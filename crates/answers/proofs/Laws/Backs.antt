@@ -5,7 +5,7 @@ use mathlib.Core.List.{List, [], _∷_, _++_}
 use Prim.Native.Nat.{ℕ, _+_, _-_, _^_, _≤_, _<_}
 use native.Mathlib.Omega.{arith}
 use borrow.Author.Tests.{ltb-true, lt-ltb, le-leb}
-use lib.ListN.{length, take, drop, length-append}
+use lib.ListN.{length, drop, length-append}
 use lib.Seq.{take-at, drop-at}
 use Rattle.area.specs.Lists.{allOf}
 use Rattle.area.specs.Parts.{isWord, paste, pastedIn}
@@ -16,7 +16,7 @@ use Rattle.digits.specs.Fields.{isFive, wordBytes, wordsOf}
 use Rattle.digits.specs.Writes.{placeAfter}
 use Rattle.digits.proofs.Laws.Trips.{bytes-back, words-back, word-bytes-are, digits-are}
 use Rattle.answers.specs.declared.Answer.{Answer}
-use Rattle.answers.specs.Answers.{answerBytes, answerText}
+use Rattle.answers.specs.Answers.{answerBytes, answerText, answerLine}
 use Rattle.answers.specs.Leads.{leadOf, leadBytes, shownOf}
 use Rattle.answers.proofs.Laws.Texts.{leads, text-length}
 
@@ -42,12 +42,8 @@ answer-fits a ws xs h room =
 
 -- ---- read back
 
--- what comes before the line feed
-pub lineOf : Answer → List ℕ → List ℕ
-lineOf a ws = take (length (answerText a ws) - 1) (answerText a ws)
-
-line-digits : (a : Answer) (ws : List ℕ) → lineOf a ws ≡ concatMap byteDigits (answerBytes a ws)
-unfolding lineOf answerText
+line-digits : (a : Answer) (ws : List ℕ) → answerLine a ws ≡ concatMap byteDigits (answerBytes a ws)
+unfolding answerLine answerText
 line-digits a ws =
     let n : length (concatMap byteDigits (answerBytes a ws)) ≡ length (concatMap byteDigits (answerBytes a ws) ++ (10 ∷ [])) - 1 =
     omega (arith, length-append (concatMap byteDigits (answerBytes a ws)) (10 ∷ [])) in
@@ -62,11 +58,11 @@ module _ (a : Answer) (ws : List ℕ) (small : allOf isByte (leadBytes (leadOf a
       ∙ and-both _ _ small (word-bytes-are (shownOf (leadOf a .worded) ws))
 
   -- every character before the line feed is a digit
-  pub line-is-digits : allOf isDigit (lineOf a ws) ≡ true
+  pub line-is-digits : allOf isDigit (answerLine a ws) ≡ true
   line-is-digits = ap (allOf isDigit) (line-digits a ws) ∙ digits-are (answerBytes a ws) bytes-are
 
   -- and they stand for the answer's bytes
-  pub answer-back : bytesOf (lineOf a ws) ≡ answerBytes a ws
+  pub answer-back : bytesOf (answerLine a ws) ≡ answerBytes a ws
   answer-back = ap bytesOf (line-digits a ws) ∙ bytes-back (answerBytes a ws) bytes-are
 
   words-five : (vs : List ℕ) → allOf isWord vs ≡ true → allOf isFive vs ≡ true
@@ -77,7 +73,7 @@ module _ (a : Answer) (ws : List ℕ) (small : allOf isByte (leadBytes (leadOf a
       and-both _ _ (lt-ltb v (2 ^ 40) (omega arith)) (words-five vs (and-right (isWord v) _ h))
 
   -- the words after the lead are those that were given
-  pub answer-words-back : leadOf a .worded ≡ true → allOf isWord ws ≡ true → wordsOf (drop (leadOf a .count) (bytesOf (lineOf a ws))) ≡ ws
+  pub answer-words-back : leadOf a .worded ≡ true → allOf isWord ws ≡ true → wordsOf (drop (leadOf a .count) (bytesOf (answerLine a ws))) ≡ ws
   answer-words-back w h =
       let is = leads a (leadOf a) refl in
       ap (λ (bs : List ℕ). wordsOf (drop (leadOf a .count) bs)) (answer-back ∙ is .whole ws)

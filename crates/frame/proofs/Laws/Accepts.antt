@@ -16,27 +16,27 @@ use Rattle.digits.proofs.Laws.Trips.{bytes-back, digits-are}
 use Rattle.frame.specs.declared.Frame.{Frame}
 use Rattle.frame.specs.declared.Frame.the-variants.{Malformed, Close, Report, Get, Put, Seal, Skip, Freeze, Thaw}
 use Rattle.frame.specs.Frames.{longest, isText, sized, worded, wordsAfter, freshOf, openOf, askOf, reportOf, putOf, kindBy, kindOf, frameOf}
-use Rattle.frame.specs.Formed.{Kind, fresh, opens, close, ask, report, get, put, seal, skip, freeze, thaw, WellFormed}
+use Rattle.frame.specs.Formed.{Kind, fresh, opens, close, ask, report, get, put, seal, skip, freeze, thaw, WellFormed, Accepted}
 use Rattle.frame.proofs.Laws.Sizes.{worded-yes, text-long, frame-text, frame-other}
 
 -- the frame is not Malformed
-pub Accepted : Frame → Type 0
-Accepted f = f ≡ Malformed → ⊥
+abbrev Decoded : Frame → Type 0
+Decoded f = f ≡ Malformed → ⊥
 
 -- ---- what is accepted is of its kind and size
 
-either : {P : Type 0} (t : Bool) (x y : Frame) → (t ≡ true → Accepted x → P) → (Accepted y → P) → Accepted (cond t x y) → P
+either : {P : Type 0} (t : Bool) (x y : Frame) → (t ≡ true → Decoded x → P) → (Decoded y → P) → Decoded (cond t x y) → P
 either true x y f g h = f refl h
 either false x y f g h = g h
 
-sized-exact : (n size : ℕ) (f : Frame) → Accepted (sized n size f) → n ≡ size
-unfolding sized Accepted
+sized-exact : (n size : ℕ) (f : Frame) → Decoded (sized n size f) → n ≡ size
+unfolding sized
 sized-exact n size f h = either (eqb n size) f Malformed (λ e a. eqb-true n size e) (λ a. absurd (a refl)) h
 
-worded-exact : (n head : ℕ) (f : Frame) → Accepted (worded n head f) → n ≡ head + 5 * wordsAfter n head
-unfolding worded wordsAfter Accepted
+worded-exact : (n head : ℕ) (f : Frame) → Decoded (worded n head f) → n ≡ head + 5 * wordsAfter n head
+unfolding worded wordsAfter
 worded-exact n head f h =
-    by-test (λ t. ltb n head ≡ t → Accepted (cond t Malformed (cond (eqb ((n - head) % 5) 0) f Malformed)) → n ≡ head + 5 * ((n - head) / 5)) (ltb n head)
+    by-test (λ t. ltb n head ≡ t → Decoded (cond t Malformed (cond (eqb ((n - head) % 5) 0) f Malformed)) → n ≡ head + 5 * ((n - head) / 5)) (ltb n head)
     (λ t e a. absurd (a refl))
     (λ t e a.
     let below : head ≤ n = ltb-false n head e in
@@ -47,8 +47,8 @@ worded-exact n head f h =
 kind-at : {k l n m : ℕ} → k ≡ l → n ≡ m → Kind l m → Kind k n
 kind-at {k} {l} {n} {m} p q x = subst (λ (j : ℕ). Kind j n) (sym p) (subst (λ (j : ℕ). Kind l j) (sym q) x)
 
-kind-exact : (k n : ℕ) (b : List ℕ) → Accepted (kindBy k n b) → Kind k n
-unfolding kindBy freshOf openOf askOf reportOf putOf Accepted
+kind-exact : (k n : ℕ) (b : List ℕ) → Decoded (kindBy k n b) → Kind k n
+unfolding kindBy freshOf openOf askOf reportOf putOf
 kind-exact k n b =
     either (eqb k 0) (freshOf n b) _ (λ e a. kind-at (eqb-true k 0 e) (sized-exact n 14 _ a) fresh)
     (either (eqb k 1) (openOf n b) _ (λ e a. kind-at (eqb-true k 1 e) (sized-exact n 9 _ a) opens)
@@ -68,8 +68,8 @@ module _ (n head words : ℕ) (f : Frame) (e : n ≡ head + 5 * words) where
   worded-whole : worded n head f ≡ f
   worded-whole = worded-yes n head f (omega arith) (omega arith)
 
-kind-accepted : (k n : ℕ) (b : List ℕ) → Kind k n → Accepted (kindBy k n b)
-unfolding kindBy freshOf openOf askOf reportOf putOf sized Accepted
+kind-accepted : (k n : ℕ) (b : List ℕ) → Kind k n → Decoded (kindBy k n b)
+unfolding kindBy freshOf openOf askOf reportOf putOf sized
 kind-accepted k n b fresh e = let z : _≡_ {A = ℕ} 0 1 = cc in omega arith
 kind-accepted k n b opens e = let z : _≡_ {A = ℕ} 0 1 = cc in omega arith
 kind-accepted k n b close e = let z : _≡_ {A = ℕ} 0 1 = cc in omega arith
@@ -88,7 +88,7 @@ kind-accepted k n b thaw e = let z : _≡_ {A = ℕ} 0 1 = cc in omega arith
 
 -- ---- the theorem
 
-pub accepted-formed : (line : List ℕ) → Accepted (frameOf line) → WellFormed line
+pub accepted-formed : (line : List ℕ) → Accepted line → WellFormed line
 unfolding Accepted kindOf isText
 accepted-formed line h = by-test (λ t. isText line ≡ t → WellFormed line) (isText line) (λ q t. formed t) (λ q t. absurd (h (frame-other line t))) refl
   where
@@ -107,13 +107,16 @@ pub text-is : (line : List ℕ) → length line ≤ longest → length line % 2 
 unfolding isText
 text-is line short even all = and-both _ _ (le-leb (length line) longest short) (and-both _ _ (eq-eqb (length line % 2) 0 even) all)
 
-pub formed-accepted : (line : List ℕ) → WellFormed line → Accepted (frameOf line)
+pub formed-accepted : (line : List ℕ) → WellFormed line → Accepted line
 unfolding Accepted kindOf
 formed-accepted line w e =
     let t : isText line ≡ true = text-is line (w .short) (omega (arith, w .even)) (w .digits) in
     let n : length line / 2 ≡ w .pairs = omega (arith, w .even) in
     kind-accepted (byteAt (bytesOf line) 0) (w .pairs) (bytesOf line) (w .kind)
     (ap (λ (k : ℕ). kindBy (byteAt (bytesOf line) 0) k (bytesOf line)) (sym n) ∙ sym (frame-text line t) ∙ e)
+
+pub accepted-exactly : (line : List ℕ) → (Accepted line → WellFormed line) × (WellFormed line → Accepted line)
+accepted-exactly line = (accepted-formed line, formed-accepted line)
 
 -- "Over 10,248 digits is malformed."
 pub frame-long : (line : List ℕ) → longest < length line → frameOf line ≡ Malformed
