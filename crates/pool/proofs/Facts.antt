@@ -66,16 +66,15 @@ facts m w f h o =
       first = ltb-true (f .low .number) m (b .0);
       second = b .1;
       low =
-          all-five (leb (fullError (f .low .slot)) 3) (fullFits (f .size) (f .low .slot)) (partFits (f .size) (f .rlen) (f .low .slot)) (placeFits (f .low .slot)) (not (f .output) || isUnread (f .low .slot))
-          (r₃ .0) (l .0) (q .0) (a .0) (unless-so (f .output) _ (λ e. and-left (isUnread (f .low .slot)) _ (unread e)));
+        all-five (leb (fullError (f .low .slot)) 3) (fullFits (f .size) (f .low .slot)) (partFits (f .size) (f .rlen) (f .low .slot)) (placeFits (f .low .slot)) (not (f .output) || isUnread (f .low .slot))
+        (r₃ .0) (l .0) (q .0) (a .0) (unless-so (f .output) _ (λ e. and-left (isUnread (f .low .slot)) _ (unread e)));
       high =
-          all-five (leb (fullError (f .high .slot)) 3) (fullFits (f .size) (f .high .slot)) (partFits (f .size) (f .rlen) (f .high .slot)) (placeFits (f .high .slot)) (not (f .output) || isUnread (f .high .slot))
-          (r₃ .1) (l .1) (q .1) (a .1) (unless-so (f .output) _ (λ e. and-right (isUnread (f .low .slot)) _ (unread e)));
+        all-five (leb (fullError (f .high .slot)) 3) (fullFits (f .size) (f .high .slot)) (partFits (f .size) (f .rlen) (f .high .slot)) (placeFits (f .high .slot)) (not (f .output) || isUnread (f .high .slot))
+        (r₃ .1) (l .1) (q .1) (a .1) (unless-so (f .output) _ (λ e. and-right (isUnread (f .low .slot)) _ (unread e)));
       taken = leb-true (takenCount f) (oneIf (not (f .output))) (h₃ .0);
       part = leb-true (partsHeld f) (oneIf (f .output)) (p .0);
       order = unless (f .turned) (isFull (f .low .slot) && isFull (f .high .slot)) (z .0);
-      mark = λ e. not-true (f .marked) (and-left (not (f .marked)) _ (unless (f .output) _ (z .1) e));
-    }
+      mark = λ e. not-true (f .marked) (and-left (not (f .marked)) _ (unless (f .output) _ (z .1) e)) }
 
 -- the parts of what a buffer may hold
 pub record Fits (output : Bool) (size rlen : ℕ) (x : Slot) : Type 0 where
