@@ -8,6 +8,8 @@ pub mod channel_player;
 pub mod compare;
 pub mod faults;
 pub mod file;
+pub mod file_player;
+pub mod file_walks;
 pub mod frame;
 pub mod generate;
 pub mod pack;

@@ -7,6 +7,8 @@ use second::bench::{bench, BENCH_FRAMES};
 use second::channel_events::channel_events;
 use second::channel_player::answer_events;
 use second::compare::{compare, Options};
+use second::file_player::answer_walks;
+use second::file_walks::file_walks;
 use second::generate::Generator;
 use second::profile::Profile;
 use second::program::play_with;
@@ -35,6 +37,8 @@ second: document 01 of Plorrettix, written a second time
   word-cases                     prints a fixed list of such cases
   channel                        plays events on one channel
   channel-events                 prints a fixed list of such events
+  files                          plays events on one file and its buffers
+  file-walks                     prints a fixed list of such events
   help                           prints this
 
 The exit status is 0 if all is well, 1 if programs differ or something was
@@ -60,6 +64,8 @@ fn run(arguments: &[String]) -> Result<ExitCode, String> {
         ["word-cases"] => print(&lines_of(&word_cases()))?,
         ["channel"] => print(&answer_events(&standard_input()?)?)?,
         ["channel-events"] => print(&lines_of(&channel_events()))?,
+        ["files"] => print(&answer_walks(&standard_input()?)?)?,
+        ["file-walks"] => print(&lines_of(&file_walks()))?,
         ["help"] => print(HELP)?,
         _ => return Err("what shall be done? See `second help`".to_string()),
     }

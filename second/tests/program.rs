@@ -88,16 +88,15 @@ fn complaints_end_with_2() {
 #[test]
 fn help_names_every_subcommand() {
     let help = text(&run(&["help"]));
-    for name in
-        ["play", "generate", "compare", "bench", "words", "word-cases", "channel", "channel-events", "help"]
-    {
+    let names = "play generate compare bench words word-cases channel channel-events files file-walks help";
+    for name in names.split(' ') {
         assert!(help.lines().any(|line| line.trim_start().split(' ').next() == Some(name)), "{name}");
     }
 }
 
 #[test]
-fn words_and_channel_answer_their_lists() {
-    for (list, answers) in [("word-cases", "words"), ("channel-events", "channel")] {
+fn words_channel_and_files_answer_their_lists() {
+    for (list, answers) in [("word-cases", "words"), ("channel-events", "channel"), ("file-walks", "files")] {
         let cases = run(&[list]).stdout;
         let played = play_with(&command(&[answers]), &cases).expect("answers");
         assert!(played.ended_well);

@@ -5,6 +5,8 @@ use std::path::Path;
 
 use second::channel_events::channel_events;
 use second::channel_player::answer_events;
+use second::file_player::answer_walks;
+use second::file_walks::file_walks;
 use second::text::lines_of;
 use second::word_cases::word_cases;
 use second::words::answer_cases;
@@ -43,4 +45,15 @@ fn channel_events_are_stored() {
 fn answers_to_channel_events_are_stored() {
     let events = stored("channel_events", "stdin");
     assert_same_lines(&stored("channel_events", "stdout"), &answer_events(&events).expect("events"));
+}
+
+#[test]
+fn file_walks_are_stored() {
+    assert_same_lines(&stored("file_walks", "stdin"), &lines_of(&file_walks()));
+}
+
+#[test]
+fn answers_to_file_walks_are_stored() {
+    let events = stored("file_walks", "stdin");
+    assert_same_lines(&stored("file_walks", "stdout"), &answer_walks(&events).expect("events"));
 }

@@ -13,8 +13,8 @@ use Rattle.files.specs.declared.Side.{Side}
 use Rattle.files.specs.declared.Side.the-variants.{Low, High, Neither}
 use Rattle.files.specs.declared.File.{File}
 use Rattle.files.specs.declared.Wish.{Wish}
-use Rattle.files.specs.Slots.{isEmpty, isTaken, isPart, isFull, fullWords, fullPlace, fullError}
-use Rattle.files.specs.Sides.{bufferAt, slotAt, isSide, emptySide, takenSide, partSide, oldest, withSlot, turnedBy, filledAt, emptiedAt, withoutOldest}
+use Rattle.files.specs.Slots.{isEmpty, isTaken, isPart, isFull}
+use Rattle.files.specs.Sides.{bufferAt, slotAt, isSide, emptySide, takenSide, partSide, oldest, withSlot, filledAt, emptiedAt, withoutOldest}
 use Rattle.files.specs.Opening.{openedFile}
 use Rattle.files.specs.Input.{tookBuffer, delivered, gaveBack, withMark, metMark}
 use Rattle.files.specs.Output.{putSide, wordsAfter, added, partLength, sealed}

@@ -1,9 +1,7 @@
 -- Laws of the sides: what is known of the buffer that a search over the two buffers finds. Assumes nothing.
-use mathlib.Core.Path.{_≡_, refl, sym, ap, _∙_}
-use mathlib.Core.Bool.{Bool, true, false, not, cond, _&&_}
-use Rattle.area.proofs.Walks.{by-test, true-not-false, and-left, and-right}
-use Rattle.files.specs.declared.Slot.{Slot}
-use Rattle.files.specs.declared.Slot.the-variants.{Empty, Taken, Part, Full}
+use mathlib.Core.Path.{_≡_, refl}
+use mathlib.Core.Bool.{Bool, true, false, not, _&&_}
+use Rattle.area.proofs.Walks.{true-not-false, and-left, and-right}
 use Rattle.files.specs.declared.Side.{Side}
 use Rattle.files.specs.declared.Side.the-variants.{Low, High, Neither}
 use Rattle.files.specs.declared.File.{File}

@@ -1,8 +1,7 @@
 -- Output (document 01, "Files and buffers"): put, seal and write, on one file. Assumes nothing.
-use Prim.Native.Nat.{ℕ, _+_, _*_}
+use Prim.Native.Nat.{ℕ, _+_}
 use mathlib.Core.Bool.{Bool, false, cond, _&&_, _||_}
 use lib.Dec.{leb, ltb}
-use Rattle.files.specs.declared.Slot.{Slot}
 use Rattle.files.specs.declared.Slot.the-variants.{Part}
 use Rattle.files.specs.declared.Side.{Side}
 use Rattle.files.specs.declared.File.{File}

@@ -7,7 +7,7 @@ use files::File;
 ghost use mathlib.Core.Path.{_≡_};
 ghost use lib.ListN.{drop};
 ghost use Rattle.area.specs.Lists.{allOf, allPairs};
-ghost use Rattle.pool.specs.Soundness.{fileSound, shareBuffer, shareUnit, apart, filesSound};
+ghost use Rattle.pool.specs.Soundness.{fileSound, shareBuffer, apart, filesSound};
 
 // Whether two open files share a buffer.
 fn share_buffer(f: File, g: File) -> bool

@@ -1,5 +1,4 @@
 -- `files::start_at` meets its contract, from the contract of `buffer_at`. Assumes nothing.
-use Prim.Native.Nat.{_*_}
 use native.Mathlib.Omega.{arith}
 use lib.Dec.{lit<}
 use native.Mathlib.Nat.{lt-of-le-of-lt, mul-le-mul}

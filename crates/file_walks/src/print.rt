@@ -1,0 +1,67 @@
+// Answers: numbers with one blank between them, a line feed after the last; and a file as a list of its blocks.
+use files::File;
+use libc::STDOUT_FILENO;
+ghost use Prim.Native.Nat.{_≤_};
+
+// A number of a line, after which more come.
+pub fn number(n: u64) {
+    io::print_decimal(STDOUT_FILENO, n);
+    io::write_all(STDOUT_FILENO, b" ");
+}
+
+fn last(n: u64) {
+    io::print_decimal(STDOUT_FILENO, n);
+    io::write_all(STDOUT_FILENO, b"\n");
+}
+
+fn flag(b: bool) -> u64
+    ensures { λ r. ⌜ r ≤ 1 ⌝ }
+{
+    if b { 1 } else { 0 }
+}
+
+// The oldest full block, if there is one: its buffer, data words, the place of get in it, and its check error that was not told.
+fn block(f: File) {
+    if files::has_full(f) {
+        let k = files::oldest(f);
+        let x = files::slot_at(f, k);
+        number(files::start_at(f, 1, k) as u64);
+        number(files::full_words(x) as u64);
+        number(files::full_place(x) as u64);
+        number(files::full_error(x) as u64);
+    }
+}
+
+// The number of the taken buffer, 255 for none.
+fn taken(f: File) {
+    let low = f.low;
+    let high = f.high;
+    let x = low.slot;
+    let y = high.slot;
+    if files::is_taken(x) | files::is_taken(y) {
+        return number(files::taken_start(f, 1) as u64);
+    }
+    number(255)
+}
+
+// The part-filled buffer and its words, 255 and 0 for none.
+fn part(f: File) {
+    if files::has_part(f) {
+        number(files::part_start(f, 1) as u64);
+    } else {
+        number(255);
+    }
+    number(files::part_length(f) as u64);
+}
+
+// The whole file: its full blocks, the oldest first, the taken and the part-filled buffer, the next block number and the mark.
+pub fn whole(f: File) {
+    let rest = files::without_oldest(f);
+    number(flag(files::has_full(f)) + flag(files::has_full(rest)));
+    block(f);
+    block(rest);
+    taken(f);
+    part(f);
+    number(f.block as u64);
+    last(flag(f.marked));
+}

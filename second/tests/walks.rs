@@ -1,0 +1,151 @@
+//! The walks of `file-walks` are played on a whole pack too. The numbers that `files` gives are
+//! compared with where the pack's words really lie, and its file with the pack's file.
+
+use second::channel::Booked;
+use second::file_player::{
+    answer_walk_event, OpenFile, GET, OPEN, PUT, READ, READ_ERROR, READ_GOOD, READ_MARK, SEAL, SKIP,
+    TO_WRITE, WRITE_ERROR, WRITTEN,
+};
+use second::file_walks::file_walks;
+use second::pack::{Got, Opening, Pack, CHECK, DOUBLE, MOST_BUFFERS, MOST_WIDTH, OUTPUT, SEQUENCE};
+use second::word::{check_word, logical_sum, HALF_BITS};
+
+const ASK_READ: u64 = 0;
+const ASK_WRITE: u64 = 1;
+
+const GOOD: u64 = 0;
+const INCOMPLETE: u64 = 2;
+const FILE_MARK: u64 = 3;
+const END_OF_MEDIUM: u64 = 4;
+
+struct Walker {
+    pack: Pack,
+    opened: Option<OpenFile>,
+    /// No two words that are given are alike, so that words tell their place.
+    last_word: u64,
+    /// Every other write ends with end of medium.
+    writes: u64,
+}
+
+impl Walker {
+    fn new() -> Walker {
+        let area_words = (MOST_BUFFERS * MOST_WIDTH) as usize;
+        Walker { pack: Pack::new(area_words), opened: None, last_word: 0, writes: 0 }
+    }
+
+    fn new_words(&mut self, count: u64) -> Vec<u64> {
+        self.last_word += count;
+        (self.last_word - count + 1..=self.last_word).collect()
+    }
+
+    fn play(&mut self, event: &[u64]) {
+        let sent = self.sent();
+        let answer = answer_walk_event(&mut self.opened, event).expect("an event");
+        match event[0] {
+            OPEN => self.open(event),
+            READ => self.ask(ASK_READ),
+            READ_GOOD => self.deliver(event[1], event[2]),
+            READ_ERROR => {
+                assert_eq!(self.report(INCOMPLETE), (Booked::Repeated, vec![]));
+                assert_eq!(self.report(INCOMPLETE), (Booked::PermanentIncompleteWord, vec![]));
+            }
+            READ_MARK => assert_eq!(self.report(FILE_MARK), (Booked::Mark, vec![])),
+            GET => self.get(&answer),
+            SKIP => self.pack.skip(0).expect("a skip"),
+            PUT => self.put(&answer),
+            SEAL => self.pack.seal(0).expect("a seal"),
+            TO_WRITE => assert_eq!(sent.as_deref(), Some(&answer[..2])),
+            WRITTEN => self.write(&sent.expect("a block")),
+            WRITE_ERROR => {
+                self.ask(ASK_WRITE);
+                assert_eq!(self.report(INCOMPLETE), (Booked::PermanentIncompleteWord, vec![]));
+            }
+            _ => panic!("{event:?}"),
+        }
+        let opened = self.opened.as_ref().expect("an open file");
+        assert_eq!(self.pack.files[0].as_ref(), Some(&opened.file), "{event:?}");
+    }
+
+    /// What `files` says that a write would send.
+    fn sent(&self) -> Option<Vec<u64>> {
+        let answer = answer_walk_event(&mut self.opened.clone(), &[TO_WRITE])?;
+        Some(answer[..2].to_vec())
+    }
+
+    fn open(&mut self, event: &[u64]) {
+        let &[_, width, output, double, sequence, check, block_size, record_length, low, high] = event else {
+            panic!("{event:?}");
+        };
+        self.pack.fresh(MOST_BUFFERS, width, [1, 0, 0, 0, 0]).expect("a fresh start");
+        let flags = output * OUTPUT + double * DOUBLE + sequence * SEQUENCE + check * CHECK;
+        let opening = Opening { file: 0, channel: 0, unit: 0, flags, block_size, record_length };
+        self.pack.open(&opening).expect("an open");
+        let buffers = &mut self.pack.files[0].as_mut().expect("an open file").buffers;
+        assert_eq!(buffers.len(), 1 + double as usize);
+        *buffers = [low as usize, high as usize][..buffers.len()].to_vec();
+    }
+
+    fn ask(&mut self, operation: u64) {
+        assert_eq!(self.pack.ask(0, operation, 0), Ok(Some(0)));
+    }
+
+    fn report(&mut self, outcome: u64) -> (Booked, Vec<u64>) {
+        let reported = self.pack.report(0, 0, outcome, &[]).expect("a report");
+        (reported.result, reported.block.to_vec())
+    }
+
+    /// A good read of a block that has the error asked for.
+    fn deliver(&mut self, count: u64, error: u64) {
+        let mut words = self.new_words(count);
+        let file = self.pack.files[0].as_ref().expect("an open file");
+        if file.chosen.e() == 1 {
+            let right = check_word(file.chosen, file.number, logical_sum(&words));
+            words.push(right ^ (error & 1) ^ (error >> 1 << HALF_BITS));
+        }
+        let reported = self.pack.report(0, 0, GOOD, &words).expect("a report");
+        assert_eq!((reported.result, u64::from(reported.check_error)), (Booked::Good, error));
+    }
+
+    fn get(&mut self, answer: &[u64]) {
+        let (number, words, error) = match self.pack.get(0).expect("a get") {
+            Got::Record(words) => (0, words.to_vec(), 0),
+            Got::NothingYet => (1, vec![], 0),
+            Got::End => (2, vec![], 0),
+            Got::CheckError(error) => (3, vec![], error),
+            Got::Leftover(words) => (4, words.to_vec(), 0),
+        };
+        assert_eq!((number, u64::from(error)), (answer[0], answer[3]));
+        assert_eq!(words, self.words_at(answer[1], answer[2]));
+    }
+
+    fn put(&mut self, answer: &[u64]) {
+        let count = self.pack.files[0].as_ref().expect("an open file").record_length as u64;
+        let words = self.new_words(count);
+        self.pack.put(0, &words).expect("a put");
+        assert_eq!(words, self.words_at(answer[0], count));
+    }
+
+    fn write(&mut self, sent: &[u64]) {
+        let expected = self.words_at(sent[0], sent[1]).to_vec();
+        self.ask(ASK_WRITE);
+        self.writes += 1;
+        if self.writes % 2 == 0 {
+            assert_eq!(self.report(GOOD), (Booked::Good, expected));
+        } else {
+            assert_eq!(self.report(END_OF_MEDIUM), (Booked::EndOfMedium, expected));
+        }
+    }
+
+    fn words_at(&self, start: u64, count: u64) -> &[u64] {
+        &self.pack.area[start as usize..][..count as usize]
+    }
+}
+
+#[test]
+fn a_pack_walks_the_same_way() {
+    let mut walker = Walker::new();
+    for event in file_walks() {
+        walker.play(&event);
+    }
+    assert!(walker.writes > 100);
+}
