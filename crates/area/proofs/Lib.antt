@@ -1,6 +1,8 @@
 pub mod Walks
 pub mod Firsts
 pub mod Pastes
+pub mod Joins
+pub mod Copies
 pub mod Tall
 pub mod Lowest
 pub mod Scans

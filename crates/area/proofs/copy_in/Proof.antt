@@ -1,37 +1,22 @@
--- `area::copy_in` meets its contract. After i turns the area has the first i words in their places. Assumes nothing.
+-- `area::copy_in` meets its contract. After i turns the first i words are in their places (`Copied`). Assumes nothing.
 use borrow.Author.Needs.{needs}
-use borrow.Author.Tests.{le-leb, lt-leb}
-use mathlib.Core.Path.{_≡_, sym, ap, _∙_}
-use mathlib.Core.List.{List}
-use Prim.Native.Nat.{ℕ, _+_, _-_, _≤_, _<_}
-use native.Mathlib.Numerals.{add-one}
+use Prim.Native.Nat.{_+_, _-_, _≤_, _<_}
 use native.Mathlib.Omega.{arith}
-use lib.ListN.{length, getD, set}
-use lib.Seq.{paste, paste-zero, paste-suc, length-paste}
-use Rattle.area.proofs.Pastes.{paste-copied, paste-fitting, paste-misfit}
+use lib.ListN.{length}
+use Rattle.area.proofs.Copies.{copy-misfit, Copied, copied-none, copied-length, copied-one, copied-all}
 use Rattle.area.proofs.copy_in.Statement.{statement}
 use Rattle.area.proofs.copy_in.Tie as tie
-use Rattle.area.proofs.copy_in.Reads as reads
-use Rattle.area.proofs.copy_in.Lts as lts
 
 abbrev Inv-loop : tie.InvT-loop
-Inv-loop area₀ at words i₀ area i =
-    (i ≤ length words) × (at + length words ≤ length area₀) × (area ≡ paste area₀ at words i)
+Inv-loop area₀ at words i₀ area i = Copied at words area₀ i area
 
 abbrev μ-loop : tie.MeasureT-loop
 μ-loop area₀ at words i₀ area i = length words - i
 
--- the area keeps its length
-stays : (c : lts.At-loop reads.Pre reads.Post Inv-loop μ-loop) → length (c .loop .area) ≡ length (c .before .before .before .args .area .now)
-stays c =
-    let a = c .before .before .before .args in
-    ap length (c .loop .inv .2) ∙ length-paste (a .area .now) (a .at) (a .words .now) (c .loop .i) (omega arith) (omega arith)
-
 returns : tie.Need-returns Inv-loop μ-loop
 returns c =
     let a = c .before .args in
-    let h : length (a .area .now) < a .at + length (a .words .now) = omega arith in
-    (sym (lt-leb _ _ h), sym (paste-misfit (a .at) _ _ h))
+    copy-misfit (a .at) (a .words .now) (a .area .now) (omega arith)
 
 sub-if2 : tie.Need-sub-if2 Inv-loop μ-loop
 sub-if2 c = search needs
@@ -39,13 +24,12 @@ sub-if2 c = search needs
 returns-2 : tie.Need-returns-2 Inv-loop μ-loop
 returns-2 c =
     let a = c .before .before .args in
-    let h : length (a .area .now) < a .at + length (a .words .now) = omega arith in
-    (sym (lt-leb _ _ h), sym (paste-misfit (a .at) _ _ h))
+    copy-misfit (a .at) (a .words .now) (a .area .now) (omega arith)
 
 loop-holds : tie.Need-loop-holds Inv-loop μ-loop
 loop-holds c =
     let a = c .before .before .args in
-    (search needs, search needs, paste-zero (a .area .now) (a .at) (a .words .now))
+    copied-none (a .at) (a .words .now) (a .area .now) (omega arith)
 
 mul-area : tie.Need-mul-area Inv-loop μ-loop
 mul-area c = search needs
@@ -54,15 +38,18 @@ shared-slice-read-area : tie.Need-shared-slice-read-area Inv-loop μ-loop
 shared-slice-read-area c = search needs
 
 add-area : tie.Need-add-area Inv-loop μ-loop
-add-area c = search needs
+add-area c =
+    let t = c .before .before .loop in
+    omega (arith, t .inv .fits)
 
 mul-area-2 : tie.Need-mul-area-2 Inv-loop μ-loop
 mul-area-2 c = search needs
 
 slice-write-area : tie.Need-slice-write-area Inv-loop μ-loop
 slice-write-area c =
-    let at = c .before .before in
-    omega (arith, stays at)
+    let t = c .before .before .loop in
+    let a = c .before .before .before .before .before .args in
+    omega (arith, copied-length (a .at) (a .words .now) (a .area .now) (t .i) (t .area) (t .inv), t .inv .fits)
 
 add-i : tie.Need-add-i Inv-loop μ-loop
 add-i c = search needs
@@ -72,29 +59,21 @@ loop-less c = search needs
 
 loop-again : tie.Need-loop-again Inv-loop μ-loop
 loop-again c =
-    let at = c .before .before in
-    let a = at .before .before .before .args in
-    let i = at .loop .i in (
-      search needs,
-      search needs,
-      ap (λ (xs : List ℕ). set xs (a .at + i) (getD (a .words .now) i 0)) (at .loop .inv .2)
-          ∙ paste-suc (a .area .now) (a .at) (a .words .now) i 0 (omega arith) (omega arith)
-          ∙ ap (paste (a .area .now) (a .at) (a .words .now)) (sym (add-one i)),
-    )
+    let t = c .before .before .loop in
+    let a = c .before .before .before .before .before .args in
+    copied-one (a .at) (a .words .now) (a .area .now) (t .i) (t .area) 0 (omega arith) (t .inv)
 
 same-length : tie.Need-same-length Inv-loop μ-loop
-same-length c = stays (c .before)
+same-length c =
+    let t = c .before .loop in
+    let a = c .before .before .before .before .args in
+    copied-length (a .at) (a .words .now) (a .area .now) (t .i) (t .area) (t .inv)
 
 returns-3 : tie.Need-returns-3 Inv-loop μ-loop
 returns-3 c =
-    let at = c .before in
-    let a = at .before .before .before .args in
-    let h : a .at + length (a .words .now) ≤ length (a .area .now) = omega arith in (
-      sym (le-leb _ _ h),
-      at .loop .inv .2
-          ∙ paste-copied (a .at) (at .loop .i) (a .words .now) (a .area .now) (omega arith) (omega arith)
-          ∙ sym (paste-fitting (a .at) (a .words .now) (a .area .now) h),
-    )
+    let t = c .before .loop in
+    let a = c .before .before .before .before .args in
+    copied-all (a .at) (a .words .now) (a .area .now) (t .i) (t .area) (omega arith) (t .inv)
 
 pub copy-in-spec : {M : Type 1} → statement M
 copy-in-spec =

@@ -1,0 +1,4 @@
+pub mod Values
+pub mod Bytes
+pub mod Writes
+pub mod Trips

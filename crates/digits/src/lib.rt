@@ -1,0 +1,15 @@
+// Upper-case hexadecimal digits in lent byte areas: bytes, sizes of two bytes and words of five, read and written, highest first.
+// Every function answers any bytes at any place. It knows nothing of frames and answers.
+mod read;
+mod write;
+
+pub use read::all_digits;
+pub use read::byte_at;
+pub use read::is_digit;
+pub use read::size_at;
+pub use read::value;
+pub use read::word_at;
+pub use write::put_byte;
+pub use write::put_size;
+pub use write::put_word;
+pub use write::put_words;

@@ -1,0 +1,3 @@
+pub mod Lines
+pub mod Machine
+pub mod Runs
