@@ -1,0 +1,4 @@
+pub mod Places
+pub mod Requests
+pub mod Soundness
+pub mod Judged

@@ -1,0 +1,51 @@
+-- Where things stand in a state (document 01, "Sizes"): lookups for any number, and replacements. Assumes nothing.
+use Prim.Native.Nat.{ℕ, _*_}
+use mathlib.Core.Bool.{Bool, false}
+use mathlib.Core.List.{List}
+use lib.Dec.{ltb}
+use lib.ListN.{getD, set, replicate}
+use Rattle.channel.specs.declared.Channel.{Channel}
+use Rattle.channel.specs.Units.{freshOf}
+use Rattle.files.specs.declared.File.{File}
+use Rattle.files.specs.Opening.{closedFile}
+use Rattle.pool.specs.Free.{fileCount}
+use Rattle.state.specs.declared.State.{State}
+
+-- "Channels 0 to 4"
+abbrev pub channelCount : ℕ
+channelCount = 5
+
+-- a channel without declared units: what stands past the last channel
+abbrev pub noChannel : Channel
+noChannel = freshOf 0
+
+-- "Before the first fresh start: no buffers (m and W are 0), no units"
+unfoldable pub beforeStart : State
+beforeStart = record {
+  m = 0;
+  w = 0;
+  frozen = false;
+  channels = replicate channelCount noChannel;
+  files = replicate fileCount closedFile;
+}
+
+-- the file and the channel of a number; past the last a closed file, and a channel without units
+abbrev pub fileAt : State → ℕ → File
+fileAt s i = getD (s .files) i closedFile
+
+abbrev pub channelIn : List Channel → ℕ → Channel
+channelIn cs c = getD cs c noChannel
+
+abbrev pub channelAt : State → ℕ → Channel
+channelAt s c = channelIn (s .channels) c
+
+-- the state with another file, or another channel, in the place of a number; as it is past the last
+unfoldable pub withFile : State → ℕ → File → State
+withFile s i f = record { m = s .m; w = s .w; frozen = s .frozen; channels = s .channels; files = set (s .files) i f }
+
+unfoldable pub withChannel : State → ℕ → Channel → State
+withChannel s c x = record { m = s .m; w = s .w; frozen = s .frozen; channels = set (s .channels) c x; files = s .files }
+
+-- "An area under m×W is refused 1."
+abbrev pub areaShort : State → ℕ → Bool
+areaShort s n = ltb n (s .m * s .w)

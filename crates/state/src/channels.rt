@@ -1,0 +1,126 @@
+// Whether each channel is sound, with the files that its units serve.
+use crate::CHANNELS;
+use crate::turns::is_none;
+use crate::turns::is_waiting;
+use crate::turns::is_working;
+use crate::turns::requested;
+use crate::turns::unit_right;
+use channel::Channel;
+use channel::UNITS;
+use files::File;
+use pool::FILES;
+use pool::is_bound;
+ghost use mathlib.Core.Path.{_≡_};
+ghost use Prim.Native.Nat.{_≤_};
+ghost use Rattle.area.specs.Lists.{anyOf, allOf, countOf};
+ghost use Rattle.area.specs.Numbered.{allFrom};
+ghost use Rattle.channel.specs.Units.{unitCount};
+ghost use Rattle.state.specs.Soundness.{unitWorks, unitWaits, worksRight};
+ghost use Rattle.state.specs.Judged.{unitRight, unitServed, channelRight};
+
+// Whether every unit is declared and counted as it may be.
+fn units_right(m: u8, c: Channel) -> bool
+    ensures { λ r. ⌜ r ≡ allOf (unitRight m) (c .units) ⌝ }
+{
+    let mut u: usize = 0;
+    while u < UNITS {
+        let x = c.units[u];
+        if !unit_right(m, x) {
+            return false;
+        }
+        u += 1;
+    }
+    true
+}
+
+// How many requests the channel works for.
+fn work_count(c: Channel) -> usize
+    ensures { λ r. ⌜ (r ≡ countOf unitWorks (c .units)) × (r ≤ unitCount) ⌝ }
+{
+    let mut n: usize = 0;
+    let mut u: usize = 0;
+    while u < UNITS {
+        let x = c.units[u];
+        let t = x.turn;
+        if is_working(t) {
+            n += 1;
+        }
+        u += 1;
+    }
+    n
+}
+
+// Whether a request waits.
+fn any_waits(c: Channel) -> bool
+    ensures { λ r. ⌜ r ≡ anyOf unitWaits (c .units) ⌝ }
+{
+    let mut u: usize = 0;
+    while u < UNITS {
+        let x = c.units[u];
+        let t = x.turn;
+        if is_waiting(t) {
+            return true;
+        }
+        u += 1;
+    }
+    false
+}
+
+// Whether the channel works for at most one request, and for one if it is not frozen and any waits.
+fn works_right(frozen: bool, c: Channel) -> bool
+    ensures { λ r. ⌜ r ≡ worksRight frozen c ⌝ }
+{
+    let n = work_count(c);
+    let waits = any_waits(c);
+    (n <= 1) & (frozen | (!waits | (n == 1)))
+}
+
+// Whether every unit with a request has an open file.
+fn units_served(files: [File; FILES], number: u8, c: Channel) -> bool
+    ensures { λ r. ⌜ r ≡ allFrom (unitServed files number) 0 (c .units) ⌝ }
+{
+    let mut u: u8 = 0;
+    while (u as usize) < UNITS {
+        let x = c.units[u as usize];
+        let t = x.turn;
+        let idle = is_none(requested(t));
+        if !idle {
+            if !is_bound(files, number, u) {
+                return false;
+            }
+        }
+        u += 1;
+    }
+    true
+}
+
+// Whether a channel is sound by itself and with the files that its units serve.
+fn channel_right(m: u8, frozen: bool, files: [File; FILES], number: u8, c: Channel) -> bool
+    ensures { λ r. ⌜ r ≡ channelRight m frozen files number c ⌝ }
+{
+    let mark = (c.mark as usize) < UNITS;
+    let units = units_right(m, c);
+    let works = works_right(frozen, c);
+    let served = units_served(files, number, c);
+    mark & (units & (works & served))
+}
+
+// Whether every channel is.
+pub fn channels_right(
+    m: u8,
+    frozen: bool,
+    files: [File; FILES],
+    channels: [Channel; CHANNELS],
+) -> bool
+    ensures { λ r. ⌜ r ≡ allFrom (channelRight m frozen files) 0 channels ⌝ }
+{
+    let mut i: u8 = 0;
+    while (i as usize) < CHANNELS {
+        let c = channels[i as usize];
+        if !channel_right(m, frozen, files, i, c) {
+            return false;
+        }
+        i += 1;
+    }
+    true
+}

@@ -1,0 +1,58 @@
+// Whether each open file fits its unit: the unit is declared, and its request is one that the file is ready for.
+use crate::CHANNELS;
+use crate::places::channel_in;
+use crate::turns::fits_output;
+use crate::turns::is_read;
+use crate::turns::is_write;
+use crate::turns::requested;
+use channel::Channel;
+use channel::Work;
+use channel::is_declared;
+use channel::turn_of;
+use files::File;
+use files::has_full;
+use pool::FILES;
+use pool::taken_count;
+ghost use mathlib.Core.Path.{_≡_};
+ghost use Rattle.area.specs.Lists.{allOf};
+ghost use Rattle.state.specs.Judged.{fileReady, fileFits};
+
+// Whether the file is ready for what is requested of it: the direction, the buffer that a read alone has taken, a write's full block.
+fn file_ready(x: Work, f: File) -> bool
+    ensures { λ r. ⌜ r ≡ fileReady x f ⌝ }
+{
+    let way = fits_output(x, f.output);
+    let n = taken_count(f);
+    let read = is_read(x) as u8;
+    let write = is_write(x);
+    let full = has_full(f);
+    way & ((n == read) & (!write | full))
+}
+
+// Whether the file, if it is open, has a declared unit and is ready for its unit's request.
+fn file_fits(channels: [Channel; CHANNELS], f: File) -> bool
+    ensures { λ r. ⌜ r ≡ fileFits channels f ⌝ }
+{
+    let c = channel_in(channels, f.channel as usize);
+    let u = f.unit as usize;
+    let known = is_declared(c, u);
+    let t = turn_of(c, u);
+    let x = requested(t);
+    let ready = file_ready(x, f);
+    !f.opened | (known & ready)
+}
+
+// Whether every open file fits its unit.
+pub fn files_fit(channels: [Channel; CHANNELS], files: [File; FILES]) -> bool
+    ensures { λ r. ⌜ r ≡ allOf (fileFits channels) files ⌝ }
+{
+    let mut i: usize = 0;
+    while i < FILES {
+        let f = files[i];
+        if !file_fits(channels, f) {
+            return false;
+        }
+        i += 1;
+    }
+    true
+}

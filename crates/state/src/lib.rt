@@ -1,0 +1,34 @@
+// The whole state of a pack: the pool's two numbers, the freeze, five channels and sixteen files, by value.
+// It looks a file or a channel up, replaces one, judges whether a state that a caller passes back is sound, and gives the lowest refusal
+// that applies. It knows nothing of what a call does.
+mod channels;
+mod fits;
+mod places;
+mod refusals;
+mod sound;
+mod turns;
+
+use channel::Channel;
+use files::File;
+pub use places::area_short;
+pub use places::before_start;
+pub use places::channel_at;
+pub use places::file_at;
+pub use places::with_channel;
+pub use places::with_file;
+use pool::FILES;
+pub use refusals::lowest_of;
+pub use sound::is_sound;
+pub use turns::requested;
+
+// How many channels there are: the manual's A to E.
+pub const CHANNELS: usize = 5;
+
+// A pool of m buffers of w words; whether starts are frozen; the channels with their units; the files.
+pub struct State {
+    pub m: u8,
+    pub w: u16,
+    pub frozen: bool,
+    pub channels: [Channel; CHANNELS],
+    pub files: [File; FILES],
+}

@@ -1,0 +1,90 @@
+// Where things stand in a state: lookups that answer for any number, and replacements that leave all else alone.
+use crate::CHANNELS;
+use crate::State;
+use channel::Channel;
+use channel::fresh;
+use files::File;
+use files::closed_file;
+use pool::FILES;
+ghost use mathlib.Core.Path.{_≡_};
+ghost use Rattle.state.specs.Places.{beforeStart, channelIn, fileAt, channelAt, withFile, withChannel, areaShort};
+
+// The state before the first fresh start: no buffers, no units, no file open.
+pub fn before_start() -> State
+    ensures { λ r. ⌜ r ≡ beforeStart ⌝ }
+{
+    let c = fresh(0);
+    let f = closed_file();
+    let channels = [c; CHANNELS];
+    let files = [f; FILES];
+    State {
+        m: 0,
+        w: 0,
+        frozen: false,
+        channels,
+        files,
+    }
+}
+
+// The file of that number, a closed one past the last.
+pub fn file_at(s: State, i: usize) -> File
+    ensures { λ r. ⌜ r ≡ fileAt s i ⌝ }
+{
+    if FILES <= i {
+        return closed_file();
+    }
+    let f = s.files[i];
+    f
+}
+
+// The channel of that number, one without units past the last.
+pub fn channel_in(channels: [Channel; CHANNELS], c: usize) -> Channel
+    ensures { λ r. ⌜ r ≡ channelIn channels c ⌝ }
+{
+    if CHANNELS <= c {
+        return fresh(0);
+    }
+    let x = channels[c];
+    x
+}
+
+pub fn channel_at(s: State, c: usize) -> Channel
+    ensures { λ r. ⌜ r ≡ channelAt s c ⌝ }
+{
+    if CHANNELS <= c {
+        return fresh(0);
+    }
+    let x = s.channels[c];
+    x
+}
+
+// The state with another file in the place of that number, unchanged past the last.
+pub fn with_file(s: State, i: usize, f: File) -> State
+    ensures { λ r. ⌜ r ≡ withFile s i f ⌝ }
+{
+    if FILES <= i {
+        return s;
+    }
+    let mut t = s;
+    t.files[i] = f;
+    t
+}
+
+// The state with another channel in the place of that number, unchanged past the last.
+pub fn with_channel(s: State, c: usize, x: Channel) -> State
+    ensures { λ r. ⌜ r ≡ withChannel s c x ⌝ }
+{
+    if CHANNELS <= c {
+        return s;
+    }
+    let mut t = s;
+    t.channels[c] = x;
+    t
+}
+
+// Whether an area of n words is too short for the pool.
+pub fn area_short(s: State, n: usize) -> bool
+    ensures { λ r. ⌜ r ≡ areaShort s n ⌝ }
+{
+    n < (s.m as usize) * (s.w as usize)
+}
