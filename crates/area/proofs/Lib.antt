@@ -5,3 +5,6 @@ pub mod Tall
 pub mod Lowest
 pub mod Scans
 pub mod Marks
+pub mod Bools
+pub mod Numbered
+pub mod Exactly

@@ -49,7 +49,7 @@ abbrev pub unitServed : List File → ℕ → ℕ → Unit → Bool
 unitServed fs c u x = isNone (requested (x .turn)) || isBound fs c u
 
 unfoldable pub channelRight : ℕ → Bool → List File → ℕ → Channel → Bool
-channelRight m frozen fs c x = ltb (x .mark) (size x) && (allOf (unitRight m) (x .units) && (worksRight frozen x && allFrom (unitServed fs c) 0 (x .units)))
+channelRight m frozen fs c x = ltb (x .mark) (size x) && (allOf (unitRight m) (x .units) && (worksRight frozen (x .units) && allFrom (unitServed fs c) 0 (x .units)))
 
 unfoldable pub judged : State → Bool
 judged s =

@@ -102,11 +102,11 @@ unitWorks x = isWorking (x .turn)
 abbrev pub unitWaits : Unit → Bool
 unitWaits x = isWaiting (x .turn)
 
-abbrev pub worksRight : Bool → Channel → Bool
-worksRight frozen c = leb (countOf unitWorks (c .units)) 1 && (frozen || (not (anyOf unitWaits (c .units)) || eqb (countOf unitWorks (c .units)) 1))
+abbrev pub worksRight : Bool → List Unit → Bool
+worksRight frozen us = leb (countOf unitWorks us) 1 && (frozen || (not (anyOf unitWaits us) || eqb (countOf unitWorks us) 1))
 
 unfoldable pub channelsWork : State → Bool
-channelsWork s = allOf (worksRight (s .frozen)) (s .channels)
+channelsWork s = allOf (λ (c : Channel). worksRight (s .frozen) (c .units)) (s .channels)
 
 -- ---- "A read request alone has a buffer taken, one of its file's"
 

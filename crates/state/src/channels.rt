@@ -7,6 +7,7 @@ use crate::turns::requested;
 use crate::turns::unit_right;
 use channel::Channel;
 use channel::UNITS;
+use channel::Unit;
 use files::File;
 use pool::FILES;
 use pool::is_bound;
@@ -19,12 +20,12 @@ ghost use Rattle.state.specs.Soundness.{unitWorks, unitWaits, worksRight
 ghost use Rattle.state.specs.Judged.{unitRight, unitServed, channelRight};
 
 // Whether every unit is declared and counted as it may be.
-fn units_right(m: u8, c: Channel) -> bool
-    ensures { λ r. ⌜ r ≡ allOf (unitRight m) (c .units) ⌝ }
+fn units_right(m: u8, units: [Unit; UNITS]) -> bool
+    ensures { λ r. ⌜ r ≡ allOf (unitRight m) units ⌝ }
 {
     let mut u: usize = 0;
     while u < UNITS {
-        let x = c.units[u];
+        let x = units[u];
         if !unit_right(m, x) {
             return false;
         }
@@ -34,13 +35,13 @@ fn units_right(m: u8, c: Channel) -> bool
 }
 
 // How many requests the channel works for.
-fn work_count(c: Channel) -> usize
-    ensures { λ r. ⌜ (r ≡ countOf unitWorks (c .units)) × (r ≤ unitCount) ⌝ }
+fn work_count(units: [Unit; UNITS]) -> usize
+    ensures { λ r. ⌜ (r ≡ countOf unitWorks units) × (r ≤ unitCount) ⌝ }
 {
     let mut n: usize = 0;
     let mut u: usize = 0;
     while u < UNITS {
-        let x = c.units[u];
+        let x = units[u];
         let t = x.turn;
         if is_working(t) {
             n += 1;
@@ -51,12 +52,12 @@ fn work_count(c: Channel) -> usize
 }
 
 // Whether a request waits.
-fn any_waits(c: Channel) -> bool
-    ensures { λ r. ⌜ r ≡ anyOf unitWaits (c .units) ⌝ }
+fn any_waits(units: [Unit; UNITS]) -> bool
+    ensures { λ r. ⌜ r ≡ anyOf unitWaits units ⌝ }
 {
     let mut u: usize = 0;
     while u < UNITS {
-        let x = c.units[u];
+        let x = units[u];
         let t = x.turn;
         if is_waiting(t) {
             return true;
@@ -67,21 +68,21 @@ fn any_waits(c: Channel) -> bool
 }
 
 // Whether the channel works for at most one request, and for one if it is not frozen and any waits.
-fn works_right(frozen: bool, c: Channel) -> bool
-    ensures { λ r. ⌜ r ≡ worksRight frozen c ⌝ }
+fn works_right(frozen: bool, units: [Unit; UNITS]) -> bool
+    ensures { λ r. ⌜ r ≡ worksRight frozen units ⌝ }
 {
-    let n = work_count(c);
-    let waits = any_waits(c);
+    let n = work_count(units);
+    let waits = any_waits(units);
     (n <= 1) & (frozen | (!waits | (n == 1)))
 }
 
 // Whether every unit with a request has an open file.
-fn units_served(files: [File; FILES], number: u8, c: Channel) -> bool
-    ensures { λ r. ⌜ r ≡ allFrom (unitServed files number) 0 (c .units) ⌝ }
+fn units_served(files: [File; FILES], number: u8, units: [Unit; UNITS]) -> bool
+    ensures { λ r. ⌜ r ≡ allFrom (unitServed files number) 0 units ⌝ }
 {
     let mut u: u8 = 0;
     while (u as usize) < UNITS {
-        let x = c.units[u as usize];
+        let x = units[u as usize];
         let t = x.turn;
         let idle = is_none(requested(t));
         if !idle {
@@ -98,11 +99,12 @@ fn units_served(files: [File; FILES], number: u8, c: Channel) -> bool
 fn channel_right(m: u8, frozen: bool, files: [File; FILES], number: u8, c: Channel) -> bool
     ensures { λ r. ⌜ r ≡ channelRight m frozen files number c ⌝ }
 {
+    let units = c.units;
     let mark = (c.mark as usize) < UNITS;
-    let units = units_right(m, c);
-    let works = works_right(frozen, c);
-    let served = units_served(files, number, c);
-    mark & (units & (works & served))
+    let right = units_right(m, units);
+    let works = works_right(frozen, units);
+    let served = units_served(files, number, units);
+    mark & (right & (works & served))
 }
 
 // Whether every channel is.
