@@ -1,16 +1,19 @@
--- Laws of tests, of counts along numbers and of a list with one element replaced. Assumes nothing.
+-- Laws of tests, of walks and counts along the numbers, and of a list with one element replaced. Assumes nothing.
 use mathlib.Core.Path.{_≡_, refl, sym, ap, ap₂, _∙_}
 use mathlib.Core.Bool.{Bool, true, false, not, cond, _&&_, _||_}
 use mathlib.Core.List.{List, [], _∷_}
 use Prim.Native.Nat.{ℕ, zero, suc, _+_, _-_, _≤_, _<_}
+use native.Mathlib.Decide.{decLt}
 use native.Mathlib.Numerals.{add-one}
 use native.Mathlib.Omega.{arith}
+use borrow.Author.Tests.{eq-eqb, ne-eqb}
+use lib.Dec.{eqb}
 use lib.ListN.{length, getD, set}
 use Rattle.area.specs.declared.Found.{Found}
 use Rattle.area.specs.declared.Found.the-variants.{At, Nothing}
-use Rattle.area.specs.Lists.{anyOf, allOf, allPairs, countOf, firstAlong, countAlong}
-use Rattle.area.proofs.Walks.{true-not-false}
-use Rattle.area.proofs.Firsts.{first-stop, first-go, first-none, count-stop, count-go, count-none}
+use Rattle.area.specs.Lists.{anyOf, allOf, allPairs, countOf, firstAlong, countAlong, along}
+use Rattle.area.proofs.Walks.{true-not-false, and-left, and-right, and-both}
+use Rattle.area.proofs.Firsts.{First, first-finds, first-stop, first-go, first-none, count-stop, count-go, count-none}
 
 -- ---- Bool
 
@@ -28,10 +31,6 @@ unless false b e h = true-not-false h refl
 pub unless-so : (a b : Bool) → (a ≡ true → b ≡ true) → (not a || b) ≡ true
 unless-so true b h = h refl
 unless-so false b h = refl
-
-pub not-and : (a b : Bool) → (a ≡ true → b ≡ false) → not (a && b) ≡ true
-not-and true b h = ap not (h refl)
-not-and false b h = refl
 
 -- ---- numbers one after the other: the answer e₀ of the whole is that of the numbers from k on up to m
 
@@ -67,12 +66,178 @@ module _ (test : ℕ → Bool) (m k : ℕ) where
       let q : countAlong suc test (m - k) k ≡ countAlong suc test 0 k = ap (λ (j : ℕ). countAlong suc test j k) p in
       omega (arith, count-none suc test k)
 
--- no more numbers pass than there are
-pub count-most : (test : ℕ → Bool) (n u : ℕ) → countAlong suc test n u ≤ n
+abbrev one : Bool → ℕ
+one b = cond b 1 0
+
+-- ---- how many numbers pass
+
+pub along-suc : (j u : ℕ) → along suc j u ≡ u + j
+unfolding along
+along-suc zero u = omega arith
+along-suc (suc j) u = along-suc j (suc u) ∙ omega arith
+
+-- of the numbers, those that pass and those that do not are all
+pub count-rest : (p : ℕ → Bool) (n u : ℕ) → countAlong suc (λ b. not (p b)) n u + countAlong suc p n u ≡ n
 unfolding countAlong
-count-most test zero u = omega arith
-count-most test (suc n) u = at-most (test u) (countAlong suc test n (suc u)) (count-most test n (suc u))
+count-rest p zero u = omega arith
+count-rest p (suc n) u = go (p u) (count-rest p n (suc u))
   where
-    at-most : (b : Bool) (k : ℕ) → k ≤ n → cond b 1 0 + k ≤ suc n
-    at-most true k h = omega arith
-    at-most false k h = omega arith
+    go : (t : Bool) → countAlong suc (λ b. not (p b)) n (suc u) + countAlong suc p n (suc u) ≡ n
+        → one (not t) + countAlong suc (λ b. not (p b)) n (suc u) + (one t + countAlong suc p n (suc u)) ≡ suc n
+    go true e = omega arith
+    go false e = omega arith
+
+-- none passes
+pub count-zero : (p : ℕ → Bool) (n u : ℕ) → ((b : ℕ) → p b ≡ false) → countAlong suc p n u ≡ 0
+unfolding countAlong
+count-zero p zero u h = refl
+count-zero p (suc n) u h = let e : one (p u) ≡ 0 = ap one (h u) in omega (arith, count-zero p n (suc u) h)
+
+-- those that pass one test or the other, where none passes both
+pub count-either : (p q : ℕ → Bool) (n u : ℕ) → ((b : ℕ) → p b ≡ true → q b ≡ false) → countAlong suc (λ b. p b || q b) n u ≡ countAlong suc p n u + countAlong suc q n u
+unfolding countAlong
+count-either p q zero u h = refl
+count-either p q (suc n) u h = go (p u) (q u) (h u) (count-either p q n (suc u) h)
+  where
+    go : (s t : Bool) → (s ≡ true → t ≡ false)
+        → countAlong suc (λ b. p b || q b) n (suc u) ≡ countAlong suc p n (suc u) + countAlong suc q n (suc u)
+        → one (s || t) + countAlong suc (λ b. p b || q b) n (suc u) ≡ one s + countAlong suc p n (suc u) + (one t + countAlong suc q n (suc u))
+    go true true k e = true-not-false refl (k refl)
+    go true false k e = omega arith
+    go false true k e = omega arith
+    go false false k e = omega arith
+
+-- a number that lies before them, and one that is among them
+pub count-before : (a n u : ℕ) → a < u → countAlong suc (eqb a) n u ≡ 0
+unfolding countAlong
+count-before a zero u h = refl
+count-before a (suc n) u h =
+    let e : one (eqb a u) ≡ 0 = ap one (ne-eqb a u (λ q. omega arith)) in
+    omega (arith, count-before a n (suc u) (omega arith))
+
+pub count-one : (a n u : ℕ) → u ≤ a → a < u + n → countAlong suc (eqb a) n u ≡ 1
+unfolding countAlong
+count-one a zero u h k = absurd (omega arith)
+count-one a (suc n) u h k = go (decLt u a) (λ l. count-one a n (suc u) (omega arith) (omega arith))
+  where
+    go : Dec (u < a) → (u < a → countAlong suc (eqb a) n (suc u) ≡ 1) → one (eqb a u) + countAlong suc (eqb a) n (suc u) ≡ 1
+    go (yes l) rest = let e : one (eqb a u) ≡ 0 = ap one (ne-eqb a u (λ q. omega arith)) in omega (arith, rest l)
+    go (no l) rest = let e : one (eqb a u) ≡ 1 = ap one (eq-eqb a u (omega (arith, l))) in omega (arith, count-before a n (suc u) (omega (arith, l)))
+
+-- ---- over lists
+
+module _ {A : Type 0} where
+  -- where every element that passes one test fails the other, and all pass the one, none passes the other
+  pub any-none : (test p : A → Bool) (xs : List A) → ((x : A) → test x ≡ true → p x ≡ false) → allOf test xs ≡ true → anyOf p xs ≡ false
+  unfolding allOf anyOf
+  any-none test p [] h e = refl
+  any-none test p (x ∷ xs) h e =
+      ap₂ (λ (s t : Bool). s || t) (h x (and-left (test x) _ e)) (any-none test p xs h (and-right (test x) _ e))
+
+  none-counted : (p : A → Bool) (xs : List A) → anyOf p xs ≡ false → countOf p xs ≡ 0
+  unfolding anyOf countOf
+  none-counted p [] e = refl
+  none-counted p (x ∷ xs) e = go (p x) e (none-counted p xs)
+    where
+      go : (t : Bool) → (t || anyOf p xs) ≡ false → (anyOf p xs ≡ false → countOf p xs ≡ 0) → one t + countOf p xs ≡ 0
+      go true q rest = true-not-false refl q
+      go false q rest = omega (arith, rest q)
+
+  -- where no two elements pass together, one passes or none
+  pub count-alone : (test : A → A → Bool) (p : A → Bool) (xs : List A) → ((x y : A) → test x y ≡ true → p x ≡ true → p y ≡ false) → allPairs test xs ≡ true
+      → countOf p xs ≡ one (anyOf p xs)
+  unfolding allPairs anyOf countOf
+  count-alone test p [] h e = refl
+  count-alone test p (x ∷ xs) h e = go (p x) refl (count-alone test p xs h (and-right (allOf (test x) xs) _ e))
+    where
+      go : (t : Bool) → p x ≡ t → countOf p xs ≡ one (anyOf p xs) → one t + countOf p xs ≡ one (t || anyOf p xs)
+      go true q rest = omega (arith, none-counted p xs (any-none (test x) p xs (λ y k. h x y k q) (and-left (allOf (test x) xs) _ e)))
+      go false q rest = omega arith
+
+  -- ---- one element replaced
+
+  pub all-set : (test : A → Bool) (xs : List A) (i : ℕ) (y : A) → allOf test xs ≡ true → test y ≡ true → allOf test (set xs i y) ≡ true
+  unfolding allOf
+  all-set test [] i y e t = refl
+  all-set test (x ∷ xs) zero y e t = and-both (test y) _ t (and-right (test x) _ e)
+  all-set test (x ∷ xs) (suc i) y e t = and-both (test x) _ (and-left (test x) _ e) (all-set test xs i y (and-right (test x) _ e) t)
+
+  -- by one that is apart from all
+  pub pairs-set : (test : A → A → Bool) (xs : List A) (i : ℕ) (y : A) → allPairs test xs ≡ true → allOf (test y) xs ≡ true → allOf (λ x. test x y) xs ≡ true
+      → allPairs test (set xs i y) ≡ true
+  unfolding allPairs allOf
+  pairs-set test [] i y e l r = refl
+  pairs-set test (x ∷ xs) zero y e l r = and-both (allOf (test y) xs) _ (and-right (test y x) _ l) (and-right (allOf (test x) xs) _ e)
+  pairs-set test (x ∷ xs) (suc i) y e l r =
+      and-both (allOf (test x) (set xs i y)) _ (all-set (test x) xs i y (and-left (allOf (test x) xs) _ e) (and-left (test x y) _ r))
+      (pairs-set test xs i y (and-right (allOf (test x) xs) _ e) (and-right (test y x) _ l) (and-right (test x y) _ r))
+
+  all-same : (p q : A → Bool) → ((x : A) → p x ≡ q x) → (xs : List A) → allOf p xs ≡ allOf q xs
+  unfolding allOf
+  all-same p q h [] = refl
+  all-same p q h (x ∷ xs) = ap₂ (λ (s t : Bool). s && t) (h x) (all-same p q h xs)
+
+  all-alike : (test : A → Bool) (d : A) (xs : List A) (i : ℕ) (y : A) → test y ≡ test (getD xs i d) → allOf test (set xs i y) ≡ allOf test xs
+  unfolding allOf
+  all-alike test d [] i y e = refl
+  all-alike test d (x ∷ xs) zero y e = ap (λ (t : Bool). t && allOf test xs) e
+  all-alike test d (x ∷ xs) (suc i) y e = ap (λ (t : Bool). test x && t) (all-alike test d xs i y e)
+
+  -- by one that is apart from the same ones
+  pub pairs-alike : (test : A → A → Bool) (d : A) (xs : List A) (i : ℕ) (y : A) → ((x : A) → test y x ≡ test (getD xs i d) x) → ((x : A) → test x y ≡ test x (getD xs i d))
+      → allPairs test (set xs i y) ≡ allPairs test xs
+  unfolding allPairs
+  pairs-alike test d [] i y l r = refl
+  pairs-alike test d (x ∷ xs) zero y l r = ap (λ (t : Bool). t && allPairs test xs) (all-same (test y) (test x) l xs)
+  pairs-alike test d (x ∷ xs) (suc i) y l r = ap₂ (λ (s t : Bool). s && t) (all-alike (test x) d xs i y (r x)) (pairs-alike test d xs i y l r)
+
+-- ---- the first of the numbers that pass, by how many pass
+
+-- the first of n numbers from u on stands at a place, and c pass after it
+pub record Counted (test : ℕ → Bool) (n u c : ℕ) : Type 0 where
+  pub place : ℕ
+  pub found : firstAlong suc test n u ≡ At place
+  pub from : u ≤ place
+  pub below : place < u + n
+  pub passes : test place ≡ true
+  pub rest : countAlong suc test (u + n - suc place) (suc place) ≡ c
+
+pub first-counted : (test : ℕ → Bool) (n u c : ℕ) → countAlong suc test n u ≡ suc c → Counted test n u c
+unfolding firstAlong countAlong
+first-counted test zero u c e = absurd (omega arith)
+first-counted test (suc n) u c e = go (test u) refl e (first-counted test n (suc u) c)
+  where
+    go : (t : Bool) → test u ≡ t → one t + countAlong suc test n (suc u) ≡ suc c → (countAlong suc test n (suc u) ≡ suc c → Counted test n (suc u) c) → Counted test (suc n) u c
+    go true q k later =
+        let left : u + suc n - suc u ≡ n = omega arith in
+        record {
+          place = u;
+          found = cond-true (At u) (firstAlong suc test n (suc u)) q;
+          from = omega arith;
+          below = omega arith;
+          passes = q;
+          rest = ap (λ (j : ℕ). countAlong suc test j (suc u)) left ∙ omega arith;
+        }
+    go false q k later =
+        let C = later (omega arith) in
+        let left : u + suc n - suc (C .place) ≡ suc u + n - suc (C .place) = omega arith in
+        record {
+          place = C .place;
+          found = cond-false (At u) (firstAlong suc test n (suc u)) q ∙ C .found;
+          from = omega (arith, C .from);
+          below = omega (arith, C .below);
+          passes = C .passes;
+          rest = ap (λ (j : ℕ). countAlong suc test j (suc (C .place))) left ∙ C .rest;
+        }
+
+-- what a walk up the numbers finds is the lowest that passes
+pub first-lowest : (test : ℕ → Bool) (n u p : ℕ) → firstAlong suc test n u ≡ At p → (u ≤ p) × (p < u + n) × (test p ≡ true) × ((j : ℕ) → u ≤ j → j < p → test j ≡ false)
+first-lowest test n u p e =
+    let F = first-finds suc test n u p e in
+    let at : p ≡ u + F .steps = sym (F .reached) ∙ along-suc (F .steps) u in
+    (omega arith, omega (arith, F .among), F .passes, lower F at)
+  where
+    lower : (F : First suc test n u p) → p ≡ u + F .steps → (j : ℕ) → u ≤ j → j < p → test j ≡ false
+    lower F at j h l =
+        let back : along suc (j - u) u ≡ j = along-suc (j - u) u ∙ omega arith in
+        ap test (sym back) ∙ F .before (j - u) (omega arith)

@@ -1,5 +1,5 @@
 -- Document 01's marked examples of one channel, as rows of one table. Assumes nothing.
-use mathlib.Core.Bool.{Bool, true, false, cond}
+use mathlib.Core.Bool.{true, false, cond}
 use mathlib.Core.List.{List, [], _∷_, _++_, map}
 use Prim.Native.Nat.{ℕ, zero, suc, _+_}
 use lib.Dec.{eqb}
@@ -14,7 +14,8 @@ use Rattle.channel.specs.declared.Asked.{Asked}
 use Rattle.channel.specs.declared.Reported.{Reported}
 use Rattle.channel.specs.Rules.{good, redundancy, resultNumber, refusalNumber}
 use Rattle.channel.specs.Units.{unitCount, turnAt}
-use Rattle.channel.specs.Turns.{workingIn, askOf, reportOf}
+use Rattle.channel.specs.Scans.{workingIn}
+use Rattle.channel.specs.Turns.{askOf, reportOf}
 use Rattle.channel.specs.History.{Station, Event, ask, report, freeze, thaw, step, fresh, run}
 
 -- what is at work after a call: attempt a of unit u, or nothing

@@ -1,6 +1,6 @@
 -- Histories of one channel, and what demand 3 promises of them. Assumes nothing.
 use mathlib.Core.Path.{_≡_}
-use mathlib.Core.Bool.{Bool, true, false, cond, _&&_, _||_}
+use mathlib.Core.Bool.{Bool, true, false, _&&_, _||_}
 use mathlib.Core.List.{List, [], _∷_}
 use Prim.Native.Nat.{ℕ, _+_, _*_, _≤_, _<_}
 use lib.Dec.{eqb}
@@ -14,9 +14,10 @@ use Rattle.channel.specs.declared.Verdict.{Verdict}
 use Rattle.channel.specs.declared.Verdict.the-variants.{Refused, Repeats, Ends}
 use Rattle.channel.specs.declared.Asked.{Asked}
 use Rattle.channel.specs.declared.Reported.{Reported}
-use Rattle.channel.specs.Rules.{mostAttempts}
+use Rattle.channel.specs.Rules.{mostReports}
 use Rattle.channel.specs.Units.{freshWith}
-use Rattle.channel.specs.Turns.{workingIn, isFound, thawOf, askOf, reportOf}
+use Rattle.channel.specs.Scans.{workingIn, isFound}
+use Rattle.channel.specs.Turns.{thawOf, askOf, reportOf}
 
 -- ---- what is done to a channel
 
@@ -164,4 +165,4 @@ pub record Kept (U u : ℕ) (s d : Station) (later : List Event) : Type 0 where
   pub sole : count (anAnswerTo u) d later ≡ 0 → count (aRequestOf u) d later ≡ 0
   -- and fewer than 101 × (U + P) reports have been accepted, where P counts the priority requests that had no answer when it was
   -- accepted and those that were accepted since: so it is answered by the time that so many reports have been accepted
-  pub soon : count (anAnswerTo u) d later ≡ 0 → count aReport d later < mostAttempts * (U + (urgentIn (s .channel) + count aPriority d later))
+  pub soon : count (anAnswerTo u) d later ≡ 0 → count aReport d later < mostReports * (U + (urgentIn (s .channel) + count aPriority d later))

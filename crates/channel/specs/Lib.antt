@@ -1,7 +1,8 @@
-pub mod Rules
 pub mod Units
+pub mod Scans
+pub mod Rules
 pub mod Turns
-pub mod Scan
+pub mod Sound
 pub mod History
 pub mod Lifted
 pub mod Examples

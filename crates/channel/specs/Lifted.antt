@@ -5,7 +5,7 @@ use mathlib.Core.Bool.{Bool, true}
 use mathlib.Core.Option.{Option, none, some}
 use mathlib.Core.List.{List, [], _∷_}
 use Prim.Native.Nat.{ℕ, _+_, _*_, _≤_, _<_}
-use Rattle.channel.specs.Rules.{mostAttempts}
+use Rattle.channel.specs.Rules.{mostReports}
 use Rattle.channel.specs.History.{Station, Event, Answer, stepTo, step, oneIf, aReport, aPriority, aRequestOf, anAnswerTo, isAlive, urgentIn}
 
 -- what a call of the system is to the channel: an event, and the answer that it got
@@ -46,4 +46,4 @@ pub record KeptIn (S : System) (U u : ℕ) (s d : S .State) (later : List (S .Ca
   pub alive : countIn S (anAnswerTo u) d later ≡ 0 → isAlive (S .part (runIn S d later)) ≡ true
   pub sole : countIn S (anAnswerTo u) d later ≡ 0 → countIn S (aRequestOf u) d later ≡ 0
   pub soon : countIn S (anAnswerTo u) d later ≡ 0
-      → countIn S aReport d later < mostAttempts * (U + (urgentIn (S .part s .channel) + countIn S aPriority d later))
+      → countIn S aReport d later < mostReports * (U + (urgentIn (S .part s .channel) + countIn S aPriority d later))

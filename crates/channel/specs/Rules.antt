@@ -1,6 +1,6 @@
 -- "Outcomes and attempts" (document 01). Assumes nothing.
 use Prim.Native.Nat.{ℕ, _+_}
-use mathlib.Core.Bool.{Bool, true, false, not, cond, _&&_, _||_}
+use mathlib.Core.Bool.{Bool, not, cond, _&&_, _||_}
 use mathlib.Core.List.{List, [], _∷_}
 use lib.Dec.{leb, eqb}
 use Rattle.area.specs.Lists.{anyOf}
@@ -44,6 +44,10 @@ pub record Row : Type 0 where
 -- the most attempts that any operation makes: "the total, 101, decides"
 abbrev pub mostAttempts : ℕ
 mostAttempts = 101
+
+-- the most reports that any operation takes from its acceptance to its answer: one for each attempt
+abbrev pub mostReports : ℕ
+mostReports = mostAttempts
 
 -- "read | 0 1 2 3 | a redundancy or incomplete word at attempt 101, or the second incomplete word"
 -- "write | 0 1 2 4 | redundancy at attempt 27; the first incomplete word"

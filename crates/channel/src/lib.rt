@@ -1,27 +1,29 @@
 // Whose turn it is on one channel: its units and their requests, what a report means for a request, and who is worked for next.
 // A channel goes in and comes out by value, and every function answers for any channel value and any number.
 // Whether the pack is frozen is a parameter. The crate knows nothing of files, buffers or words.
-mod calls;
-mod looks;
 mod rules;
 mod scans;
+mod sound;
+mod turns;
+mod units;
 
-pub use calls::ask;
-pub use calls::book;
-pub use calls::fresh;
-pub use calls::judge;
-pub use calls::report;
-pub use calls::start;
-pub use calls::thaw;
-pub use looks::accepts;
-pub use looks::has_request;
-pub use looks::is_declared;
-pub use looks::operation_of;
-pub use looks::turn_of;
 pub use rules::refusal_number;
 pub use rules::result_number;
 pub use scans::working_number;
 pub use scans::working_unit;
+pub use sound::is_sound;
+pub use turns::ask;
+pub use turns::book;
+pub use turns::judge;
+pub use turns::report;
+pub use turns::start;
+pub use turns::thaw;
+pub use units::accepts;
+pub use units::fresh;
+pub use units::has_request;
+pub use units::is_declared;
+pub use units::operation_of;
+pub use units::turn_of;
 
 // The units of a channel, and the number of the last one.
 pub const UNITS: usize = 10;

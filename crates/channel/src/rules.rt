@@ -5,9 +5,12 @@ use crate::Request;
 use crate::Verdict;
 ghost use mathlib.Core.Path.{_≡_};
 ghost use Prim.Native.Nat.{_<_};
-ghost use Rattle.channel.specs.Rules.{opNumber, incompleteWord, nextAttempt, goodEnding, endingOf, verdictOf, endingNumber, resultNumber, refusalNumber};
+ghost use Rattle.channel.specs.Rules.{opNumber, incompleteWord, rowOf, nextAttempt, goodEnding, endingOf, verdictOf, endingNumber, resultNumber, refusalNumber};
 
+// The outcomes are numbered from 0; these two are failures.
 const OUTCOMES: u8 = 5;
+
+const REDUNDANCY: usize = 1;
 
 const INCOMPLETE_WORD: u8 = 2;
 
@@ -16,11 +19,16 @@ const AT_ONCE: u8 = 0;
 
 const NOT_ALLOWED: u8 = 255;
 
+// The attempts of a read, and of a write or mark.
+const READS: u8 = 101;
+
+const WRITES: u8 = 27;
+
 // A row for each operation, indexed by outcome: the attempt from which on the outcome ends the operation.
 const RULES: [[u8; 5]; 3] = [
-    [AT_ONCE, 101, 101, AT_ONCE, NOT_ALLOWED],
-    [AT_ONCE, 27, AT_ONCE, NOT_ALLOWED, AT_ONCE],
-    [AT_ONCE, 27, NOT_ALLOWED, NOT_ALLOWED, AT_ONCE],
+    [AT_ONCE, READS, READS, AT_ONCE, NOT_ALLOWED],
+    [AT_ONCE, WRITES, AT_ONCE, NOT_ALLOWED, AT_ONCE],
+    [AT_ONCE, WRITES, NOT_ALLOWED, NOT_ALLOWED, AT_ONCE],
 ];
 
 // The operation's number, which is its row of the table.
@@ -32,6 +40,14 @@ fn row(op: Op) -> usize
         Op::Write => 1,
         Op::Mark => 2,
     }
+}
+
+// The attempt at which a failure of the operation is permanent.
+pub fn attempt_limit(op: Op) -> u8
+    ensures { λ r. ⌜ r ≡ rowOf op .attempts ⌝ }
+{
+    let i = row(op);
+    RULES[i][REDUNDANCY]
 }
 
 // A good end. A read's attempt 4 was in the opposite mode.

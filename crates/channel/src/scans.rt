@@ -6,7 +6,7 @@ use crate::UNITS;
 use area::Found;
 ghost use mathlib.Core.Path.{_≡_};
 ghost use Rattle.channel.specs.Units.{unitCount};
-ghost use Rattle.channel.specs.Turns.{waitingAs, standingOf, nextUnit, beginOf, scanFrom, workingIn, priorityIn, ordinaryIn, nextTurn, isFound, unitNumber};
+ghost use Rattle.channel.specs.Scans.{waitingAs, standingOf, nextUnit, beginOf, scanFrom, workingIn, priorityIn, ordinaryIn, nextTurn, isFound, unitNumber};
 
 // How a unit stands to the scans.
 const ORDINARY: u8 = 1;

@@ -86,9 +86,13 @@ withSlot f High x turned block = record {
 }
 withSlot f Neither x turned block = f
 
+-- "the block number fills .. the low 15 bits": 0 to 32,767
+abbrev pub blockNumbers : ℕ
+blockNumbers = 32768
+
 -- "block numbers .. go up by one for every block sealed or delivered, and pass from 32,767 to 0"
 abbrev pub nextBlock : ℕ → ℕ
-nextBlock n = (n + 1) % 32768
+nextBlock n = (n + 1) % blockNumbers
 
 -- a block that becomes full in the low buffer is younger than one in the high buffer
 abbrev pub turnedBy : File → Side → Bool

@@ -47,6 +47,11 @@ pub use slots::is_full;
 pub use slots::is_part;
 pub use slots::is_taken;
 
+// Block numbers are below this; check errors are up to the other.
+pub const BLOCK_NUMBERS: u32 = 32768;
+
+pub const LAST_ERROR: u8 = 3;
+
 // What one buffer of an open file holds: nothing; what a read is to bring; n words that were put; or a full block of so many data words,
 // with the place of get in it and its check error that was not told yet.
 pub enum Slot {

@@ -1,4 +1,5 @@
 // Which of a file's buffers is meant, and the file with something else in one of them.
+use crate::BLOCK_NUMBERS;
 use crate::Buffer;
 use crate::File;
 use crate::Side;
@@ -150,7 +151,7 @@ pub fn with_slot(f: File, k: Side, x: Slot, turned: bool, block: u16) -> File
 fn next_block(n: u16) -> u16
     ensures { λ r. ⌜ r ≡ nextBlock n ⌝ }
 {
-    (((n as u32) + 1) % 32768) as u16
+    (((n as u32) + 1) % BLOCK_NUMBERS) as u16
 }
 
 // Whether a block that becomes full in that buffer leaves the older one of two in the high buffer.

@@ -27,7 +27,7 @@ use Rattle.gets.specs.Gets.{isUsedUp, passed, lookedAt, wordsGiven, slot
 use Rattle.gets.specs.Histories.{shown, shownBy, afterGets}
 
 -- the oldest block of the file lies in buffer k, number b, with n data words, the place at, the error e; records have r words
-pub record Reads (f : File) (k : Side) (b r n at e : ℕ) : Type 0 where
+pub record Reading (f : File) (k : Side) (b r n at e : ℕ) : Type 0 where
   pub first : oldest f ≡ k
   pub there : isSide k ≡ true
   pub buffer : bufferAt f k .number ≡ b
@@ -53,7 +53,7 @@ oldest-low : (a b : Bool) (x y : Bool) → a ≡ true → x ≡ true → lower (
 oldest-low a b x y p q e = rw q (rw p at e)
 
 -- the block with another place, its error told
-moved : (f : File) (k : Side) (b r n at e p : ℕ) → Reads f k b r n at e → Reads (withSlot f k (Full n p 0) (f .turned) (f .block)) k b r n p 0
+moved : (f : File) (k : Side) (b r n at e p : ℕ) → Reading f k b r n at e → Reading (withSlot f k (Full n p 0) (f .turned) (f .block)) k b r n p 0
 unfolding oldest
 moved f Low b r n at e p R = record {
   first = oldest-low (isFull (f .low .slot)) (isFull (f .high .slot)) true (f .turned) (ap isFull (R .slot)) refl (R .first);
@@ -71,7 +71,7 @@ moved f High b r n at e p R = record { first = high-first; there = refl; buffer 
     high-first = rw full at (R .first)
 moved f Neither b r n at e p R = true-not-false (R .there) refl
 
-module _ (w : ℕ) (xs : List ℕ) (f : File) (k : Side) (b r n at e : ℕ) (R : Reads f k b r n at e) (left : at < n) where
+module _ (w : ℕ) (xs : List ℕ) (f : File) (k : Side) (b r n at e : ℕ) (R : Reading f k b r n at e) (left : at < n) where
   fresh : lookedAt f ≡ f
   fresh = looked-same f (ap (λ (j : Side). isUsedUp (slotAt f j)) (R .first) ∙ ap isUsedUp (R .slot) ∙ lt-leb n at left)
 
@@ -94,11 +94,11 @@ module _ (w : ℕ) (xs : List ℕ) (f : File) (k : Side) (b r n at e : ℕ) (R :
       ∙ ap (λ (x : ℕ). withSlot f k (slotAfter x (slotAt f k)) (f .turned) (f .block)) (R .rlen)
       ∙ ap (λ (x : Slot). withSlot f k (slotAfter r x) (f .turned) (f .block)) (R .slot)
 
-  after-is : Reads (getFrom w f .file) k b r n (at + wordsGiven r (Full n at e)) 0
-  after-is = subst (λ (g : File). Reads g k b r n (at + wordsGiven r (Full n at e)) 0) (sym file-is) (moved f k b r n at e (at + wordsGiven r (Full n at e)) R)
+  after-is : Reading (getFrom w f .file) k b r n (at + wordsGiven r (Full n at e)) 0
+  after-is = subst (λ (g : File). Reading g k b r n (at + wordsGiven r (Full n at e)) 0) (sym file-is) (moved f k b r n at e (at + wordsGiven r (Full n at e)) R)
 
 -- the check error is told by itself, and the words remain
-pub error-told : (w : ℕ) (f : File) (k : Side) (b r n at e : ℕ) → Reads f k b r n at (suc e) → at < n → getFrom w f .got ≡ Error (suc e)
+pub error-told : (w : ℕ) (f : File) (k : Side) (b r n at e : ℕ) → Reading f k b r n at (suc e) → at < n → getFrom w f .got ≡ Error (suc e)
 error-told w f k b r n at e R left =
     got-is w [] f k b r n at (suc e) R left ∙ cond-true (Error (suc e)) (cond (leb r (n - at)) (Record (b * w + at) r) (Leftover (b * w + at) (n - at))) (lt-ltb 0 (suc e) (omega arith))
 
@@ -120,7 +120,7 @@ part-join a s t xs = ap (λ (l : List ℕ). partOf a s xs ++ take t l) (sym (dro
 pub record Given (w : ℕ) (xs : List ℕ) (f : File) (k : Side) (b r n at : ℕ) : Type 0 where
   pub gets : ℕ
   pub words : shownBy w xs gets f ≡ partOf (b * w + at) (n - at) xs
-  pub usedUp : Reads (afterGets w gets f) k b r n n 0
+  pub usedUp : Reading (afterGets w gets f) k b r n n 0
 
 share-some : (r left : ℕ) → 1 ≤ r → 1 ≤ left → 1 ≤ share r left
 share-some r left h l = go (leb r left)
@@ -144,14 +144,14 @@ choose {A} a b less more = go (decLt a b)
     go (no h) = more (omega (arith, h))
 
 module _ (w : ℕ) (xs : List ℕ) (k : Side) (b r n : ℕ) (some : 1 ≤ r) where
-  given-done : (f : File) (at : ℕ) → n ≤ at → at ≤ n → Reads f k b r n at 0 → Given w xs f k b r n at
+  given-done : (f : File) (at : ℕ) → n ≤ at → at ≤ n → Reading f k b r n at 0 → Given w xs f k b r n at
   unfolding shownBy afterGets
   given-done f at d l R =
       let same : at ≡ n = omega arith in
       let none : n - at ≡ 0 = omega arith in
-      record { gets = 0; words = sym (ap (λ (j : ℕ). partOf (b * w + at) j xs) none); usedUp = subst (λ (p : ℕ). Reads f k b r n p 0) same R }
+      record { gets = 0; words = sym (ap (λ (j : ℕ). partOf (b * w + at) j xs) none); usedUp = subst (λ (p : ℕ). Reading f k b r n p 0) same R }
 
-  given-step : (f : File) (at : ℕ) → at < n → Reads f k b r n at 0 → Given w xs (getFrom w f .file) k b r n (at + share r (n - at)) → Given w xs f k b r n at
+  given-step : (f : File) (at : ℕ) → at < n → Reading f k b r n at 0 → Given w xs (getFrom w f .file) k b r n (at + share r (n - at)) → Given w xs f k b r n at
   unfolding shownBy afterGets
   given-step f at m R G =
       let s = share r (n - at) in
@@ -167,7 +167,7 @@ module _ (w : ℕ) (xs : List ℕ) (k : Side) (b r n : ℕ) (some : 1 ≤ r) whe
         usedUp = G .usedUp;
       }
 
-  rest-given : (fuel : ℕ) (f : File) (at : ℕ) → n - at ≤ fuel → at ≤ n → Reads f k b r n at 0 → Given w xs f k b r n at
+  rest-given : (fuel : ℕ) (f : File) (at : ℕ) → n - at ≤ fuel → at ≤ n → Reading f k b r n at 0 → Given w xs f k b r n at
   rest-given zero f at h l R = given-done f at (omega arith) l R
   rest-given (suc fuel) f at h l R =
       choose at n
@@ -178,11 +178,11 @@ module _ (w : ℕ) (xs : List ℕ) (k : Side) (b r n : ℕ) (some : 1 ≤ r) whe
       (λ m. given-done f at m l R)
 
   -- of a block without an error, from a place on
-  pub words-given : (f : File) (at : ℕ) → at ≤ n → Reads f k b r n at 0 → Given w xs f k b r n at
+  pub words-given : (f : File) (at : ℕ) → at ≤ n → Reading f k b r n at 0 → Given w xs f k b r n at
   words-given f at l R = rest-given (n - at) f at (omega arith) l R
 
   -- the get that tells the error shows no words, and leaves the block unread
-  error-first : (f : File) (e : ℕ) → 0 < n → Reads f k b r n 0 (suc e) → Given w xs (getFrom w f .file) k b r n 0 → Given w xs f k b r n 0
+  error-first : (f : File) (e : ℕ) → 0 < n → Reading f k b r n 0 (suc e) → Given w xs (getFrom w f .file) k b r n 0 → Given w xs f k b r n 0
   unfolding shownBy afterGets
   error-first f e l R G = record {
     gets = suc (G .gets);
@@ -190,13 +190,13 @@ module _ (w : ℕ) (xs : List ℕ) (k : Side) (b r n : ℕ) (some : 1 ≤ r) whe
     usedUp = G .usedUp;
   }
 
-  unread : (f : File) (e : ℕ) → 0 < n → Reads f k b r n 0 (suc e) → Reads (getFrom w f .file) k b r n 0 0
+  unread : (f : File) (e : ℕ) → 0 < n → Reading f k b r n 0 (suc e) → Reading (getFrom w f .file) k b r n 0 0
   unread f e l R =
       let none : wordsGiven r (Full n 0 (suc e)) ≡ 0 = cond-true 0 (share r (n - 0)) (lt-ltb 0 (suc e) (omega arith)) in
       let same : 0 + wordsGiven r (Full n 0 (suc e)) ≡ 0 = omega (arith, none) in
-      subst (λ (p : ℕ). Reads (getFrom w f .file) k b r n p 0) same (after-is w xs f k b r n 0 (suc e) R l)
+      subst (λ (p : ℕ). Reading (getFrom w f .file) k b r n p 0) same (after-is w xs f k b r n 0 (suc e) R l)
 
   -- of a whole block: its check error first, if it has one, and then its data words
-  pub block-given : (f : File) (e : ℕ) → 1 ≤ n → Reads f k b r n 0 e → Given w xs f k b r n 0
+  pub block-given : (f : File) (e : ℕ) → 1 ≤ n → Reading f k b r n 0 e → Given w xs f k b r n 0
   block-given f zero l R = words-given f 0 (omega arith) R
   block-given f (suc e) l R = error-first f e l R (words-given (getFrom w f .file) 0 (omega arith) (unread f e l R))

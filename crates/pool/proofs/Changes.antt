@@ -46,19 +46,19 @@ full-used (Part n) e = refl
 full-used (Full n at err) e = refl
 
 module _ (m w : ℕ) (f : File) (S : Sound m w f) where
-  own-empty : isSide (emptySide f) ≡ true → owns f (emptySide f) ≡ true
+  pub own-empty : isSide (emptySide f) ≡ true → owns f (emptySide f) ≡ true
   unfolding emptySide
   own-empty =
       lower-cases (λ k. isSide k ≡ true → owns f k ≡ true) (isEmpty (f .low .slot)) (f .double && isEmpty (f .high .slot))
       (λ a s. refl) (λ a b s. and-left (f .double) _ b) (λ a b s. true-not-false s refl)
 
-  own-taken : isSide (takenSide f) ≡ true → owns f (takenSide f) ≡ true
+  pub own-taken : isSide (takenSide f) ≡ true → owns f (takenSide f) ≡ true
   own-taken s = owns-used m w f (takenSide f) S s (taken-used (slotAt f (takenSide f)) (taken-there f s))
 
-  own-part : isSide (partSide f) ≡ true → owns f (partSide f) ≡ true
+  pub own-part : isSide (partSide f) ≡ true → owns f (partSide f) ≡ true
   own-part s = owns-used m w f (partSide f) S s (part-used (slotAt f (partSide f)) (part-there f s))
 
-  own-oldest : isSide (oldest f) ≡ true → owns f (oldest f) ≡ true
+  pub own-oldest : isSide (oldest f) ≡ true → owns f (oldest f) ≡ true
   own-oldest s = owns-used m w f (oldest f) S s (full-used (slotAt f (oldest f)) (full-there f s))
 
   -- a taken buffer is an input file's, a part-filled one an output file's
@@ -94,8 +94,13 @@ module _ (m w : ℕ) (f : File) (S : Sound m w f) where
       let room : oneIf (not (f .output)) ≡ 1 = ap (λ (t : Bool). oneIf (not t)) i in
       changed m w f (emptySide f) Taken false (f .block) S
       (record {
-        own = o; slot = taken-slot (f .output); taken = omega (arith, taken-sides f (emptySide f) s); part = omega (arith, beside m w f (emptySide f) S o .1);
-        order = λ e. true-not-false e refl; number = S .number })
+        own = o;
+        slot = taken-slot (f .output);
+        taken = omega (arith, taken-sides f (emptySide f) s);
+        part = omega (arith, beside m w f (emptySide f) S o .1);
+        order = λ e. true-not-false e refl;
+        number = S .number;
+      })
 
   -- its good end: with 1 to B data words, and a check error
   pub delivered-sound : (n e : ℕ) → isSide (takenSide f) ≡ true → 1 ≤ n → n ≤ f .size → e ≤ 3 → Sound m w (delivered f n e)
@@ -126,8 +131,17 @@ module _ (m w : ℕ) (f : File) (S : Sound m w f) where
 -- a mark is read in an input file alone
 marked-sound : (m w : ℕ) (f : File) → Sound m w f → f .output ≡ false → Sound m w (withMark f)
 marked-sound m w f S i = record {
-  sizes = S .sizes; number = S .number; first = S .first; second = S .second; low = S .low; high = S .high;
-  taken = S .taken; part = S .part; order = S .order; mark = λ o. true-not-false o i }
+  sizes = S .sizes;
+  number = S .number;
+  first = S .first;
+  second = S .second;
+  low = S .low;
+  high = S .high;
+  taken = S .taken;
+  part = S .part;
+  order = S .order;
+  mark = λ o. true-not-false o i;
+}
 
 same-output : (f : File) (k : Side) → emptiedAt f k .output ≡ f .output
 unfolding emptiedAt
@@ -160,8 +174,11 @@ pub numbers : (m w : ℕ) (f : File) (k : Side) (n at e : ℕ) → Sound m w f �
 numbers m w f k n at e S x =
     let F = fits (f .output) (f .size) (f .rlen) (Full n at e) (sym (ap (slotFits (f .output) (f .size) (f .rlen)) x) ∙ slot-fits m w f k S) in
     record {
-      some = leb-true 1 n (and-left (leb 1 n) _ (F .full)); fit = leb-true n (f .size) (and-right (leb 1 n) _ (F .full));
-      place = leb-true at n (F .place); error = leb-true e 3 (F .error) }
+      some = leb-true 1 n (and-left (leb 1 n) _ (F .full));
+      fit = leb-true n (f .size) (and-right (leb 1 n) _ (F .full));
+      place = leb-true at n (F .place);
+      error = leb-true e 3 (F .error);
+    }
 
 -- where both are full, both are full still
 order-stays : (m w : ℕ) (f : File) (k : Side) (n p : ℕ) → Sound m w f → isSide k ≡ true → f .turned ≡ true → (isFull (Full n p 0) && isFull (other f k)) ≡ true
@@ -183,11 +200,15 @@ found-sound m w f S i = go (oldest f) (aged f) (own-oldest m w f S)
         subst (λ (z : Slot). Sound m w (withSlot f k z (f .turned) (f .block))) (sym y)
         (changed m w f k (Full n p 0) (f .turned) (f .block) S
         (record {
-          own = o t; slot = full-slot (f .output) (f .size) (f .rlen) n p 0 (N .some) (N .fit) place (omega arith) (λ q. true-not-false q i);
-          taken = omega (arith, beside m w f k S (o t) .0); part = omega (arith, beside m w f k S (o t) .1);
-          order = order-stays m w f k n p S t; number = S .number }))
+          own = o t;
+          slot = full-slot (f .output) (f .size) (f .rlen) n p 0 (N .some) (N .fit) place (omega arith) (λ q. true-not-false q i);
+          taken = omega (arith, beside m w f k S (o t) .0);
+          part = omega (arith, beside m w f k S (o t) .1);
+          order = order-stays m w f k n p S t;
+          number = S .number;
+        }))
 
-same-passed : (f : File) → passed f .output ≡ f .output
+pub same-passed : (f : File) → passed f .output ≡ f .output
 unfolding passed withoutOldest
 same-passed f = go (isUsedUp (slotAt f (oldest f)))
   where
@@ -203,7 +224,7 @@ get-sound m w f S i =
 -- ---- output
 
 -- a part-filled block's words
-part-numbers : (o : Bool) (size rlen : ℕ) (x : Slot) → slotFits o size rlen x ≡ true → isPart x ≡ true → (rlen ≤ partWords x) × (partWords x + rlen ≤ size)
+pub part-numbers : (o : Bool) (size rlen : ℕ) (x : Slot) → slotFits o size rlen x ≡ true → isPart x ≡ true → (rlen ≤ partWords x) × (partWords x + rlen ≤ size)
 part-numbers o size rlen Empty h p = true-not-false p refl
 part-numbers o size rlen Taken h p = true-not-false p refl
 part-numbers o size rlen (Part n) h p =
@@ -212,10 +233,10 @@ part-numbers o size rlen (Part n) h p =
 part-numbers o size rlen (Full n at e) h p = true-not-false p refl
 
 module _ (m w : ℕ) (f : File) (S : Sound m w f) where
-  one-record : 1 ≤ f .rlen
+  pub one-record : 1 ≤ f .rlen
   one-record = leb-true 1 (f .rlen) (and-left (leb 1 (f .rlen)) _ (S .sizes))
 
-  within : f .rlen ≤ f .size
+  pub within : f .rlen ≤ f .size
   within = leb-true (f .rlen) (f .size) (and-left (leb (f .rlen) (f .size)) _ (and-right (leb 1 (f .rlen)) _ (S .sizes)))
 
   pub sealed-sound : isSide (partSide f) ≡ true → Sound m w (sealed f)
@@ -234,9 +255,17 @@ pub opened-sound : (m w : ℕ) (q : Wish) (low high : ℕ) → sizesFit w (q .se
     → (q .double ≡ true → (low < high) × (high < m)) → Sound m w (openedFile q low high)
 unfolding openedFile
 opened-sound m w q low high fit less two = record {
-  sizes = fit; number = omega arith; first = less; second = second-fits (q .double) two;
-  low = empty-opened (q .output) (q .size) (q .rlen); high = empty-opened (q .output) (q .size) (q .rlen);
-  taken = omega arith; part = omega arith; order = λ e. true-not-false e refl; mark = λ o. refl }
+  sizes = fit;
+  number = omega arith;
+  first = less;
+  second = second-fits (q .double) two;
+  low = empty-opened (q .output) (q .size) (q .rlen);
+  high = empty-opened (q .output) (q .size) (q .rlen);
+  taken = omega arith;
+  part = omega arith;
+  order = λ e. true-not-false e refl;
+  mark = λ o. refl;
+}
   where
     second-fits : (d : Bool) → (d ≡ true → (low < high) × (high < m)) → cond d (ltb low (cond d high 0) && ltb (cond d high 0) m) (eqb (cond d high 0) 0 && true) ≡ true
     second-fits true h = and-both (ltb low high) _ (lt-ltb low high (h refl .0)) (lt-ltb high m (h refl .1))

@@ -14,7 +14,7 @@ use Rattle.files.specs.declared.Side.{Side}
 use Rattle.files.specs.declared.Side.the-variants.{Low, High, Neither}
 use Rattle.files.specs.declared.File.{File}
 use Rattle.files.specs.Slots.{isEmpty, isTaken, isPart, isFull, fullError}
-use Rattle.files.specs.Sides.{slotAt, isSide, withSlot, turnedBy, nextBlock, filledAt, emptiedAt}
+use Rattle.files.specs.Sides.{slotAt, isSide, withSlot, blockNumbers, turnedBy, nextBlock, filledAt, emptiedAt}
 use Rattle.pool.specs.Soundness.{isNoBuffer, oneIf, takenCount, partsHeld, fullFits, partFits, placeFits, isUnread}
 use Rattle.pool.proofs.Facts.{slotFits, secondFits, Sound, Fits, fits}
 
@@ -73,20 +73,35 @@ pub record Change (f : File) (k : Side) (x : Slot) (t : Bool) (b : ℕ) : Type 0
   pub taken : oneIf (isTaken x) + oneIf (isTaken (other f k)) ≤ oneIf (not (f .output))
   pub part : oneIf (isPart x) + oneIf (isPart (other f k)) ≤ oneIf (f .output)
   pub order : t ≡ true → (isFull x && isFull (other f k)) ≡ true
-  pub number : b < 32768
+  pub number : b < blockNumbers
 
 pub changed : (m w : ℕ) (f : File) (k : Side) (x : Slot) (t : Bool) (b : ℕ) → Sound m w f → Change f k x t b → Sound m w (withSlot f k x t b)
 changed m w f Low x t b S C = record {
-  sizes = S .sizes; number = C .number; first = S .first; second = S .second; low = C .slot; high = S .high;
-  taken = C .taken; part = C .part; order = C .order; mark = S .mark }
+  sizes = S .sizes;
+  number = C .number;
+  first = S .first;
+  second = S .second;
+  low = C .slot;
+  high = S .high;
+  taken = C .taken;
+  part = C .part;
+  order = C .order;
+  mark = S .mark;
+}
 changed m w f High x t b S C = record {
-  sizes = S .sizes; number = C .number; first = S .first;
+  sizes = S .sizes;
+  number = C .number;
+  first = S .first;
   second =
-    cond-true (ltb (f .low .number) (f .high .number) && ltb (f .high .number) m) (eqb (f .high .number) 0 && isEmpty x) (C .own)
-    ∙ (sym (cond-true (ltb (f .low .number) (f .high .number) && ltb (f .high .number) m) (isNoBuffer (f .high)) (C .own)) ∙ S .second);
-  low = S .low; high = C .slot;
-  taken = omega (arith, C .taken); part = omega (arith, C .part);
-  order = λ e. and-comm (isFull (f .low .slot)) (isFull x) ∙ C .order e; mark = S .mark }
+      cond-true (ltb (f .low .number) (f .high .number) && ltb (f .high .number) m) (eqb (f .high .number) 0 && isEmpty x) (C .own)
+      ∙ (sym (cond-true (ltb (f .low .number) (f .high .number) && ltb (f .high .number) m) (isNoBuffer (f .high)) (C .own)) ∙ S .second);
+  low = S .low;
+  high = C .slot;
+  taken = omega (arith, C .taken);
+  part = omega (arith, C .part);
+  order = λ e. and-comm (isFull (f .low .slot)) (isFull x) ∙ C .order e;
+  mark = S .mark;
+}
 changed m w f Neither x t b S C = S
 
 -- the other buffer by itself keeps the counts
@@ -108,8 +123,13 @@ emptied m w f k S o =
     (λ s q.
     changed m w f k Empty false (f .block) S
     (record {
-      own = o s; slot = empty-slot (f .output) (f .size) (f .rlen); taken = omega (arith, beside m w f k S (o s) .0); part = omega (arith, beside m w f k S (o s) .1);
-      order = λ e. true-not-false e refl; number = S .number }))
+      own = o s;
+      slot = empty-slot (f .output) (f .size) (f .rlen);
+      taken = omega (arith, beside m w f k S (o s) .0);
+      part = omega (arith, beside m w f k S (o s) .1);
+      order = λ e. true-not-false e refl;
+      number = S .number;
+    }))
     (λ s q. none k s) refl
   where
     none : (j : Side) → isSide j ≡ false → Sound m w (withSlot f j Empty false (f .block))
@@ -133,6 +153,10 @@ unfolding filledAt
 filled m w f k n e S o some fit err zero =
     changed m w f k (Full n 0 e) (turnedBy f k) (nextBlock (f .block)) S
     (record {
-      own = o; slot = full-slot (f .output) (f .size) (f .rlen) n 0 e some fit (omega arith) err (λ q. (refl, zero q));
-      taken = omega (arith, beside m w f k S o .0); part = omega (arith, beside m w f k S o .1); order = turned-full f k n e;
-      number = mod-lt (f .block + 1) (omega arith) })
+      own = o;
+      slot = full-slot (f .output) (f .size) (f .rlen) n 0 e some fit (omega arith) err (λ q. (refl, zero q));
+      taken = omega (arith, beside m w f k S o .0);
+      part = omega (arith, beside m w f k S o .1);
+      order = turned-full f k n e;
+      number = mod-lt (f .block + 1) (omega arith);
+    })

@@ -1,22 +1,32 @@
 -- Which buffers of a pool are free, and which file serves a unit (document 01, "Sizes"). Assumes nothing.
-use Prim.Native.Nat.{ℕ, suc, _-_}
-use mathlib.Core.Bool.{Bool, true, false, not, _&&_, _||_}
-use mathlib.Core.List.{List}
-use lib.Dec.{eqb}
+use Prim.Native.Nat.{ℕ, suc, _+_, _-_}
+use mathlib.Core.Bool.{Bool, true, false, not, cond, _&&_, _||_}
+use mathlib.Core.List.{List, [], _∷_}
+use lib.Dec.{leb, eqb}
 use lib.ListN.{getD}
 use Rattle.area.specs.declared.Found.{Found}
 use Rattle.area.specs.declared.Found.the-variants.{At, Nothing}
-use Rattle.area.specs.Lists.{anyOf, firstAlong, countAlong}
+use Rattle.area.specs.Lists.{anyOf, countOf, firstAlong, countAlong}
 use Rattle.files.specs.declared.File.{File}
-use Rattle.files.specs.Opening.{closedFile}
+use Rattle.files.specs.Opening.{buffersFor, closedFile}
 
 -- "Files 0 to 15."
 abbrev pub fileCount : ℕ
 fileCount = 16
 
--- "A pool has m buffers of W words, m from 1 to 32"
+-- "A pool has m buffers of W words, m from 1 to 32, W from 1 to 1,024."
 abbrev pub bufferLimit : ℕ
 bufferLimit = 32
+
+abbrev pub wordLimit : ℕ
+wordLimit = 1024
+
+abbrev pub poolFits : ℕ → ℕ → Bool
+poolFits m w = (leb 1 m && leb m bufferLimit) && (leb 1 w && leb w wordLimit)
+
+-- "Before the first fresh start: no buffers (m and W are 0)": that pool is sound too
+abbrev pub poolSound : ℕ → ℕ → Bool
+poolSound m w = poolFits m w || (eqb m 0 && eqb w 0)
 
 -- an open file holds its low buffer, and its high one if it is double
 abbrev pub heldBy : ℕ → File → Bool
@@ -52,3 +62,16 @@ isFound Nothing = false
 -- refusal 4, "unit already bound"
 abbrev pub isBound : List File → ℕ → ℕ → Bool
 isBound fs channel unit = isFound (servingFile fs channel unit)
+
+-- how many open files hold buffer b
+abbrev pub holders : List File → ℕ → ℕ
+holders fs b = countOf (heldBy b) fs
+
+-- how many buffers a file holds: its one or two, if it is open
+abbrev pub holding : File → ℕ
+holding f = cond (f .opened) (buffersFor (f .double)) 0
+
+-- how many the files hold
+unfoldable pub allHolding : List File → ℕ
+allHolding [] = 0
+allHolding (f ∷ fs) = holding f + allHolding fs

@@ -10,13 +10,18 @@ use Rattle.files.specs.declared.Slot.the-variants.{Empty, Taken, Part, Full}
 use Rattle.files.specs.declared.Buffer.{Buffer}
 use Rattle.files.specs.declared.File.{File}
 use Rattle.files.specs.Slots.{isEmpty, isTaken, isPart, isFull, fullPlace, fullError}
+use Rattle.files.specs.Sides.{blockNumbers}
 use Rattle.files.specs.Opening.{sizesFit}
 use Rattle.pool.specs.Free.{heldBy, serves}
+
+-- "Error 1 is sequence, 2 check sum, 3 both."
+abbrev pub lastError : ℕ
+lastError = 3
 
 -- "its numbers are in the ranges here": sizes, block number, check errors
 abbrev pub inRange : ℕ → File → Bool
 inRange w f =
-    sizesFit w (f .sequence) (f .check) (f .size) (f .rlen) && (ltb (f .block) 32768 && (leb (fullError (f .low .slot)) 3 && leb (fullError (f .high .slot)) 3))
+    sizesFit w (f .sequence) (f .check) (f .size) (f .rlen) && (ltb (f .block) blockNumbers && (leb (fullError (f .low .slot)) lastError && leb (fullError (f .high .slot)) lastError))
 
 -- what a missing second buffer would hold has no meaning
 abbrev pub isNoBuffer : Buffer → Bool

@@ -1,10 +1,27 @@
 // Which buffers of the pool are free: held by no open file. Found by a walk over the files.
+use crate::BUFFERS;
 use crate::FILES;
+use crate::WORDS;
 use area::Found;
 use files::File;
 ghost use mathlib.Core.Path.{_≡_};
 ghost use Prim.Native.Nat.{_≤_};
-ghost use Rattle.pool.specs.Free.{heldBy, isHeld, lowestFree, freeCount};
+ghost use Rattle.pool.specs.Free.{poolFits, poolSound, heldBy, isHeld, lowestFree, freeCount};
+
+// Whether a pool may have m buffers of w words.
+pub fn pool_fits(m: u8, w: u16) -> bool
+    ensures { λ r. ⌜ r ≡ poolFits m w ⌝ }
+{
+    ((1 <= m) & (m <= BUFFERS)) & ((1 <= w) & (w <= WORDS))
+}
+
+// Whether m and w are those of a pool, or of none.
+pub fn pool_sound(m: u8, w: u16) -> bool
+    ensures { λ r. ⌜ r ≡ poolSound m w ⌝ }
+{
+    let fits = pool_fits(m, w);
+    fits | ((m == 0) & (w == 0))
+}
 
 // Whether the file is open and holds buffer b.
 pub fn holds(f: File, b: usize) -> bool
@@ -51,12 +68,12 @@ pub fn free_count(m: u8, files: [File; FILES]) -> usize
 {
     let end = m as usize;
     let mut n: usize = 0;
-    let mut b: usize = 0;
-    while b < end {
-        if !is_held(files, b) {
+    let mut at: usize = 0;
+    while at < end {
+        if !is_held(files, at) {
             n += 1;
         }
-        b += 1;
+        at += 1;
     }
     n
 }

@@ -1,17 +1,21 @@
 // Whether one file is sound: document 01's paragraph on a state that is passed back, clause by clause.
-use files::Buffer;
+use crate::clauses::full_fits;
+use crate::clauses::is_no_buffer;
+use crate::clauses::is_unread;
+use crate::clauses::one_if;
+use crate::clauses::part_fits;
+use crate::clauses::place_fits;
+use files::BLOCK_NUMBERS;
 use files::File;
-use files::Slot;
+use files::LAST_ERROR;
 use files::full_error;
-use files::full_place;
-use files::is_empty;
 use files::is_full;
 use files::is_part;
 use files::is_taken;
 use files::sizes_fit;
 ghost use mathlib.Core.Path.{_≡_};
 ghost use Prim.Native.Nat.{_≤_};
-ghost use Rattle.pool.specs.Soundness.{inRange, isNoBuffer, hasBuffers, oneIf, takenCount, takenRight, fullFits, fullRight, partsHeld, partFits, partRight, placeFits, placeRight, isUnread, restIsZero, openSound, isBlank, fileSound};
+ghost use Rattle.pool.specs.Soundness.{inRange, hasBuffers, takenCount, takenRight, fullRight, partsHeld, partRight, placeRight, restIsZero, openSound, isBlank, fileSound};
 
 // The sizes, the block number and the check errors are in their ranges.
 fn in_range(w: u16, f: File) -> bool
@@ -24,15 +28,7 @@ fn in_range(w: u16, f: File) -> bool
     let sizes = sizes_fit(w, f.sequence, f.check, f.size, f.rlen);
     let a = full_error(x);
     let b = full_error(y);
-    sizes & ((f.block < 32768) & ((a <= 3) & (b <= 3)))
-}
-
-fn is_no_buffer(b: Buffer) -> bool
-    ensures { λ r. ⌜ r ≡ isNoBuffer b ⌝ }
-{
-    let x = b.slot;
-    let empty = is_empty(x);
-    (b.number == 0) & empty
+    sizes & (((f.block as u32) < BLOCK_NUMBERS) & ((a <= LAST_ERROR) & (b <= LAST_ERROR)))
 }
 
 // The file has its one or two buffers, of m.
@@ -48,16 +44,6 @@ fn has_buffers(m: u8, f: File) -> bool
         return first & second;
     }
     first & none
-}
-
-// One if it is so, else 0.
-fn one_if(b: bool) -> u8
-    ensures { λ r. ⌜ (r ≡ oneIf b) × (r ≤ 1) ⌝ }
-{
-    if b {
-        return 1;
-    }
-    0
 }
 
 // How many of the file's buffers are taken.
@@ -80,22 +66,6 @@ fn taken_right(f: File) -> bool
     let n = taken_count(f);
     let most = one_if(!f.output);
     n <= most
-}
-
-// A full block has 1 to B data words.
-fn full_fits(size: u16, x: Slot) -> bool
-    ensures { λ r. ⌜ r ≡ fullFits size x ⌝ }
-{
-    match x {
-        Slot::Empty => true,
-        Slot::Taken => true,
-        Slot::Part(_) => true,
-        Slot::Full {
-            words,
-            at: _,
-            error: _,
-        } => (1 <= words) & (words <= size),
-    }
 }
 
 fn full_right(f: File) -> bool
@@ -123,25 +93,6 @@ fn parts_held(f: File) -> u8
     a + b
 }
 
-// A part-filled buffer has r words or more, and room for r.
-fn part_fits(size: u16, rlen: u16, x: Slot) -> bool
-    ensures { λ r. ⌜ r ≡ partFits size rlen x ⌝ }
-{
-    match x {
-        Slot::Empty => true,
-        Slot::Taken => true,
-        Slot::Part(n) => {
-            let after = (n as u32) + (rlen as u32);
-            (rlen <= n) & (after <= size as u32)
-        }
-        Slot::Full {
-            words: _,
-            at: _,
-            error: _,
-        } => true,
-    }
-}
-
 // None is part-filled in an input file, and one at most in an output file.
 fn part_right(f: File) -> bool
     ensures { λ r. ⌜ r ≡ partRight f ⌝ }
@@ -157,22 +108,6 @@ fn part_right(f: File) -> bool
     (n <= most) & (a & b)
 }
 
-// The place of get is not past its block.
-fn place_fits(x: Slot) -> bool
-    ensures { λ r. ⌜ r ≡ placeFits x ⌝ }
-{
-    match x {
-        Slot::Empty => true,
-        Slot::Taken => true,
-        Slot::Part(_) => true,
-        Slot::Full {
-            words,
-            at,
-            error: _,
-        } => at <= words,
-    }
-}
-
 fn place_right(f: File) -> bool
     ensures { λ r. ⌜ r ≡ placeRight f ⌝ }
 {
@@ -183,15 +118,6 @@ fn place_right(f: File) -> bool
     let a = place_fits(x);
     let b = place_fits(y);
     a & b
-}
-
-// A block that has no place of get and no check error.
-fn is_unread(x: Slot) -> bool
-    ensures { λ r. ⌜ r ≡ isUnread x ⌝ }
-{
-    let at = full_place(x);
-    let error = full_error(x);
-    (at == 0) & (error == 0)
 }
 
 // What has no meaning in an open file is zero.

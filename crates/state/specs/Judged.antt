@@ -4,7 +4,7 @@ use Prim.Native.Nat.{ℕ}
 use mathlib.Core.Bool.{Bool, true, not, _&&_, _||_}
 use mathlib.Core.List.{List}
 use lib.Dec.{leb, ltb, eqb}
-use Rattle.area.specs.Lists.{allOf}
+use Rattle.area.specs.Lists.{anyOf, allOf}
 use Rattle.area.specs.Numbered.{allFrom}
 use Rattle.channel.specs.declared.Request.{Request}
 use Rattle.channel.specs.declared.Turn.{Turn}
@@ -15,7 +15,7 @@ use Rattle.channel.specs.declared.Work.{Work}
 use Rattle.channel.specs.Units.{size, declaredAt}
 use Rattle.files.specs.declared.File.{File}
 use Rattle.files.specs.Input.{hasFull}
-use Rattle.pool.specs.Free.{isBound}
+use Rattle.pool.specs.Free.{serves}
 use Rattle.pool.specs.Soundness.{oneIf, takenCount, filesSound}
 use Rattle.state.specs.declared.State.{State}
 use Rattle.state.specs.Requests.{requested, isNone, isRead, isWrite, fitsOutput}
@@ -45,8 +45,8 @@ unfoldable pub unitRight : ℕ → Unit → Bool
 unitRight m x = (not (x .declared) || ltb 0 m) && ((x .declared || isNone (requested (x .turn))) && turnRight (x .turn))
 
 -- a unit with a request has an open file
-abbrev pub unitServed : List File → ℕ → ℕ → Unit → Bool
-unitServed fs c u x = isNone (requested (x .turn)) || isBound fs c u
+unfoldable pub unitServed : List File → ℕ → ℕ → Unit → Bool
+unitServed fs c u x = isNone (requested (x .turn)) || anyOf (serves c u) fs
 
 unfoldable pub channelRight : ℕ → Bool → List File → ℕ → Channel → Bool
 channelRight m frozen fs c x = ltb (x .mark) (size x) && (allOf (unitRight m) (x .units) && (worksRight frozen (x .units) && allFrom (unitServed fs c) 0 (x .units)))

@@ -10,12 +10,13 @@ use channel::UNITS;
 use channel::Unit;
 use files::File;
 use pool::FILES;
-use pool::is_bound;
+use pool::serves;
 ghost use mathlib.Core.Path.{_≡_};
 ghost use Prim.Native.Nat.{_≤_};
 ghost use Rattle.area.specs.Lists.{anyOf, allOf, countOf};
 ghost use Rattle.area.specs.Numbered.{allFrom};
 ghost use Rattle.channel.specs.Units.{unitCount};
+ghost use Rattle.pool.specs.Free.{serves as servesUnit};
 ghost use Rattle.state.specs.Soundness.{unitWorks, unitWaits, worksRight};
 ghost use Rattle.state.specs.Judged.{unitRight, unitServed, channelRight};
 
@@ -76,6 +77,32 @@ fn works_right(frozen: bool, units: [Unit; UNITS]) -> bool
     (n <= 1) & (frozen | (!waits | (n == 1)))
 }
 
+// Whether an open file is bound to the unit.
+fn is_served(files: [File; FILES], number: u8, unit: u8) -> bool
+    ensures { λ r. ⌜ r ≡ anyOf (servesUnit number unit) files ⌝ }
+{
+    let mut i: usize = 0;
+    while i < FILES {
+        let f = files[i];
+        if serves(f, number, unit) {
+            return true;
+        }
+        i += 1;
+    }
+    false
+}
+
+// Whether the unit, if it has a request, has an open file.
+fn unit_served(files: [File; FILES], number: u8, unit: u8, x: Unit) -> bool
+    ensures { λ r. ⌜ r ≡ unitServed files number unit x ⌝ }
+{
+    let t = x.turn;
+    if is_none(requested(t)) {
+        return true;
+    }
+    is_served(files, number, unit)
+}
+
 // Whether every unit with a request has an open file.
 fn units_served(files: [File; FILES], number: u8, units: [Unit; UNITS]) -> bool
     ensures { λ r. ⌜ r ≡ allFrom (unitServed files number) 0 units ⌝ }
@@ -83,12 +110,8 @@ fn units_served(files: [File; FILES], number: u8, units: [Unit; UNITS]) -> bool
     let mut u: u8 = 0;
     while (u as usize) < UNITS {
         let x = units[u as usize];
-        let t = x.turn;
-        let idle = is_none(requested(t));
-        if !idle {
-            if !is_bound(files, number, u) {
-                return false;
-            }
+        if !unit_served(files, number, u, x) {
+            return false;
         }
         u += 1;
     }

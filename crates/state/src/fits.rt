@@ -15,7 +15,19 @@ use pool::FILES;
 use pool::taken_count;
 ghost use mathlib.Core.Path.{_≡_};
 ghost use Rattle.area.specs.Lists.{allOf};
+ghost use Rattle.pool.specs.Soundness.{oneIf};
+ghost use Rattle.state.specs.Requests.{isRead as readOf};
 ghost use Rattle.state.specs.Judged.{fileReady, fileFits};
+
+// One if a read is requested, else 0.
+fn read_count(x: Work) -> u8
+    ensures { λ r. ⌜ r ≡ oneIf (readOf x) ⌝ }
+{
+    if is_read(x) {
+        return 1;
+    }
+    0
+}
 
 // Whether the file is ready for what is requested of it: the direction, the buffer that a read alone has taken, a write's full block.
 fn file_ready(x: Work, f: File) -> bool
@@ -23,7 +35,7 @@ fn file_ready(x: Work, f: File) -> bool
 {
     let way = fits_output(x, f.output);
     let n = taken_count(f);
-    let read = is_read(x) as u8;
+    let read = read_count(x);
     let write = is_write(x);
     let full = has_full(f);
     way & ((n == read) & (!write | full))

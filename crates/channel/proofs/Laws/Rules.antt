@@ -1,8 +1,8 @@
 -- The code's table judges every request as document 01's table does. Assumes nothing.
 use mathlib.Core.Path.{_≡_, refl, ap, sym, _∙_}
-use mathlib.Core.Bool.{Bool, true, false, not, cond, _&&_, _||_, or-true}
+use mathlib.Core.Bool.{Bool, true, false, cond, _&&_, _||_, or-true}
 use mathlib.Core.List.{List, [], _∷_}
-use Prim.Native.Nat.{ℕ, zero, suc, _+_, _≤_, _<_}
+use Prim.Native.Nat.{ℕ, zero, suc, _≤_, _<_}
 use native.Mathlib.Omega.{arith}
 use lib.Dec.{leb, eqb, leb·zero}
 use lib.ListN.{getD}
@@ -12,7 +12,6 @@ use Rattle.area.specs.Lists.{anyOf}
 use Rattle.channel.specs.declared.Op.{Op}
 use Rattle.channel.specs.declared.Op.the-variants.{Read, Write, Mark}
 use Rattle.channel.specs.declared.Request.{Request}
-use Rattle.channel.specs.declared.Ending.{Ending}
 use Rattle.channel.specs.declared.Ending.the-variants.{MediumEnd}
 use Rattle.channel.specs.declared.Verdict.{Verdict}
 use Rattle.channel.specs.declared.Verdict.the-variants.{Refused, Repeats, Ends}
@@ -24,6 +23,10 @@ rules = (0 ∷ 101 ∷ 101 ∷ 0 ∷ 255 ∷ []) ∷ (0 ∷ 27 ∷ 0 ∷ 255 ∷
 
 abbrev pub limitAt : Op → ℕ → ℕ
 limitAt op outcome = getD (getD rules (opNumber op) []) outcome 0
+
+-- the entry as the code reads it, at the row that it has found
+pub entry-at : (q : Request) (outcome row : ℕ) → row ≡ opNumber (q .op) → getD (getD rules row []) outcome 0 ≡ limitAt (q .op) outcome
+entry-at q outcome row e = ap (λ (i : ℕ). getD (getD rules i []) outcome 0) e
 
 -- the outcome ends the operation, by its entry k of the table
 abbrev pub endsBy : ℕ → Request → ℕ → Bool
@@ -93,9 +96,9 @@ module _ (q : Request) (outcome k : ℕ) (below : outcome < 5) (entry : k ≡ li
   is-repeated n e = by-entry ∙ rw (ne-eqb k 255 n, e)
 
 -- an operation that is repeated has room for one attempt more, and for one incomplete word more if it met one
-pub repeat-room : (k : ℕ) (q : Request) (outcome : ℕ) → k ≤ 255 → endsBy k q outcome ≡ false
+pub repeat-room : (q : Request) (outcome k : ℕ) → outcome < 5 → k ≡ limitAt (q .op) outcome → endsBy k q outcome ≡ false
     → (q .attempts < 255) × (outcome ≡ incompleteWord → q .incomplete < 255)
-repeat-room k q outcome fits e = (omega (arith, leb-false k (q .attempts) (or-left (leb k (q .attempts)) _ e)), words)
+repeat-room q outcome k below entry e = (omega (arith, limit-fits (q .op) outcome below, leb-false k (q .attempts) (or-left (leb k (q .attempts)) _ e)), words)
   where
     words : outcome ≡ incompleteWord → q .incomplete < 255
     words h =
@@ -108,3 +111,10 @@ pub ending-last : (op : Op) (attempt outcome : ℕ) → 4 ≤ outcome → ending
 unfolding endingOf
 ending-last op attempt outcome h =
     rw (ne-eqb outcome 0 (omega arith), ne-eqb outcome 1 (omega arith), ne-eqb outcome 2 (omega arith), ne-eqb outcome 3 (omega arith))
+
+-- the limit of a row stands in its column of redundancy
+pub limit-redundancy : (op : Op) → limitAt op 1 ≡ rowOf op .attempts
+unfolding rowOf
+limit-redundancy Read = refl
+limit-redundancy Write = refl
+limit-redundancy Mark = refl

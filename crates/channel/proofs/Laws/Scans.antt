@@ -1,7 +1,7 @@
 -- Laws of `nextUnit` and `beginOf`, over the number of units. Assumes nothing.
-use mathlib.Core.Path.{_≡_, refl, ap, sym, _∙_}
-use mathlib.Core.Bool.{Bool, true, false, cond}
-use Prim.Native.Nat.{ℕ, zero, suc, _+_, _-_, _≤_, _<_}
+use mathlib.Core.Path.{_≡_, ap, sym, _∙_}
+use mathlib.Core.Bool.{cond}
+use Prim.Native.Nat.{ℕ, _+_, _≤_, _<_}
 use native.Mathlib.Omega.{arith}
 use lib.Dec.{ltb}
 use borrow.Author.Tests.{lt-ltb, le-ltb, ltb-true}
@@ -9,10 +9,10 @@ use Rattle.area.proofs.Walks.{by-test}
 use Rattle.area.specs.Lists.{firstAlong, along}
 use Rattle.area.proofs.Firsts.{first-finds}
 use Rattle.area.proofs.Scans.{along-keeps}
-use Rattle.area.specs.declared.Found.the-variants.{At, Nothing}
+use Rattle.area.specs.declared.Found.the-variants.{At}
 use Rattle.channel.specs.declared.Channel.{Channel}
 use Rattle.channel.specs.Units.{size}
-use Rattle.channel.specs.Turns.{nextUnit, beginOf, stands, scanFrom, working, workingIn}
+use Rattle.channel.specs.Scans.{nextUnit, beginOf, stands, scanFrom, working, workingIn}
 
 pub next-up : (n u : ℕ) → u + 1 < n → nextUnit n u ≡ u + 1
 next-up n u h = rw (lt-ltb (u + 1) n h)

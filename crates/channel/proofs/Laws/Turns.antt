@@ -1,16 +1,14 @@
 -- Laws of the definitions in specs/Turns, a case each. Assumes nothing.
-use mathlib.Core.Path.{_≡_, refl, ap, sym, _∙_}
-use mathlib.Core.Bool.{Bool, true, false, cond, _||_}
-use Prim.Native.Nat.{ℕ, _≤_, _<_}
-use native.Mathlib.Omega.{arith}
+use mathlib.Core.Path.{_≡_}
+use mathlib.Core.Bool.{Bool, true, false, _||_}
+use Prim.Native.Nat.{ℕ}
 use Rattle.area.specs.declared.Found.{Found}
-use Rattle.area.specs.declared.Found.the-variants.{At, Nothing}
 use Rattle.channel.specs.declared.Op.{Op}
-use Rattle.channel.specs.declared.Turn.{Turn}
 use Rattle.channel.specs.declared.Turn.the-variants.{Waiting}
 use Rattle.channel.specs.declared.Channel.{Channel}
 use Rattle.channel.specs.Units.{size, turnAt, withTurn, acceptsAt}
-use Rattle.channel.specs.Turns.{workingIn, nextTurn, isFound, begunAt, startOf, newRequest, askOf, isOrdinary, nextUnit, markAfter}
+use Rattle.channel.specs.Scans.{workingIn, nextTurn, isFound, nextUnit}
+use Rattle.channel.specs.Turns.{begunAt, startOf, newRequest, askOf, isOrdinary, markAfter}
 
 module _ (c : Channel) (frozen busy : Bool) (known : busy ≡ isFound (workingIn c)) where
   pub start-stays : (frozen || busy) ≡ true → startOf c frozen ≡ c

@@ -1,28 +1,26 @@
 -- Every operation takes at most as many reports as its row of the table allows attempts, however often it is displaced. Assumes nothing.
 use mathlib.Core.Path.{_≡_, refl, ap, sym, _∙_, subst}
 use mathlib.Core.Logic.{_≢_}
-use mathlib.Core.Bool.{Bool, true, false, not, cond, _&&_, and-true, and-false}
-use mathlib.Core.Option.{Option, none, some}
+use mathlib.Core.Bool.{Bool, true, false, _&&_}
+use mathlib.Core.Option.{none, some}
 use mathlib.Core.List.{List, [], _∷_}
 use Prim.Native.Nat.{ℕ, _+_, _≤_, _<_}
 use native.Mathlib.Decide.{ℕ-discrete}
 use native.Mathlib.Omega.{arith}
-use lib.Dec.{T, eqb}
-use borrow.Author.Tests.{eq-eqb, ne-eqb}
-use Rattle.area.proofs.Walks.{true-not-false}
+use lib.Dec.{eqb}
 use Rattle.channel.specs.declared.Op.{Op}
 use Rattle.channel.specs.declared.Request.{Request}
 use Rattle.channel.specs.declared.Turn.{Turn}
-use Rattle.channel.specs.declared.Turn.the-variants.{Idle, Waiting, Displaced, Working}
-use Rattle.channel.specs.declared.Unit.{Unit}
+use Rattle.channel.specs.declared.Turn.the-variants.{Idle, Waiting}
 use Rattle.channel.specs.declared.Channel.{Channel}
 use Rattle.channel.specs.Rules.{rowOf}
 use Rattle.channel.specs.Units.{size, declaredAt, turnAt, withTurn, isIdle}
 use Rattle.channel.specs.Turns.{startOf, newRequest}
-use Rattle.channel.specs.History.{Station, station, Event, ask, report, freeze, thaw, Answer, refused, accepted, repeated, answered, Step, step, run, oneIf, count, aReport, aReportOf, anAnswerTo}
-use Rattle.channel.proofs.Theorems.Starts.{held, at-set, busy-inside, declared-inside, Started, isFrozen, isBusy, isQuiet, begins, started}
-use Rattle.channel.proofs.Theorems.Calls.{Incomplete, onward, aside, endedAt, Took, refuses, asks, repeats, ends, freezes, thaws, took, incomplete-held, no-report, of-unit, of-other, not-here}
-use Rattle.channel.proofs.Theorems.Sound.{Counted, Again, verdict-again, HoldOk, InRanges, ranges-kept, Sound, sound-step}
+use Rattle.channel.specs.History.{Station, Event, ask, accepted, Step, step, run, oneIf, count, aReportOf, anAnswerTo}
+use Rattle.channel.proofs.Theorems.Turning.{held, at-set, busy-inside, declared-inside}
+use Rattle.channel.proofs.Theorems.Starts.{Started, isFrozen, isBusy, isQuiet, begins, started}
+use Rattle.channel.proofs.Theorems.Calls.{endedAt, Took, refuses, asks, repeats, ends, freezes, thaws, took, incomplete-held, no-report, of-unit, of-other, not-here}
+use Rattle.channel.proofs.Theorems.Sound.{Again, verdict-again, HoldOk, InRanges}
 
 -- unit u holds a request for op that has had k reports: attempt k + 1 is at work or due
 pub record Tried (u : ℕ) (op : Op) (k : ℕ) (c : Channel) : Type 0 where

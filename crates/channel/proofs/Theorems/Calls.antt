@@ -1,12 +1,11 @@
 -- What a call does to a channel, as cases. Assumes nothing.
-use mathlib.Core.Path.{_≡_, refl, ap, sym, _∙_}
-use mathlib.Core.Bool.{Bool, true, false, not, cond, _&&_, _||_, and-true, and-false}
-use Prim.Native.Nat.{ℕ, _+_, _≤_, _<_}
+use mathlib.Core.Path.{_≡_, refl, _∙_}
+use mathlib.Core.Bool.{Bool, true, false, cond, _&&_, and-true, and-false}
+use Prim.Native.Nat.{ℕ}
 use lib.Dec.{eqb}
 use borrow.Author.Tests.{eq-eqb, ne-eqb}
 use Rattle.area.proofs.Walks.{true-not-false}
-use Rattle.channel.proofs.Theorems.Starts.{held}
-use mathlib.Core.Option.{Option, none, some}
+use mathlib.Core.Option.{some}
 use Rattle.channel.specs.declared.Op.{Op}
 use Rattle.channel.specs.declared.Request.{Request}
 use Rattle.channel.specs.declared.Turn.{Turn}
@@ -15,9 +14,10 @@ use Rattle.channel.specs.declared.Channel.{Channel}
 use Rattle.channel.specs.declared.Verdict.{Verdict}
 use Rattle.channel.specs.declared.Verdict.the-variants.{Refused, Repeats, Ends}
 use Rattle.channel.specs.Rules.{verdictOf}
-use Rattle.channel.specs.Units.{size, declaredAt, turnAt, withTurn, withMark, isIdle, acceptsAt}
+use Rattle.channel.specs.Units.{declaredAt, turnAt, withTurn, withMark, isIdle, acceptsAt}
 use Rattle.channel.specs.Turns.{startOf, thawOf, newRequest, askOf, judgeTurn, judgeOf, goesOn, incompleteTurn, repeatOf, markAfter, endOf, bookOf, reportOf}
-use Rattle.channel.specs.History.{Station, station, Event, ask, report, freeze, thaw, Answer, refused, accepted, repeated, answered, Step, stepTo, askStep, reportAnswer, step, aReport, aReportOf, aRequestOf, anAnswerTo}
+use Rattle.channel.specs.History.{Station, station, Event, ask, report, freeze, thaw, refused, accepted, repeated, answered, Step, stepTo, askStep, reportAnswer, step, aReportOf, aRequestOf, anAnswerTo}
+use Rattle.channel.proofs.Theorems.Turning.{held}
 
 -- the turn of a unit whose operation is to be repeated
 pub data Incomplete (q : Request) : Turn → Type 0 where

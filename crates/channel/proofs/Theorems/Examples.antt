@@ -1,13 +1,12 @@
 -- Every row of the table of examples holds; and demand 3's bound is met: with two units and no priority request the answer is the
 -- 202nd report. Assumes nothing.
 use mathlib.Core.Path.{_≡_, refl}
-use mathlib.Core.Bool.{Bool, true, false}
-use mathlib.Core.List.{List, [], _∷_, _++_}
-use Prim.Native.Nat.{ℕ}
+use mathlib.Core.List.{[], _∷_, _++_}
 use Rattle.area.specs.Lists.{anyOf, firstAlong}
 use Rattle.channel.specs.Rules.{redundancy, rowOf, isAllowed, isPermanent, nextAttempt, endingOf, verdictOf}
 use Rattle.channel.specs.Units.{withTurn, freshWith, acceptsAt}
-use Rattle.channel.specs.Turns.{scanFrom, workingIn, priorityIn, ordinaryIn, nextTurn, startOf, thawOf, askOf, judgeOf, goesOn, repeatOf, markAfter, endOf, bookOf, reportOf}
+use Rattle.channel.specs.Scans.{scanFrom, workingIn, priorityIn, ordinaryIn, nextTurn}
+use Rattle.channel.specs.Turns.{startOf, thawOf, askOf, judgeOf, goesOn, repeatOf, markAfter, endOf, bookOf, reportOf}
 use Rattle.channel.specs.History.{report, step, fresh, run, count, aReport, anAnswerTo}
 use Rattle.channel.specs.Examples.{repeatedFrom, see, sees, table, shown, wanted, twoAsk, allButOne}
 

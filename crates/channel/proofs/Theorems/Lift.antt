@@ -1,9 +1,9 @@
 -- Demand 3 lifted to a system: the channel's events in a system's history are a history of the channel. Assumes nothing.
-use mathlib.Core.Path.{_≡_, refl, ap, sym, _∙_, subst}
+use mathlib.Core.Path.{_≡_, refl, ap, _∙_, subst}
 use mathlib.Core.Bool.{Bool, true, false}
 use mathlib.Core.Option.{Option, none, some}
 use mathlib.Core.List.{List, [], _∷_}
-use Prim.Native.Nat.{ℕ, _+_, _*_, _≤_, _<_}
+use Prim.Native.Nat.{ℕ, _+_}
 use native.Mathlib.Omega.{arith}
 use Rattle.channel.specs.declared.Op.{Op}
 use Rattle.channel.specs.History.{Station, Event, ask, Answer, accepted, Step, stepTo, step, fresh, run, oneIf, count, aReport, aPriority, aRequestOf, anAnswerTo, isAlive, declaredIn, Kept}

@@ -1,11 +1,10 @@
 -- Laws of `Before`, the order of a scan: a scan that goes on above w keeps the order of the scan that came to w. Assumes nothing.
-use mathlib.Core.Path.{_≡_, refl, sym, ap}
 use mathlib.Core.Logic.{_≢_}
-use Prim.Native.Nat.{ℕ, zero, suc, _+_, _-_, _≤_, _<_}
+use mathlib.Core.Path.{_≡_, sym}
+use Prim.Native.Nat.{ℕ, _+_, _≤_, _<_}
 use native.Mathlib.Decide.{decLt}
 use native.Mathlib.Omega.{arith}
-use Rattle.channel.specs.Turns.{nextUnit}
-use Rattle.channel.specs.Scan.{Before, upward, unwrapped, wrapped}
+use Rattle.channel.specs.Scans.{nextUnit, Before, upward, unwrapped, wrapped}
 use Rattle.channel.proofs.Laws.Scans.{next-up, next-wraps}
 
 -- the unit m after w, of n
@@ -68,3 +67,12 @@ compare-before b x y = go (decLt x y) (decLt y x) (decLt x b) (decLt y b)
     go (no h) (yes k) (no p) (yes q) = first (unwrapped q (omega (arith, p)))
     go (no h) (yes k) (no p) (no q) = later (upward (omega (arith, q)) k)
     go (no h) (no k) p q = same (omega (arith, h, k))
+
+-- a scan that begins above x "comes to that unit last"
+pub last-comes-last : (n x y : ℕ) → x < n → y < n → y ≢ x → Before (nextUnit n x) x y
+last-comes-last n x y l k ne = go (compare-before (nextUnit n x) x y)
+  where
+    go : Compared (nextUnit n x) x y → Before (nextUnit n x) x y
+    go (same e) = absurd (ne (sym e))
+    go (first b) = absurd (before-not-last k (next-is n x) b)
+    go (later b) = b

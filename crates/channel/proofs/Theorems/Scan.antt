@@ -1,7 +1,7 @@
 -- The scan finds whom it should: the unit found passes and no unit that passes comes before it; and only one answer meets that.
 -- Assumes nothing.
-use mathlib.Core.Path.{_≡_, refl, sym, ap, _∙_, subst}
-use mathlib.Core.Bool.{Bool, true, false}
+use mathlib.Core.Path.{_≡_, refl, sym, ap, _∙_}
+use mathlib.Core.Bool.{Bool, false}
 use mathlib.Core.Logic.{_⊎_, inl, inr}
 use Prim.Native.Nat.{ℕ, zero, suc, _+_, _-_, _≤_, _<_}
 use native.Mathlib.Decide.{decLt}
@@ -12,9 +12,8 @@ use Rattle.area.specs.declared.Found.the-variants.{At, Nothing}
 use Rattle.area.proofs.Walks.{true-not-false}
 use Rattle.area.proofs.Firsts.{First, first-finds, first-misses}
 use Rattle.channel.specs.declared.Channel.{Channel}
-use Rattle.channel.specs.Units.{size, turnAt}
-use Rattle.channel.specs.Turns.{nextUnit, beginOf, stands, scanFrom}
-use Rattle.channel.specs.Scan.{Before, upward, unwrapped, wrapped, Scanned, finds, misses}
+use Rattle.channel.specs.Units.{size}
+use Rattle.channel.specs.Scans.{nextUnit, beginOf, stands, scanFrom, Before, upward, unwrapped, wrapped, Scanned, finds, misses}
 use Rattle.channel.proofs.Laws.Scans.{begin-below}
 use Rattle.channel.proofs.Theorems.Order.{Next, above, round, next-is, Compared, same, first, later, compare-before}
 

@@ -1,30 +1,29 @@
 -- What holds of a channel after every call since a fresh start: at most one unit works, and no attempt is past its limit.
 -- Assumes nothing.
 use mathlib.Core.Path.{_≡_, refl, ap, sym, _∙_, subst}
-use mathlib.Core.Logic.{_≢_}
 use mathlib.Core.Bool.{Bool, true, false, not, cond, _&&_, _||_}
 use mathlib.Core.Option.{Option, none, some}
 use mathlib.Core.List.{List, [], _∷_}
-use Prim.Native.Nat.{ℕ, _+_, _-_, _≤_, _<_}
+use Prim.Native.Nat.{ℕ, _+_, _≤_, _<_}
 use native.Mathlib.Omega.{arith}
 use lib.Dec.{T, leb, eqb}
-use borrow.Author.Tests.{leb-false, eqb-true, eqb-false}
+use borrow.Author.Tests.{leb-false}
 use Rattle.area.proofs.Walks.{true-not-false, or-left, or-right}
 use Rattle.channel.specs.declared.Op.{Op}
 use Rattle.channel.specs.declared.Op.the-variants.{Read, Write, Mark}
 use Rattle.channel.specs.declared.Request.{Request}
 use Rattle.channel.specs.declared.Turn.{Turn}
-use Rattle.channel.specs.declared.Turn.the-variants.{Idle, Waiting, Displaced, Working}
-use Rattle.channel.specs.declared.Unit.{Unit}
+use Rattle.channel.specs.declared.Turn.the-variants.{Idle, Working}
 use Rattle.channel.specs.declared.Channel.{Channel}
-use Rattle.channel.specs.declared.Verdict.{Verdict}
 use Rattle.channel.specs.declared.Verdict.the-variants.{Refused, Repeats, Ends}
 use Rattle.channel.specs.Rules.{mostAttempts, incompleteWord, rowOf, isAllowed, isFailure, isPermanent, nextAttempt, endingOf, verdictOf}
-use Rattle.channel.specs.Units.{size, idleUnit, unitAt, declaredAt, turnAt, withTurn, withMark, isIdle}
-use Rattle.channel.specs.Turns.{startOf, newRequest, markAfter}
-use Rattle.channel.specs.History.{Station, station, Event, Step, step, run}
-use Rattle.channel.proofs.Theorems.Starts.{isWorking, held, at-set, busy-inside, declared-inside, Begins, Started, isFrozen, isBusy, isQuiet, begins, started}
-use Rattle.channel.proofs.Theorems.Calls.{Incomplete, onward, aside, endedAt, Took, refuses, asks, repeats, ends, freezes, thaws, took, incomplete-held}
+use Rattle.channel.specs.Units.{size, declaredAt, turnAt, withTurn, isIdle}
+use Rattle.channel.specs.Turns.{newRequest}
+use Rattle.channel.specs.History.{Station, Event, Step, step, run}
+use Rattle.channel.specs.Sound.{isWorking}
+use Rattle.channel.proofs.Theorems.Turning.{held, at-set, busy-inside, declared-inside}
+use Rattle.channel.proofs.Theorems.Starts.{Started, isFrozen, isBusy, isQuiet, begins, started}
+use Rattle.channel.proofs.Theorems.Calls.{Took, refuses, asks, repeats, ends, freezes, thaws, took, incomplete-held}
 
 -- ---- a request's counts are in their ranges
 

@@ -1,35 +1,28 @@
+-- `good_ending` meets its contract: the definition goes by the same operation and the same test.
+-- Assumes nothing.
 use borrow.Author.Tests.{eq-eqb, ne-eqb}
 use borrow.Author.Needs.{needs}
 use Rattle.channel.proofs.rules.good_ending.Statement.{statement}
 use Rattle.channel.proofs.rules.good_ending.Tie as tie
-use Rattle.channel.proofs.rules.good_ending.Reads as reads
-use Rattle.channel.proofs.rules.good_ending.Lts as lts
 
--- src/rules.rt:42:16
 enum-told : tie.Need-enum-told
 enum-told c = search needs
 
--- src/rules.rt:48:22
 enum-told-2 : tie.Need-enum-told-2
 enum-told-2 c = search needs
 
--- src/rules.rt:49:21
 enum-told-3 : tie.Need-enum-told-3
 enum-told-3 c = search needs
 
--- src/rules.rt:37:1
 returns : tie.Need-returns
 returns c = rw (c .before .enum-told .given .1, eq-eqb _ 4 (c .if1 .taken))
 
--- src/rules.rt:37:1
 returns-2 : tie.Need-returns-2
 returns-2 c = rw (c .before .enum-told .given .1, ne-eqb _ 4 (c .if1 .left))
 
--- src/rules.rt:37:1
 returns-3 : tie.Need-returns-3
 returns-3 c = search needs
 
--- src/rules.rt:37:1
 returns-4 : tie.Need-returns-4
 returns-4 c = search needs
 

@@ -1,16 +1,14 @@
+-- `begin` meets its contract: the two cases of the definition.
+-- Assumes nothing.
 use mathlib.Core.Path.{sym}
 use Rattle.channel.specs.Units.{unitCount}
 use Rattle.channel.proofs.Laws.Scans.{begin-here, begin-zero}
 use Rattle.channel.proofs.scans.begin.Statement.{statement}
 use Rattle.channel.proofs.scans.begin.Tie as tie
-use Rattle.channel.proofs.scans.begin.Reads as reads
-use Rattle.channel.proofs.scans.begin.Lts as lts
 
--- src/scans.rt:43:1
 returns : tie.Need-returns
 returns c = sym (begin-here unitCount _ (c .if1 .taken))
 
--- src/scans.rt:43:1
 returns-2 : tie.Need-returns-2
 returns-2 c = sym (begin-zero unitCount _ (c .if1 .left))
 

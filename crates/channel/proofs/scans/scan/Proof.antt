@@ -1,5 +1,7 @@
+-- `scan` meets its contract: what is left of the scan gives the answer of the whole.
+-- Assumes nothing.
 use borrow.Author.Needs.{needs}
-use mathlib.Core.Path.{_≡_, refl, sym, _∙_, ap}
+use mathlib.Core.Path.{_≡_, sym, _∙_, ap}
 use mathlib.Core.Bool.{true, false}
 use Prim.Native.Nat.{ℕ, _≤_, _<_, _-_}
 use native.Mathlib.Omega.{arith}
@@ -8,16 +10,11 @@ use lib.ListN.{length-map}
 use borrow.Author.Tests.{eq-eqb, ne-eqb}
 use Rattle.area.specs.Lists.{firstAlong}
 use Rattle.area.proofs.Firsts.{first-stop, first-go, first-none}
-use Rattle.channel.specs.Units.{unitCount, size}
-use Rattle.channel.specs.Turns.{nextUnit, beginOf, stands, scanFrom}
+use Rattle.channel.specs.Units.{unitCount}
+use Rattle.channel.specs.Scans.{nextUnit, stands, scanFrom}
 use Rattle.channel.proofs.Laws.Scans.{next-below, begin-below, scan-of}
 use Rattle.channel.proofs.scans.scan.Statement.{statement}
 use Rattle.channel.proofs.scans.scan.Tie as tie
-use Rattle.channel.proofs.scans.scan.Reads as reads
-use Rattle.channel.proofs.scans.scan.Lts as lts
-use Rattle.channel.proofs.scans.begin.Reads as begin-reads
-use Rattle.channel.proofs.scans.next_unit.Reads as next-unit-reads
-use Rattle.channel.proofs.scans.standing.Reads as standing-reads
 
 abbrev Inv-loop : tie.InvT-loop
 Inv-loop want mark c at₀ left₀ at left =
@@ -26,11 +23,9 @@ Inv-loop want mark c at₀ left₀ at left =
 abbrev μ-loop : tie.MeasureT-loop
 μ-loop want mark c at₀ left₀ at left = left
 
--- src/scans.rt:54:9
 begin-requires : tie.Need-begin-requires Inv-loop μ-loop
 begin-requires c κs = search needs
 
--- src/scans.rt:56:9
 loop-holds : tie.Need-loop-holds Inv-loop μ-loop
 loop-holds c = let long = sym (length-map (c .before .args .t1 .units) _) ∙ c .before .good .0 .1 .1 .0 .1 .0 .1 in (
   omega (arith, c .begin .ensures, begin-below unitCount (c .before .args .mark) (omega arith)),
@@ -38,33 +33,27 @@ loop-holds c = let long = sym (length-map (c .before .args .t1 .units) _) ∙ c 
   scan-of _ _ _ unitCount long _ (c .begin .ensures),
 )
 
--- src/scans.rt:60:17
 mul-u : tie.Need-mul-u Inv-loop μ-loop
 mul-u c = omega arith
 
--- src/scans.rt:60:17
 element-copy-out-u : tie.Need-element-copy-out-u Inv-loop μ-loop
 element-copy-out-u c = omega arith
 
--- src/scans.rt:62:12
 standing-requires : tie.Need-standing-requires Inv-loop μ-loop
 standing-requires c κs = search needs
 
--- src/scans.rt:65:9
 next-unit-requires : tie.Need-next-unit-requires Inv-loop μ-loop
 next-unit-requires c κs = search needs
 
--- src/scans.rt:66:16
 sub-left : tie.Need-sub-left Inv-loop μ-loop
 sub-left c = omega arith
 
--- src/scans.rt:56:9
 loop-less : tie.Need-loop-less Inv-loop μ-loop
 loop-less c = omega arith
 
--- src/scans.rt:56:9
 loop-again : tie.Need-loop-again Inv-loop μ-loop
-loop-again c = let t : stands (c .before .before .before .before .before .before .before .args .t1) (c .before .before .before .before .before .before .before .args .want) (c .before .before .before .before .before .loop .at) ≡ false =
+loop-again c =
+    let t : stands (c .before .before .before .before .before .before .before .args .t1) (c .before .before .before .before .before .before .before .args .want) (c .before .before .before .before .before .loop .at) ≡ false =
     ap (λ (n : ℕ). eqb n (c .before .before .before .before .before .before .before .args .want)) (sym (c .before .before .standing .ensures)) ∙ ne-eqb _ _ (c .before .if2 .left) in (
       omega (arith, c .next-unit .ensures, next-below unitCount (c .before .before .before .before .before .loop .at) (omega arith)),
       omega arith,
@@ -72,13 +61,12 @@ loop-again c = let t : stands (c .before .before .before .before .before .before
           ∙ ap (firstAlong (nextUnit unitCount) (stands (c .before .before .before .before .before .before .before .args .t1) (c .before .before .before .before .before .before .before .args .want)) (c .before .before .before .before .before .loop .left - 1)) (sym (c .next-unit .ensures)),
     )
 
--- src/scans.rt:51:1
 returns : tie.Need-returns Inv-loop μ-loop
 returns c = sym (c .before .loop .inv .2 ∙ ap (λ (n : ℕ). firstAlong (nextUnit unitCount) (stands (c .before .before .before .args .t1) (c .before .before .before .args .want)) n (c .before .loop .at)) (c .if1 .taken) ∙ first-none _ _ _)
 
--- src/scans.rt:51:1
 returns-2 : tie.Need-returns-2 Inv-loop μ-loop
-returns-2 c = let t : stands (c .before .before .before .before .before .before .args .t1) (c .before .before .before .before .before .before .args .want) (c .before .before .before .before .loop .at) ≡ true =
+returns-2 c =
+    let t : stands (c .before .before .before .before .before .before .args .t1) (c .before .before .before .before .before .before .args .want) (c .before .before .before .before .loop .at) ≡ true =
     ap (λ (n : ℕ). eqb n (c .before .before .before .before .before .before .args .want)) (sym (c .before .standing .ensures)) ∙ eq-eqb _ _ (c .if2 .taken) in
     sym (c .before .before .before .before .loop .inv .2 ∙ first-stop (nextUnit unitCount) (stands (c .before .before .before .before .before .before .args .t1) (c .before .before .before .before .before .before .args .want)) (c .before .before .before .before .loop .left) (c .before .before .before .before .loop .at) (omega arith) t)
 

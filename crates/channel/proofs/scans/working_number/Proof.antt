@@ -1,36 +1,30 @@
+-- `channel::working_number` meets its contract: a unit that a scan finds is below the number of units, so it fits a byte.
+-- Assumes nothing.
 use native.Mathlib.Omega.{arith}
 use lib.ListN.{length-map}
 use Rattle.channel.proofs.Laws.Scans.{working-below}
-use mathlib.Core.Path.{sym, ap, _∙_}
+use mathlib.Core.Path.{sym, _∙_}
 use borrow.Author.Needs.{needs}
 use Rattle.channel.proofs.scans.working_number.Statement.{statement}
 use Rattle.channel.proofs.scans.working_number.Tie as tie
-use Rattle.channel.proofs.scans.working_number.Reads as reads
-use Rattle.channel.proofs.scans.working_number.Lts as lts
-use Rattle.channel.proofs.scans.working_unit.Reads as working-unit-reads
 
--- src/scans.rt:115:11
 working-unit-requires : tie.Need-working-unit-requires
 working-unit-requires c κs = search needs
 
--- src/scans.rt:116:19
 enum-known-u : tie.Need-enum-known-u
 enum-known-u c = search needs
 
--- src/scans.rt:116:25
 cast-result : tie.Need-cast-result
-cast-result c = let long = sym (length-map (c .before .before .before .before .args .c .units) _) ∙ c .before .before .before .before .good .0 .1 .1 .0 .1 .0 .1 in
+cast-result c =
+    let long = sym (length-map (c .before .before .before .before .args .c .units) _) ∙ c .before .before .before .before .good .0 .1 .1 .0 .1 .0 .1 in
     omega (arith, working-below (c .before .before .before .before .args .c) (c .before .u .given .0 .0) (omega arith) (sym (c .before .before .before .working-unit .ensures) ∙ c .before .u .given .1))
 
--- src/scans.rt:117:27
 enum-told : tie.Need-enum-told
 enum-told c = search needs
 
--- src/scans.rt:112:1
 returns : tie.Need-returns
 returns c = rw (← c .before .before .before .working-unit .ensures, c .before .u .given .1)
 
--- src/scans.rt:112:1
 returns-2 : tie.Need-returns-2
 returns-2 c = rw (← c .before .before .working-unit .ensures, c .enum-told .given .1)
 

@@ -28,8 +28,8 @@ is-held-requires c κs = search needs
 add-n : tie.Need-add-n Inv-loop μ-loop
 add-n c = omega arith
 
-add-b : tie.Need-add-b Inv-loop μ-loop
-add-b c = omega arith
+add-at : tie.Need-add-at Inv-loop μ-loop
+add-at c = omega arith
 
 loop-less : tie.Need-loop-less Inv-loop μ-loop
 loop-less c = omega arith
@@ -46,4 +46,4 @@ returns c = (count-done _ _ _ _ _ (c .loop-test .left) (c .before .loop .inv .2)
 pub free-count-spec : {M : Type 1} → statement M
 free-count-spec =
     tie.close
-    (tie.spec Inv-loop μ-loop loop-holds is-held-requires add-n add-b loop-less loop-again returns)
+    (tie.spec Inv-loop μ-loop loop-holds is-held-requires add-n add-at loop-less loop-again returns)

@@ -1,0 +1,57 @@
+-- The lowest free buffers that an open takes: what `lowestFree` finds is free, in the pool and the lowest; where one or two are free, they are found.
+-- Assumes nothing.
+use mathlib.Core.Path.{_≡_, refl, sym, ap, _∙_}
+use mathlib.Core.Bool.{Bool, true, false}
+use mathlib.Core.List.{List}
+use Prim.Native.Nat.{ℕ, suc, _+_, _-_, _≤_, _<_}
+use native.Mathlib.Nat.{sub-zero}
+use native.Mathlib.Omega.{arith}
+use Rattle.area.specs.declared.Found.the-variants.{At}
+use Rattle.area.specs.Lists.{firstAlong, countAlong}
+use Rattle.area.proofs.Marks.{Counted, first-counted, first-lowest}
+use Rattle.files.specs.declared.File.{File}
+use Rattle.pool.specs.Free.{isFree, lowestFree, freeCount}
+
+-- buffer b is the lowest free one of those from k on
+pub record Lowest (m : ℕ) (fs : List File) (k b : ℕ) : Type 0 where
+  pub from : k ≤ b
+  pub inside : b < m
+  pub free : isFree fs b ≡ true
+  pub lowest : (j : ℕ) → k ≤ j → j < b → isFree fs j ≡ false
+
+pub found-lowest : (m : ℕ) (fs : List File) (k b : ℕ) → lowestFree m fs k ≡ At b → Lowest m fs k b
+unfolding lowestFree
+found-lowest m fs k b e =
+    let L = first-lowest (isFree fs) (m - k) k b e in
+    record { from = L .0; inside = omega (arith, L .0, L .1); free = L .2; lowest = L .3 }
+
+-- where a buffer is free, the lowest is found
+pub record One (m : ℕ) (fs : List File) : Type 0 where
+  pub low : ℕ
+  pub found : lowestFree m fs 0 ≡ At low
+
+pub one-free : (m : ℕ) (fs : List File) (c : ℕ) → freeCount m fs ≡ suc c → One m fs
+unfolding freeCount lowestFree
+one-free m fs c e =
+    let C = first-counted (isFree fs) m 0 c e in
+    record { low = C .place; found = ap (λ (n : ℕ). firstAlong suc (isFree fs) n 0) (sub-zero m) ∙ C .found }
+
+-- where two are free, the two lowest are found, one after the other
+pub record Two (m : ℕ) (fs : List File) : Type 0 where
+  pub low : ℕ
+  pub high : ℕ
+  pub found-low : lowestFree m fs 0 ≡ At low
+  pub found-high : lowestFree m fs (suc low) ≡ At high
+
+pub two-free : (m : ℕ) (fs : List File) (c : ℕ) → freeCount m fs ≡ suc (suc c) → Two m fs
+unfolding freeCount lowestFree
+two-free m fs c e =
+    let C = first-counted (isFree fs) m 0 (suc c) e in
+    let left : 0 + m - suc (C .place) ≡ m - suc (C .place) = omega arith in
+    let D = first-counted (isFree fs) (m - suc (C .place)) (suc (C .place)) c (sym (ap (λ (n : ℕ). countAlong suc (isFree fs) n (suc (C .place))) left) ∙ C .rest) in
+    record {
+      low = C .place;
+      high = D .place;
+      found-low = ap (λ (n : ℕ). firstAlong suc (isFree fs) n 0) (sub-zero m) ∙ C .found;
+      found-high = D .found;
+    }
