@@ -9,6 +9,7 @@ use Rattle.files.specs.declared.File.{File}
 use Rattle.files.specs.Opening.{closedFile}
 use Rattle.pool.specs.Free.{heldBy, serves}
 use Rattle.pool.specs.Soundness.{shareBuffer, shareUnit, apart}
+use Rattle.pool.proofs.Shares.{held-shared}
 use Rattle.state.specs.Soundness.{buffersApart, unitsApart}
 
 -- a buffer that two files hold
@@ -32,17 +33,8 @@ shared-common f g h =
     (λ e. record { number = f .low .number; first = holds-low f o; second = e })
     (λ e. record { number = f .high .number; first = holds-high f o (and-left (f .double) _ e); second = and-right (f .double) _ e })
 
-pub common-shared : (f g : File) (b : ℕ) → heldBy b f ≡ true → heldBy b g ≡ true → shareBuffer f g ≡ true
-common-shared f g b h k =
-    and-both (f .opened) _ (and-left (f .opened) _ h)
-    (or-either (eqb (f .low .number) b) (f .double && eqb (f .high .number) b) (and-right (f .opened) _ h)
-    (λ e. or-first (heldBy (f .low .number) g) _ (ap (λ (n : ℕ). heldBy n g) (eqb-true (f .low .number) b e) ∙ k))
-    (λ e.
-    or-second (heldBy (f .low .number) g) _
-    (and-both (f .double) _ (and-left (f .double) _ e) (ap (λ (n : ℕ). heldBy n g) (eqb-true (f .high .number) b (and-right (f .double) _ e)) ∙ k))))
-
 share-buffer-swap : (f g : File) → shareBuffer g f ≡ true → shareBuffer f g ≡ true
-share-buffer-swap f g h = let c = shared-common g f h in common-shared f g (c .number) (c .second) (c .first)
+share-buffer-swap f g h = let c = shared-common g f h in held-shared f g (c .number) (c .second) (c .first)
 
 share-unit-swap : (f g : File) → shareUnit g f ≡ true → shareUnit f g ≡ true
 share-unit-swap f g h =

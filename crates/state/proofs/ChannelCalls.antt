@@ -23,11 +23,13 @@ use Rattle.channel.specs.declared.Verdict.{Verdict}
 use Rattle.channel.specs.declared.Verdict.the-variants.{Refused, Repeats, Ends}
 use Rattle.channel.specs.Rules.{verdictOf}
 use Rattle.channel.specs.Units.{size, idleUnit, unitAt, declaredAt, turnAt, withTurn, withMark, isIdle, acceptsAt}
-use Rattle.channel.specs.Turns.{nextUnit, workingIn, isFound, startOf, thawOf, newRequest, askOf, judgeTurn, judgeOf, goesOn, incompleteTurn, repeatOf, isOrdinary, markAfter, endOf, bookOf, reportOf}
+use Rattle.channel.specs.Scans.{nextUnit, workingIn, isFound}
+use Rattle.channel.specs.Turns.{startOf, thawOf, newRequest, askOf, judgeTurn, judgeOf, goesOn, incompleteTurn, repeatOf, isOrdinary, markAfter, endOf, bookOf, reportOf}
 use Rattle.channel.specs.History.{Station, station, Event, ask, report, freeze, thaw, Step, step}
 use Rattle.channel.proofs.Laws.Scans.{next-below}
 use Rattle.channel.proofs.Laws.Turns.{ask-taken}
-use Rattle.channel.proofs.Theorems.Starts.{held, size-with, at-set, busy-inside, declared-inside, Begins, Started, isFrozen, isBusy, isQuiet, begins, started, start-alive}
+use Rattle.channel.proofs.Theorems.Turning.{held, size-with, at-set, busy-inside, declared-inside}
+use Rattle.channel.proofs.Theorems.Starts.{Begins, Started, isFrozen, isBusy, isQuiet, begins, started, start-alive}
 use Rattle.channel.proofs.Theorems.Calls.{endedAt, Took, refuses, asks, repeats, ends, freezes, thaws, took}
 use Rattle.channel.proofs.Theorems.Sound.{Again, verdict-again, one-kept, ranges-kept}
 use Rattle.state.specs.Requests.{requested}
@@ -141,9 +143,9 @@ moved m frozen c d u t l e F = record {
   here = start-alike d frozen u .0 ∙ same u (λ k. requested (k .turn) ≡ requested t) (with-here c u t l);
   known = start-alike d frozen u .1 ∙ same u (λ k. k .declared ≡ declaredAt c u) (with-declared c u t l u);
   others = λ y ne.
-    let o : Alike c y (unitAt d y) = same y (Alike c y) (with-others c u t l y ne) in
-    let a = start-alike d frozen y in
-    (a .0 ∙ o .0, a .1 ∙ o .1);
+      let o : Alike c y (unitAt d y) = same y (Alike c y) (with-others c u t l y ne) in
+      let a = start-alike d frozen y in
+      (a .0 ∙ o .0, a .1 ∙ o .1);
 }
   where
     same : (y : ℕ) (P : Unit → Type 0) → P (unitAt (withTurn c u t) y) → P (unitAt d y)

@@ -21,14 +21,14 @@ use Rattle.channel.specs.declared.Unit.{Unit}
 use Rattle.channel.specs.declared.Channel.{Channel}
 use Rattle.channel.specs.Rules.{rowOf}
 use Rattle.channel.specs.Units.{size, idleUnit, unitAt, declaredAt, turnAt, freshWith, bitsFrom, freshOf, isIdle}
-use Rattle.channel.specs.Turns.{beginOf, workingIn, isFound}
-use Rattle.channel.specs.Scan.{Scanned, finds, misses}
-use Rattle.channel.proofs.Theorems.Starts.{held, working-scan, works-found}
-use Rattle.channel.proofs.Theorems.Starts as starts
+use Rattle.channel.specs.Scans.{beginOf, workingIn, isFound, Scanned, finds, misses}
+use Rattle.channel.specs.Sound.{isWorking, unitWorks}
+use Rattle.channel.proofs.Theorems.Turning.{held, working-scan}
+use Rattle.channel.proofs.Theorems.Starts.{works-found}
 use Rattle.channel.proofs.Theorems.Sound.{Counted, OneWorks, HoldOk, InRanges}
 use Rattle.state.specs.Places.{noChannel}
-use Rattle.state.specs.Requests.{requested, isNone, isWorking, isWaiting}
-use Rattle.state.specs.Soundness.{unitWorks, unitWaits, worksRight, inLimit}
+use Rattle.state.specs.Requests.{requested, isNone, isWaiting}
+use Rattle.state.specs.Soundness.{unitWaits, worksRight, inLimit}
 use Rattle.state.specs.Judged.{isCounted, turnRight, unitRight}
 use Rattle.state.proofs.Everywhere.{by-place, all-places, place-inside, count-some, some-place, count-one-place, one-place-count}
 
@@ -75,13 +75,6 @@ none-idle (Waiting q) = refl
 none-idle (Displaced q) = refl
 none-idle (Working q) = refl
 
--- `isWorking` here and in the channel's theorems
-same-working : (t : Turn) → isWorking t ≡ starts.isWorking t
-same-working Idle = refl
-same-working (Waiting q) = refl
-same-working (Displaced q) = refl
-same-working (Working q) = refl
-
 busy-turn : (t : Turn) → isIdle t ≡ false → isWorking t ≡ false → isWaiting t ≡ true
 busy-turn Idle i w = true-not-false refl i
 busy-turn (Waiting q) i w = refl
@@ -121,15 +114,13 @@ module _ (m : ℕ) (frozen : Bool) (c : Channel) where
 
   one-of : countOf unitWorks (c .units) ≤ 1 → OneWorks c
   one-of h x y p q =
-      let p' : isWorking (turnAt c x) ≡ true = same-working (turnAt c x) ∙ p in
-      let q' : isWorking (turnAt c y) ≡ true = same-working (turnAt c y) ∙ q in
-      count-one-place unitWorks d (c .units) h x y (inside x p') (inside y q') p' q'
+      count-one-place unitWorks d (c .units) h x y (inside x p) (inside y q) p q
 
   works-somewhere : 1 ≤ countOf unitWorks (c .units) → isFound (workingIn c) ≡ true
   works-somewhere h = by-test (λ t. isFound (workingIn c) ≡ t → t ≡ true) (isFound (workingIn c)) (λ e q. refl) (λ e q. absurd (some-place unitWorks d (c .units) h (λ i l. fails i (isWorking (turnAt c i)) refl e))) refl
     where
       fails : (i : ℕ) (t : Bool) → isWorking (turnAt c i) ≡ t → isFound (workingIn c) ≡ false → t ≡ false
-      fails i true w e = true-not-false (works-found c i (sym (same-working (turnAt c i)) ∙ w)) e
+      fails i true w e = true-not-false (works-found c i w) e
       fails i false w e = refl
 
   alive-of : worksRight frozen (c .units) ≡ true → frozen ≡ false → (u : ℕ) → isIdle (turnAt c u) ≡ false → isFound (workingIn c) ≡ true
@@ -142,7 +133,7 @@ module _ (m : ℕ) (frozen : Bool) (c : Channel) where
       waits w = at-any unitWaits d (c .units) u (place-inside (c .units) d unitWaits refl u w) w
 
       go : (t : Bool) → isWorking (turnAt c u) ≡ t → isFound (workingIn c) ≡ true
-      go true w = works-found c u (sym (same-working (turnAt c u)) ∙ w)
+      go true w = works-found c u w
       go false w =
           let n : countOf unitWorks (c .units) ≡ 1 = eqb-true (countOf unitWorks (c .units)) 1 (unless (anyOf unitWaits (c .units)) _ rest (waits (busy-turn (turnAt c u) i w))) in
           works-somewhere (omega arith)
@@ -171,13 +162,13 @@ module _ (m : ℕ) (frozen : Bool) (c : Channel) where
         (and-both (declaredAt c u || isNone (requested (turnAt c u))) _ (k .0) (k .1)))
 
     most-one : countOf unitWorks (c .units) ≤ 1
-    most-one = one-place-count unitWorks d (c .units) (λ i j l k p q. F .one i j (sym (same-working (turnAt c i)) ∙ p) (sym (same-working (turnAt c j)) ∙ q))
+    most-one = one-place-count unitWorks d (c .units) (λ i j l k p q. F .one i j p q)
 
     found-count : isFound (workingIn c) ≡ true → 1 ≤ countOf unitWorks (c .units)
     found-count e = go (workingIn c) (working-scan c) e
       where
-        go : (w : Found) → Scanned (λ x. starts.isWorking (turnAt c x)) (size c) (beginOf (size c) 0) w → isFound w ≡ true → 1 ≤ countOf unitWorks (c .units)
-        go w (finds x l t f) q = count-some unitWorks d (c .units) x l (same-working (turnAt c x) ∙ t)
+        go : (w : Found) → Scanned (λ x. isWorking (turnAt c x)) (size c) (beginOf (size c) 0) w → isFound w ≡ true → 1 ≤ countOf unitWorks (c .units)
+        go w (finds x l t f) q = count-some unitWorks d (c .units) x l t
         go w (misses f) q = true-not-false q refl
 
     pub works-right : worksRight frozen (c .units) ≡ true
@@ -198,7 +189,7 @@ module _ (m : ℕ) (frozen : Bool) (c : Channel) where
 pub idle-facts : (m : ℕ) (frozen : Bool) (c : Channel) → c .mark < size c → ((u : ℕ) → turnAt c u ≡ Idle) → ((u : ℕ) → declaredAt c u ≡ true → 0 < m) → ChannelFacts m frozen c
 idle-facts m frozen c mark quiet pool = record {
   mark = mark;
-  one = λ x y p q. true-not-false p (ap starts.isWorking (quiet x));
+  one = λ x y p q. true-not-false p (ap isWorking (quiet x));
   ranges = λ u. rw (quiet u) tt;
   pool = pool;
   alive = λ f u i. true-not-false (ap isIdle (quiet u)) i;

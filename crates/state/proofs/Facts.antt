@@ -26,14 +26,14 @@ use Rattle.channel.specs.Units.{size, idleUnit, unitAt, declaredAt, turnAt}
 use Rattle.files.specs.declared.File.{File}
 use Rattle.files.specs.Opening.{closedFile}
 use Rattle.files.specs.Input.{hasFull}
-use Rattle.pool.specs.Free.{serves}
+use Rattle.pool.specs.Free.{poolSound, serves}
 use Rattle.pool.specs.Soundness.{inRange, hasBuffers, oneIf, takenCount, takenRight, fullRight, partRight, placeRight, restIsZero, openSound, isBlank, fileSound, shareBuffer, shareUnit, apart, filesSound}
 use Rattle.pool.proofs.Facts.{Sound, facts}
 use Rattle.pool.proofs.Facts as file
 use Rattle.state.specs.declared.State.{State}
 use Rattle.state.specs.Places.{noChannel, fileAt, channelIn, channelAt}
 use Rattle.state.specs.Requests.{requested, isNone, isRead, isWrite, fitsOutput}
-use Rattle.state.specs.Soundness.{ifOpen, channelOf, requestOf, poolInRange, fileInRange, turnInRange, unitInRange, channelInRange, numbersInRange, buffersApart, noBufferHeldTwice, hasItsOwn, unitsApart, eachHasItsOwn, unitFits, channelFits, requestsFit, worksRight, channelsWork, takenByRead, readsAloneTake, writeHasBlock, writesHaveBlocks, fullBlocksRight, partBuffersRight, placesRight, inLimit, turnInLimit, channelInLimit, attemptsInLimit, sound}
+use Rattle.state.specs.Soundness.{ifOpen, channelOf, requestOf, fileInRange, turnInRange, unitInRange, channelInRange, numbersInRange, buffersApart, noBufferHeldTwice, hasItsOwn, unitsApart, eachHasItsOwn, unitFits, channelFits, requestsFit, worksRight, channelsWork, takenByRead, readsAloneTake, writeHasBlock, writesHaveBlocks, fullBlocksRight, partBuffersRight, placesRight, inLimit, turnInLimit, channelInLimit, attemptsInLimit, sound}
 use Rattle.state.specs.Judged.{fileReady, fileFits, turnRight, unitRight, unitServed, channelRight, judged}
 use Rattle.state.proofs.Everywhere.{by-place, all-places, from-places, place-inside, pair-places}
 use Rattle.state.proofs.Apart.{buffers-swap, units-swap, apart-swap, buffers-closed, units-closed, apart-closed}
@@ -45,7 +45,7 @@ pub record Served (fs : List File) (c u : ℕ) : Type 0 where
   pub bound : serves c u (getD fs place closedFile) ≡ true
 
 pub record SoundFacts (s : State) : Type 0 where
-  pub pool : poolInRange (s .m) (s .w) ≡ true
+  pub pool : poolSound (s .m) (s .w) ≡ true
   -- every open file is sound by itself, every other is blank
   pub files : (i : ℕ) → fileAt s i .opened ≡ true → Sound (s .m) (s .w) (fileAt s i)
   pub blank : (i : ℕ) → fileAt s i .opened ≡ false → isBlank (fileAt s i) ≡ true
@@ -155,7 +155,7 @@ module _ (s : State) where
   judged-facts : judged s ≡ true → SoundFacts s
   unfolding judged filesSound fileSound fileFits channelRight unitServed
   judged-facts h =
-      let h₁ = both {a = poolInRange (s .m) (s .w)} h in
+      let h₁ = both {a = poolSound (s .m) (s .w)} h in
       let h₂ = both {a = filesSound (s .m) (s .w) (s .files)} (h₁ .1) in
       let h₃ = both {a = allOf (fileFits (s .channels)) (s .files)} (h₂ .1) in
       let f = both {a = allOf (fileSound (s .m) (s .w)) (s .files)} (h₂ .0) in
@@ -170,8 +170,8 @@ module _ (s : State) where
         ready = λ i o. and-right (declaredAt (channelOf (s .channels) (fileAt s i)) (fileAt s i .unit)) _ (unless (fileAt s i .opened) _ (fit i) o);
         channels = λ c. by-place (s .channels) noChannel (ChannelFacts (s .m) (s .frozen)) c (λ l. own c (channelAt s c) (from-at (channelRight (s .m) (s .frozen) (s .files)) noChannel (s .channels) (h₃ .1) c l)) (no-facts (s .m) (s .frozen));
         served = λ c u. by-place (s .channels) noChannel (λ x. isNone (requested (turnAt x u)) ≡ false → Served (s .files) c u) c
-          (λ l. unit c u (channelAt s c) (from-at (channelRight (s .m) (s .frozen) (s .files)) noChannel (s .channels) (h₃ .1) c l))
-          (λ n. true-not-false (ap (λ (t : Turn). isNone (requested t)) (no-idle u)) n);
+            (λ l. unit c u (channelAt s c) (from-at (channelRight (s .m) (s .frozen) (s .files)) noChannel (s .channels) (h₃ .1) c l))
+            (λ n. true-not-false (ap (λ (t : Turn). isNone (requested t)) (no-idle u)) n);
       }
     where
       own : (c : ℕ) (x : Channel) → channelRight (s .m) (s .frozen) (s .files) c x ≡ true → ChannelFacts (s .m) (s .frozen) x
@@ -205,10 +205,10 @@ module _ (s : State) where
         let p = F .served c u n in
         at-any (serves c u) closedFile (s .files) (p .place) (place-inside (s .files) closedFile (serves c u) refl (p .place) (p .bound)) (p .bound)
 
-    facts-judged : judged s ≡ true
+    pub facts-judged : judged s ≡ true
     unfolding judged filesSound fileFits channelRight unitServed
     facts-judged =
-        and-both (poolInRange (s .m) (s .w)) _ (F .pool)
+        and-both (poolSound (s .m) (s .w)) _ (F .pool)
         (and-both (filesSound (s .m) (s .w) (s .files)) _
         (and-both (allOf (fileSound (s .m) (s .w)) (s .files)) _ (at-all (fileSound (s .m) (s .w)) closedFile (s .files) (λ i l. file-of i))
         (at-pairs apart closedFile (s .files) (λ i j l k. F .apart i j (λ e. omega arith))))
@@ -255,14 +255,24 @@ module _ (s : State) where
         let h₉ = both {a = partBuffersRight s} (h₈ .1) in
         let h₁₀ = both {a = placesRight s} (h₉ .1) in
         record {
-          numbers = h₁ .0; buffers = h₂ .0; own = h₃ .0; requests = h₄ .0; work = h₅ .0; reads = h₆ .0;
-          writes = h₇ .0; full = h₈ .0; part = h₉ .0; places = h₁₀ .0; limits = h₁₀ .1 }
+          numbers = h₁ .0;
+          buffers = h₂ .0;
+          own = h₃ .0;
+          requests = h₄ .0;
+          work = h₅ .0;
+          reads = h₆ .0;
+          writes = h₇ .0;
+          full = h₈ .0;
+          part = h₉ .0;
+          places = h₁₀ .0;
+          limits = h₁₀ .1;
+        }
 
     ranges-at : (i : ℕ) → fileInRange (s .w) (fileAt s i) ≡ true
     unfolding numbersInRange isBlank
     ranges-at =
         all-places (s .files) closedFile (fileInRange (s .w)) refl
-        (and-left (allOf (fileInRange (s .w)) (s .files)) _ (and-right (poolInRange (s .m) (s .w)) _ (parts .numbers)))
+        (and-left (allOf (fileInRange (s .w)) (s .files)) _ (and-right (poolSound (s .m) (s .w)) _ (parts .numbers)))
 
     own-at : (i : ℕ) → fileAt s i .opened ≡ true → (hasBuffers (s .m) (fileAt s i) && declaredAt (channelOf (s .channels) (fileAt s i)) (fileAt s i .unit)) ≡ true
     unfolding eachHasItsOwn
@@ -350,7 +360,7 @@ module _ (s : State) where
         by-place (s .channels) noChannel (ChannelFacts (s .m) (s .frozen)) c
         (λ l.
         inside (channelAt s c)
-        (all-at (channelInRange (s .m)) noChannel (s .channels) (and-right (allOf (fileInRange (s .w)) (s .files)) _ (and-right (poolInRange (s .m) (s .w)) _ (parts .numbers))) c l)
+        (all-at (channelInRange (s .m)) noChannel (s .channels) (and-right (allOf (fileInRange (s .w)) (s .files)) _ (and-right (poolSound (s .m) (s .w)) _ (parts .numbers))) c l)
         (all-at channelInLimit noChannel (s .channels) (parts .limits) c l)
         (all-at (λ (x : Channel). worksRight (s .frozen) (x .units)) noChannel (s .channels) (parts .work) c l))
         (no-facts (s .m) (s .frozen))
@@ -363,14 +373,14 @@ module _ (s : State) where
     pub sound-facts : SoundFacts s
     unfolding apart fileReady numbersInRange
     sound-facts = record {
-      pool = and-left (poolInRange (s .m) (s .w)) _ (parts .numbers);
+      pool = and-left (poolSound (s .m) (s .w)) _ (parts .numbers);
       files = λ i o. from-clauses (s .m) (s .w) (fileAt s i) o (clauses-at i o) (taken-right (requestOf (s .channels) (fileAt s i)) (fileAt s i) (way-at i o) (taken-at i o));
       blank = λ i o. sym (cond-false (inRange (s .w) (fileAt s i) && restIsZero (fileAt s i)) (isBlank (fileAt s i)) o) ∙ ranges-at i;
       apart = λ i j ne. and-both (not (shareBuffer (fileAt s i) (fileAt s j))) _ (buffers-at i j ne) (units-at i j ne);
       declared = λ i o. and-right (hasBuffers (s .m) (fileAt s i)) _ (own-at i o);
       ready = λ i o.
-        and-both (fitsOutput (requestOf (s .channels) (fileAt s i)) (fileAt s i .output)) _ (way-at i o)
-        (and-both (eqb (takenCount (fileAt s i)) (oneIf (isRead (requestOf (s .channels) (fileAt s i))))) _ (taken-at i o) (block-at i o));
+          and-both (fitsOutput (requestOf (s .channels) (fileAt s i)) (fileAt s i .output)) _ (way-at i o)
+          (and-both (eqb (takenCount (fileAt s i)) (oneIf (isRead (requestOf (s .channels) (fileAt s i))))) _ (taken-at i o) (block-at i o));
       channels = channel-at;
       served = λ c u n. let p = served-fits c u n in record { place = p .place; bound = and-left (serves c u (fileAt s (p .place))) _ (p .passes) };
     }
@@ -397,7 +407,7 @@ module _ (s : State) where
     numbers-of : numbersInRange s ≡ true
     unfolding numbersInRange
     numbers-of =
-        and-both (poolInRange (s .m) (s .w)) _ (F .pool)
+        and-both (poolSound (s .m) (s .w)) _ (F .pool)
         (and-both (allOf (fileInRange (s .w)) (s .files)) _ (at-all (fileInRange (s .w)) closedFile (s .files) (λ i l. one i (fileAt s i .opened) refl))
         (at-all (channelInRange (s .m)) noChannel (s .channels) (λ c l.
         and-both (ltb (channelAt s c .mark) (size (channelAt s c))) _ (mark-right (s .m) (s .frozen) (channelAt s c) (F .channels c))

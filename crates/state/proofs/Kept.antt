@@ -91,12 +91,14 @@ module _ (s : State) (c i : ℕ) (x : Channel) (f : File) (F : SoundFacts s) (R 
     where
       go : Dec (n ≡ c) → (requested (turnAt (channelIn cs n) u) ≡ requested (turnAt (channelAt s n) u)) × (declaredAt (channelIn cs n) u ≡ declaredAt (channelAt s n) u)
       go (yes e) =
-          let o = R .others u (differ e) in
-          (ap (λ (y : Channel). requested (turnAt y u)) (here-channel n e) ∙ o .0 ∙ ap (λ (k : ℕ). requested (turnAt (channelAt s k) u)) (sym e),
-          ap (λ (y : Channel). declaredAt y u) (here-channel n e) ∙ o .1 ∙ ap (λ (k : ℕ). declaredAt (channelAt s k) u) (sym e))
-      go (no ne) =
-          (ap (λ (y : Channel). requested (turnAt y u)) (getD-set-other (s .channels) c n x noChannel ne),
-          ap (λ (y : Channel). declaredAt y u) (getD-set-other (s .channels) c n x noChannel ne))
+          let o = R .others u (differ e) in (
+            ap (λ (y : Channel). requested (turnAt y u)) (here-channel n e) ∙ o .0 ∙ ap (λ (k : ℕ). requested (turnAt (channelAt s k) u)) (sym e),
+            ap (λ (y : Channel). declaredAt y u) (here-channel n e) ∙ o .1 ∙ ap (λ (k : ℕ). declaredAt (channelAt s k) u) (sym e),
+          )
+      go (no ne) = (
+        ap (λ (y : Channel). requested (turnAt y u)) (getD-set-other (s .channels) c n x noChannel ne),
+        ap (λ (y : Channel). declaredAt y u) (getD-set-other (s .channels) c n x noChannel ne),
+      )
 
   other-file : (j : ℕ) → j ≢ i → fileAt s j .opened ≡ true → fileAt s j .channel ≡ c → fileAt s j .unit ≢ f .unit
   other-file j ne o e u = units-differ f (fileAt s j) (R .apart j ne) (R .opened) o (e ∙ sym (R .channel)) u
@@ -136,11 +138,11 @@ module _ (s : State) (c i : ℕ) (x : Channel) (f : File) (F : SoundFacts s) (R 
     blank = at-place (s .files) i f closedFile (R .place) (λ j g. g .opened ≡ false → isBlank g ≡ true) (λ o. true-not-false (R .opened) o) (λ j ne. F .blank j);
     apart = apart-now;
     declared = at-place (s .files) i f closedFile (R .place) (λ j g. g .opened ≡ true → declaredAt (channelIn cs (g .channel)) (g .unit) ≡ true)
-      (λ o. ap (λ (y : Channel). declaredAt y (f .unit)) (here-channel (f .channel) (R .channel)) ∙ R .declared)
-      (λ j ne o. other-unit (fileAt s j .channel) (fileAt s j .unit) (other-file j ne o) .1 ∙ F .declared j o);
+        (λ o. ap (λ (y : Channel). declaredAt y (f .unit)) (here-channel (f .channel) (R .channel)) ∙ R .declared)
+        (λ j ne o. other-unit (fileAt s j .channel) (fileAt s j .unit) (other-file j ne o) .1 ∙ F .declared j o);
     ready = at-place (s .files) i f closedFile (R .place) (λ j g. g .opened ≡ true → fileReady (requested (turnAt (channelIn cs (g .channel)) (g .unit))) g ≡ true)
-      (λ o. ap (λ (y : Channel). fileReady (requested (turnAt y (f .unit))) f) (here-channel (f .channel) (R .channel)) ∙ R .ready)
-      (λ j ne o. ap (λ (r : Work). fileReady r (fileAt s j)) (other-unit (fileAt s j .channel) (fileAt s j .unit) (other-file j ne o) .0) ∙ F .ready j o);
+        (λ o. ap (λ (y : Channel). fileReady (requested (turnAt y (f .unit))) f) (here-channel (f .channel) (R .channel)) ∙ R .ready)
+        (λ j ne o. ap (λ (r : Work). fileReady r (fileAt s j)) (other-unit (fileAt s j .channel) (fileAt s j .unit) (other-file j ne o) .0) ∙ F .ready j o);
     channels = at-place (s .channels) c x noChannel (R .line) (λ n y. ChannelFacts (s .m) (s .frozen) y) (R .facts) (λ n ne. F .channels n);
     served = served-now;
   }
@@ -265,8 +267,8 @@ close-kept s i F o quiet = record {
   files = at-place (s .files) i closedFile closedFile place (λ j g. g .opened ≡ true → Sound (s .m) (s .w) g) (λ p. true-not-false p refl) (λ j ne. F .files j);
   blank = at-place (s .files) i closedFile closedFile place (λ j g. g .opened ≡ false → isBlank g ≡ true) (λ p. refl) (λ j ne. F .blank j);
   apart = at-place (s .files) i closedFile closedFile place (λ j g. (k : ℕ) → j ≢ k → apart g (getD fs k closedFile) ≡ true)
-    (λ k ne. apart-swap (getD fs k closedFile) closedFile (apart-closed (getD fs k closedFile)))
-    (λ j ne. at-place (s .files) i closedFile closedFile place (λ k g. j ≢ k → apart (fileAt s j) g ≡ true) (λ q. apart-closed (fileAt s j)) (λ k p q. F .apart j k q));
+      (λ k ne. apart-swap (getD fs k closedFile) closedFile (apart-closed (getD fs k closedFile)))
+      (λ j ne. at-place (s .files) i closedFile closedFile place (λ k g. j ≢ k → apart (fileAt s j) g ≡ true) (λ q. apart-closed (fileAt s j)) (λ k p q. F .apart j k q));
   declared = at-place (s .files) i closedFile closedFile place (λ j g. g .opened ≡ true → declaredAt (channelOf (s .channels) g) (g .unit) ≡ true) (λ p. true-not-false p refl) (λ j ne. F .declared j);
   ready = at-place (s .files) i closedFile closedFile place (λ j g. g .opened ≡ true → fileReady (requestOf (s .channels) g) g ≡ true) (λ p. true-not-false p refl) (λ j ne. F .ready j);
   channels = F .channels;

@@ -4,5 +4,6 @@ pub mod Apart
 pub mod ChannelFacts
 pub mod ChannelCalls
 pub mod Facts
+pub mod Buffers
 pub mod Kept
 pub mod Wholes

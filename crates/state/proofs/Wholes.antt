@@ -16,12 +16,12 @@ use Rattle.channel.specs.Units.{size, declaredAt, turnAt, freshWith, bitsFrom, 
 use Rattle.channel.specs.Turns.{thawOf}
 use Rattle.files.specs.declared.File.{File}
 use Rattle.files.specs.Opening.{closedFile}
-use Rattle.pool.specs.Free.{fileCount}
+use Rattle.pool.specs.Free.{fileCount, poolSound}
 use Rattle.pool.specs.Soundness.{isBlank}
 use Rattle.state.specs.declared.State.{State}
 use Rattle.state.specs.Places.{channelCount, noChannel, beforeStart, fileAt, channelIn, channelAt}
 use Rattle.state.specs.Requests.{requested, isNone}
-use Rattle.state.specs.Soundness.{poolInRange, sound}
+use Rattle.state.specs.Soundness.{sound}
 use Rattle.state.specs.Judged.{fileReady}
 use Rattle.state.proofs.Lookups.{any-default}
 use Rattle.state.proofs.Everywhere.{by-place}
@@ -32,7 +32,7 @@ use Rattle.state.proofs.Facts.{SoundFacts, facts-sound}
 
 -- ---- no file open, and nothing requested
 
-pub blank-facts : (s : State) → poolInRange (s .m) (s .w) ≡ true → ((i : ℕ) → fileAt s i ≡ closedFile) → ((c : ℕ) → ChannelFacts (s .m) (s .frozen) (channelAt s c))
+pub blank-facts : (s : State) → poolSound (s .m) (s .w) ≡ true → ((i : ℕ) → fileAt s i ≡ closedFile) → ((c : ℕ) → ChannelFacts (s .m) (s .frozen) (channelAt s c))
     → ((c u : ℕ) → turnAt (channelAt s c) u ≡ Idle) → SoundFacts s
 unfolding isBlank
 blank-facts s pool shut channels quiet = record {
@@ -75,7 +75,7 @@ fresh-quiet : (mask u : ℕ) → turnAt (freshOf mask) u ≡ Idle
 unfolding freshOf
 fresh-quiet mask u = fresh-idle _ u
 
-pub fresh-sound : (m w : ℕ) (masks : List ℕ) (n : ℕ) → poolInRange m w ≡ true → 0 < m → sound (freshState m w masks n) ≡ true
+pub fresh-sound : (m w : ℕ) (masks : List ℕ) (n : ℕ) → poolSound m w ≡ true → 0 < m → sound (freshState m w masks n) ≡ true
 fresh-sound m w masks n pool some =
     facts-sound (freshState m w masks n)
     (blank-facts (freshState m w masks n) pool (closed-files n)
@@ -89,7 +89,12 @@ frozenState s = record { m = s .m; w = s .w; frozen = true; channels = s .channe
 
 pub freeze-kept : (s : State) → SoundFacts s → SoundFacts (frozenState s)
 freeze-kept s F = record {
-  pool = F .pool; files = F .files; blank = F .blank; apart = F .apart; declared = F .declared; ready = F .ready;
+  pool = F .pool;
+  files = F .files;
+  blank = F .blank;
+  apart = F .apart;
+  declared = F .declared;
+  ready = F .ready;
   channels = λ c. freeze-facts (s .m) (s .frozen) (channelAt s c) (F .channels c);
   served = F .served;
 }

@@ -15,11 +15,11 @@ use Rattle.channel.specs.declared.Work.{Work}
 use Rattle.channel.specs.Units.{size, declaredAt}
 use Rattle.files.specs.declared.File.{File}
 use Rattle.files.specs.Input.{hasFull}
-use Rattle.pool.specs.Free.{serves}
+use Rattle.pool.specs.Free.{poolSound, serves}
 use Rattle.pool.specs.Soundness.{oneIf, takenCount, filesSound}
 use Rattle.state.specs.declared.State.{State}
 use Rattle.state.specs.Requests.{requested, isNone, isRead, isWrite, fitsOutput}
-use Rattle.state.specs.Soundness.{channelOf, requestOf, poolInRange, worksRight, inLimit}
+use Rattle.state.specs.Soundness.{channelOf, requestOf, worksRight, inLimit}
 
 -- ---- a file with its unit
 
@@ -53,7 +53,7 @@ channelRight m frozen fs c x = ltb (x .mark) (size x) && (allOf (unitRight m) (x
 
 unfoldable pub judged : State → Bool
 judged s =
-    poolInRange (s .m) (s .w)
+    poolSound (s .m) (s .w)
     && (filesSound (s .m) (s .w) (s .files)
     && (allOf (fileFits (s .channels)) (s .files)
     && allFrom (channelRight (s .m) (s .frozen) (s .files)) 0 (s .channels)))

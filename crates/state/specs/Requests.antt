@@ -47,12 +47,6 @@ abbrev pub fitsOutput : Work → Bool → Bool
 fitsOutput (At op) output = opFits op output
 fitsOutput Nothing output = true
 
-abbrev pub isWorking : Turn → Bool
-isWorking Idle = false
-isWorking (Waiting q) = false
-isWorking (Displaced q) = false
-isWorking (Working q) = true
-
 -- a request that waits, displaced or not
 abbrev pub isWaiting : Turn → Bool
 isWaiting Idle = false

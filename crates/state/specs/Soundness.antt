@@ -13,14 +13,15 @@ use Rattle.channel.specs.declared.Unit.{Unit}
 use Rattle.channel.specs.declared.Channel.{Channel}
 use Rattle.channel.specs.declared.Work.{Work}
 use Rattle.channel.specs.Rules.{rowOf}
+use Rattle.channel.specs.Sound.{unitWorks}
 use Rattle.channel.specs.Units.{size, declaredAt, turnAt}
 use Rattle.files.specs.declared.File.{File}
 use Rattle.files.specs.Input.{hasFull}
-use Rattle.pool.specs.Free.{serves, bufferLimit}
+use Rattle.pool.specs.Free.{poolSound, serves}
 use Rattle.pool.specs.Soundness.{inRange, hasBuffers, oneIf, takenCount, fullRight, partRight, placeRight, restIsZero, isBlank, shareBuffer, shareUnit}
 use Rattle.state.specs.declared.State.{State}
 use Rattle.state.specs.Places.{channelIn}
-use Rattle.state.specs.Requests.{requested, isNone, isRead, isWrite, fitsOutput, isWorking, isWaiting}
+use Rattle.state.specs.Requests.{requested, isNone, isRead, isWrite, fitsOutput, isWaiting}
 
 -- ---- what the clauses speak of
 
@@ -36,10 +37,6 @@ abbrev pub requestOf : List Channel → File → Work
 requestOf cs f = requested (turnAt (channelOf cs f) (f .unit))
 
 -- ---- "its numbers are in the ranges here"
-
--- "m from 1 to 32, W from 1 to 1,024"; "Before the first fresh start: no buffers (m and W are 0)"
-abbrev pub poolInRange : ℕ → ℕ → Bool
-poolInRange m w = ((leb 1 m && leb m bufferLimit) && (leb 1 w && leb w 1024)) || (eqb m 0 && eqb w 0)
 
 -- an open file's sizes, block number and check errors, and zero for what has no meaning; a closed file is all zero
 abbrev pub fileInRange : ℕ → File → Bool
@@ -60,8 +57,9 @@ unitInRange m x = (not (x .declared) || ltb 0 m) && turnInRange (x .declared) (x
 abbrev pub channelInRange : ℕ → Channel → Bool
 channelInRange m c = ltb (c .mark) (size c) && allOf (unitInRange m) (c .units)
 
+-- "m from 1 to 32, W from 1 to 1,024"; "Before the first fresh start: no buffers (m and W are 0)"
 unfoldable pub numbersInRange : State → Bool
-numbersInRange s = poolInRange (s .m) (s .w) && (allOf (fileInRange (s .w)) (s .files) && allOf (channelInRange (s .m)) (s .channels))
+numbersInRange s = poolSound (s .m) (s .w) && (allOf (fileInRange (s .w)) (s .files) && allOf (channelInRange (s .m)) (s .channels))
 
 -- ---- "no buffer is held by two files"
 
@@ -95,9 +93,6 @@ unfoldable pub requestsFit : State → Bool
 requestsFit s = allFrom (channelFits (s .files)) 0 (s .channels)
 
 -- ---- "each channel works for at most one unanswered request, and for one if it is not frozen and any waits"
-
-abbrev pub unitWorks : Unit → Bool
-unitWorks x = isWorking (x .turn)
 
 abbrev pub unitWaits : Unit → Bool
 unitWaits x = isWaiting (x .turn)

@@ -15,9 +15,10 @@ ghost use mathlib.Core.Path.{_≡_};
 ghost use Prim.Native.Nat.{_≤_};
 ghost use Rattle.area.specs.Lists.{anyOf, allOf, countOf};
 ghost use Rattle.area.specs.Numbered.{allFrom};
+ghost use Rattle.channel.specs.Sound.{unitWorks};
 ghost use Rattle.channel.specs.Units.{unitCount};
 ghost use Rattle.pool.specs.Free.{serves as servesUnit};
-ghost use Rattle.state.specs.Soundness.{unitWorks, unitWaits, worksRight};
+ghost use Rattle.state.specs.Soundness.{unitWaits, worksRight};
 ghost use Rattle.state.specs.Judged.{unitRight, unitServed, channelRight};
 
 // Whether every unit is declared and counted as it may be.

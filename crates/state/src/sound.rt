@@ -3,18 +3,10 @@ use crate::State;
 use crate::channels::channels_right;
 use crate::fits::files_fit;
 use pool::files_sound;
+use pool::pool_sound;
 ghost use mathlib.Core.Path.{_≡_};
-ghost use Rattle.state.specs.Soundness.{poolInRange, sound};
+ghost use Rattle.state.specs.Soundness.{sound};
 ghost use Rattle.state.specs.Judged.{judged};
-
-// A pool has 1 to 32 buffers of 1 to 1,024 words; before the first fresh start it has none.
-fn pool_in_range(m: u8, w: u16) -> bool
-    ensures { λ r. ⌜ r ≡ poolInRange m w ⌝ }
-{
-    let some = ((1 <= m) & (m <= 32)) & ((1 <= w) & (w <= 1024));
-    let none = (m == 0) & (w == 0);
-    some | none
-}
 
 // Document 01's paragraph in four passes: the pool, each file and every two, each file with its unit, each channel.
 fn is_judged(s: State) -> bool
@@ -22,7 +14,7 @@ fn is_judged(s: State) -> bool
 {
     let files = s.files;
     let channels = s.channels;
-    let pool = pool_in_range(s.m, s.w);
+    let pool = pool_sound(s.m, s.w);
     let own = files_sound(s.m, s.w, files);
     let fits = files_fit(channels, files);
     let turns = channels_right(s.m, s.frozen, files, channels);

@@ -7,7 +7,8 @@ use channel::Work;
 ghost use mathlib.Core.Path.{_≡_};
 ghost use mathlib.Core.Bool.{_&&_};
 ghost use Rattle.channel.specs.Rules.{rowOf};
-ghost use Rattle.state.specs.Requests.{requested as requestedOf, isNone, isReadOp, isWriteOp, opFits, isRead, isWrite, fitsOutput, isWorking, isWaiting};
+ghost use Rattle.channel.specs.Sound.{isWorking};
+ghost use Rattle.state.specs.Requests.{requested as requestedOf, isNone, isReadOp, isWriteOp, opFits, isRead, isWrite, fitsOutput, isWaiting};
 ghost use Rattle.state.specs.Soundness.{inLimit};
 ghost use Rattle.state.specs.Judged.{isCounted, turnRight, unitRight};
 

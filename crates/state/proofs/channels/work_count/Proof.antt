@@ -8,7 +8,7 @@ use lib.ListN.{length, drop}
 use Rattle.area.specs.Lists.{countOf}
 use Rattle.area.proofs.Walks.{count-hit, count-miss, count-done}
 use Rattle.channel.specs.Units.{unitCount, idleUnit}
-use Rattle.state.specs.Soundness.{unitWorks}
+use Rattle.channel.specs.Sound.{unitWorks}
 use Rattle.state.proofs.channels.work_count.Statement.{statement}
 use Rattle.state.proofs.channels.work_count.Tie as tie
 use Rattle.state.proofs.channels.work_count.Reads as reads

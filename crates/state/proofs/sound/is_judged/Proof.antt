@@ -7,11 +7,10 @@ use Rattle.state.proofs.sound.is_judged.Lts as lts
 use Rattle.pool.proofs.files_sound.Reads as files-sound-reads
 use Rattle.state.proofs.channels.channels_right.Reads as channels-right-reads
 use Rattle.state.proofs.fits.files_fit.Reads as files-fit-reads
-use Rattle.state.proofs.sound.pool_in_range.Reads as pool-in-range-reads
 
 -- src/sound.rt:25:9
-pool-in-range-requires : tie.Need-pool-in-range-requires
-pool-in-range-requires c κs = search needs
+pool-sound-requires : tie.Need-pool-sound-requires
+pool-sound-requires c κs = search needs
 
 -- src/sound.rt:26:9
 files-sound-requires : tie.Need-files-sound-requires
@@ -28,13 +27,13 @@ channels-right-requires c κs = search needs
 -- src/sound.rt:20:1
 returns : tie.Need-returns
 unfolding judged
-returns c = simp (c .before .before .before .pool-in-range .ensures, c .before .before .files-sound .ensures, c .before .files-fit .ensures, c .channels-right .ensures)
+returns c = simp (c .before .before .before .pool-sound .ensures, c .before .before .files-sound .ensures, c .before .files-fit .ensures, c .channels-right .ensures)
 
 pub is-judged-spec : {M : Type 1} → statement M
 is-judged-spec =
     tie.close
     (tie.spec
-    pool-in-range-requires
+    pool-sound-requires
     files-sound-requires
     files-fit-requires
     channels-right-requires
