@@ -23,7 +23,8 @@ use Rattle.channel.specs.declared.Verdict.{Verdict}
 use Rattle.channel.specs.declared.Verdict.the-variants.{Refused, Repeats, Ends}
 use Rattle.channel.specs.Rules.{isAllowed, isFailure, isPermanent, nextAttempt, endingOf, verdictOf, resultNumber, refusalNumber}
 use Rattle.channel.specs.Units.{turnAt, hasRequest, workOf, operationAt}
-use Rattle.channel.specs.Turns.{workingIn, unitNumber, judgeTurn, judgeOf, bookOf}
+use Rattle.channel.specs.Scans.{workingIn, unitNumber}
+use Rattle.channel.specs.Turns.{judgeTurn, judgeOf, bookOf}
 use Rattle.files.specs.declared.File.{File}
 use Rattle.files.specs.Opening.{extra}
 use Rattle.files.specs.Input.{hasEmpty, hasFull, blockFits}

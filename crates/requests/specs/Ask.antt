@@ -8,7 +8,8 @@ use Rattle.channel.specs.declared.Op.{Op}
 use Rattle.channel.specs.declared.Op.the-variants.{Read, Write, Mark}
 use Rattle.channel.specs.declared.Channel.{Channel}
 use Rattle.channel.specs.Units.{hasRequest}
-use Rattle.channel.specs.Turns.{workingIn, unitNumber, askOf}
+use Rattle.channel.specs.Scans.{workingIn, unitNumber}
+use Rattle.channel.specs.Turns.{askOf}
 use Rattle.files.specs.declared.File.{File}
 use Rattle.files.specs.Input.{hasEmpty, hasFull, tookBuffer}
 use Rattle.files.specs.Output.{hasUnsent}

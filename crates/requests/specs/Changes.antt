@@ -9,4 +9,4 @@ use Rattle.state.specs.Places.{withFile, withChannel}
 
 -- the file i and the channel j are replaced; "A refusal returns the number alone and changes nothing."
 unfoldable pub changedState : State → ℕ → ℕ → ℕ → File → Channel → State
-changedState s i j refusal f c = cond (eqb refusal 0) (withChannel (withFile s i f) j c) s
+changedState s i j refusal f c = cond (eqb refusal 0) (withFile (withChannel s j c) i f) s

@@ -17,7 +17,8 @@ use Rattle.channel.specs.declared.Channel.{Channel}
 use Rattle.channel.specs.declared.Verdict.{Verdict}
 use Rattle.channel.specs.Rules.{isAllowed, resultNumber, refusalNumber}
 use Rattle.channel.specs.Units.{operationAt}
-use Rattle.channel.specs.Turns.{workingIn, unitNumber, judgeOf, bookOf}
+use Rattle.channel.specs.Scans.{workingIn, unitNumber}
+use Rattle.channel.specs.Turns.{judgeOf, bookOf}
 use Rattle.files.specs.declared.File.{File}
 use Rattle.files.specs.Sides.{startAt, takenSide}
 use Rattle.files.specs.Opening.{extra}

@@ -3,10 +3,15 @@
 // the change. It knows nothing of open, get, put and the other calls.
 mod asks;
 mod blocks;
+mod calls;
+mod changes;
 mod effects;
 mod reports;
 
 pub use asks::ask_on;
+pub use calls::ask;
+pub use calls::report;
+pub use calls::reported_words;
 use channel::Channel;
 use files::File;
 pub use reports::report_on;
