@@ -1,3 +1,5 @@
 pub mod Found
 pub mod Wholes
 pub mod Ready
+pub mod Changed
+pub mod AskTheorems
