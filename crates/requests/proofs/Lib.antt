@@ -3,3 +3,4 @@ pub mod Wholes
 pub mod Ready
 pub mod Changed
 pub mod AskTheorems
+pub mod ReportTheorems
