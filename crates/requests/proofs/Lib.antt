@@ -4,3 +4,4 @@ pub mod Ready
 pub mod Changed
 pub mod AskTheorems
 pub mod ReportTheorems
+pub mod ReportWords
