@@ -1,14 +1,11 @@
 -- The promises of ask: refused exactly by its table, a sound state kept, nothing else touched, one event of its channel. Assumes nothing.
-use mathlib.Core.Path.{_≡_, refl, sym, ap, subst, _∙_}
-use mathlib.Core.Logic.{_≢_}
-use mathlib.Core.Bool.{Bool, true, false, not, cond, _&&_, _||_}
-use mathlib.Core.Option.{Option, none, some}
-use Prim.Native.Nat.{ℕ, _≤_, _<_}
+use mathlib.Core.Path.{_≡_, refl, sym, ap, _∙_}
+use mathlib.Core.Bool.{Bool, true, false, not, _&&_, _||_}
+use mathlib.Core.Option.{none, some}
+use Prim.Native.Nat.{ℕ}
 use native.Mathlib.Decide.{ℕ-discrete}
 use native.Mathlib.Omega.{arith}
-use lib.Dec.{ltb, eqb}
-use lib.ListN.{length}
-use borrow.Author.Tests.{not-true}
+use lib.Dec.{ltb}
 use Rattle.area.proofs.Walks.{true-not-false, and-both, or-left, or-right}
 use Rattle.area.proofs.Lowest.{lowest-none}
 use Rattle.area.proofs.Exactly.{Exactly, exactly}
@@ -17,12 +14,10 @@ use Rattle.channel.specs.declared.Turn.{Turn}
 use Rattle.channel.specs.declared.Turn.the-variants.{Idle, Waiting, Displaced, Working}
 use Rattle.channel.specs.declared.Channel.{Channel}
 use Rattle.channel.specs.declared.Asked.{Asked}
-use Rattle.channel.specs.declared.Work.{Work}
-use Rattle.channel.specs.declared.Work.the-variants.{At, Nothing}
+use Rattle.channel.specs.declared.Work.the-variants.{At}
 use Rattle.channel.specs.Units.{declaredAt, turnAt, isIdle, hasRequest, acceptsAt}
-use Rattle.channel.specs.Turns.{askOf}
-use Rattle.channel.specs.History.{Station, station, ask, accepted, stepTo, askStep, step}
-use Rattle.channel.specs.Lifted.{Shown, Agrees}
+use Rattle.channel.specs.History.{station, ask, accepted, stepTo, askStep, step}
+use Rattle.channel.specs.Lifted.{Agrees}
 use Rattle.channel.proofs.Laws.Turns as turns
 use Rattle.files.specs.declared.File.{File}
 use Rattle.files.specs.Input.{hasEmpty, hasFull}
@@ -34,14 +29,13 @@ use Rattle.state.specs.Requests.{requested, isRead}
 use Rattle.state.specs.Soundness.{sound}
 use Rattle.state.proofs.Facts.{SoundFacts, sound-facts, facts-sound}
 use Rattle.state.proofs.ChannelCalls.{ask-moved}
-use Rattle.state.proofs.Kept.{line-of, place-of}
+use Rattle.state.proofs.Kept.{line-of}
 use Rattle.requests.specs.declared.AskChange.{AskChange}
 use Rattle.requests.specs.declared.Asking.{Asking}
 use Rattle.requests.specs.Ask.{isReading, isWriting, isMarking, isPriority, opOf, askRows, askRefusal, askedFile, askedChannel, askOn, askWrong, askBy}
-use Rattle.requests.specs.Changes.{changedState}
 use Rattle.requests.proofs.Found.{ask-refused, ask-taken}
-use Rattle.requests.proofs.Ready.{ready-facts, Kind, kind, asked-file}
-use Rattle.requests.proofs.Changed.{Frame, changed-refused, changed-taken, changed-frame, here-file, here-channel, became-sound}
+use Rattle.requests.proofs.Ready.{not-false, ready-facts, kind, asked-file}
+use Rattle.requests.proofs.Changed.{Frame, changed-refused, changed-taken, changed-frame, here-channel, became-sound}
 
 -- ---- what an accepted ask found
 
@@ -54,10 +48,6 @@ pub record AskReady (wrong : Bool) (f : File) (c : Channel) (op priority : ℕ) 
   pub buffer : ((isReading op && not (hasEmpty f)) || (isWriting op && not (hasFull f))) ≡ false
   pub unmarked : (isReading op && f .marked) ≡ false
   pub sent : (isMarking op && hasUnsent f) ≡ false
-
-not-false : (b : Bool) → not b ≡ false → b ≡ true
-not-false true e = refl
-not-false false e = true-not-false refl e
 
 pub ask-ready : (wrong : Bool) (f : File) (c : Channel) (op priority : ℕ) → askRefusal wrong f c op priority ≡ 0 → AskReady wrong f c op priority
 unfolding askRefusal
@@ -123,9 +113,10 @@ module _ (s : State) (file op priority : ℕ) where
   -- refused: the number alone, and the state that was passed
   ask-alone : (refusal ≡ 0 → ⊥) → (asked .state ≡ s) × (asked .working ≡ 0)
   unfolding askBy
-  ask-alone h =
-      (changed-refused s file (f .channel) _ _ _ (λ z. h (sym (refused-change h) ∙ z)),
-      ap (λ (x : AskChange). x .working) (ask-refused (askWrong s file) f c op priority (s .frozen) refusal refl h))
+  ask-alone h = (
+    changed-refused s file (f .channel) _ _ _ (λ z. h (sym (refused-change h) ∙ z)),
+    ap (λ (x : AskChange). x .working) (ask-refused (askWrong s file) f c op priority (s .frozen) refusal refl h),
+  )
 
   -- "Given exactly when": refused with a number exactly if its row applies and no lower one does; a refusal changes nothing
   pub record AskExactly : Type 0 where

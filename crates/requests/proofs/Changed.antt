@@ -1,10 +1,10 @@
 -- Laws of `changedState`: what a call on one file and one channel leaves alone, and a change that keeps a sound state sound. Assumes nothing.
-use mathlib.Core.Path.{_≡_, refl, sym, ap, subst, _∙_}
+use mathlib.Core.Path.{_≡_, refl, ap, subst, _∙_}
 use mathlib.Core.Logic.{_≢_}
 use mathlib.Core.Bool.{Bool, true, false, cond}
-use Prim.Native.Nat.{ℕ, _≤_, _<_}
+use Prim.Native.Nat.{ℕ, _<_}
 use lib.Dec.{eqb}
-use lib.ListN.{length, getD, set, length-set}
+use lib.ListN.{length, length-set}
 use lib.Seq.{getD-set-same, getD-set-other}
 use borrow.Author.Tests.{ne-eqb}
 use Rattle.channel.specs.declared.Channel.{Channel}
@@ -56,7 +56,13 @@ module _ (s : State) (i j n : ℕ) (f : File) (c : Channel) where
         channelCount = length-set (s .channels) j c;
       }
       go false = record {
-        buffers = refl; words = refl; frozen = refl; files = λ k ne. refl; channels = λ k ne. refl; fileCount = refl; channelCount = refl;
+        buffers = refl;
+        words = refl;
+        frozen = refl;
+        files = λ k ne. refl;
+        channels = λ k ne. refl;
+        fileCount = refl;
+        channelCount = refl;
       }
 
   pub here-file : n ≡ 0 → i < length (s .files) → fileAt (changedState s i j n f c) i ≡ f

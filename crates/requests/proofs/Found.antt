@@ -2,17 +2,17 @@
 use mathlib.Core.Path.{_≡_, refl, sym, ap, _∙_}
 use mathlib.Core.Bool.{Bool, true, false, not, cond, _&&_, _||_}
 use mathlib.Core.List.{List, [], _∷_}
-use Prim.Native.Nat.{ℕ, _+_, _-_, _≤_, _<_}
+use Prim.Native.Nat.{ℕ, _+_, _≤_}
 use native.Mathlib.Omega.{arith}
 use lib.Dec.{leb, ltb, eqb}
 use lib.ListN.{length}
-use borrow.Author.Tests.{eq-eqb, ne-eqb, lt-ltb, leb-true, leb-false, le-ltb, not-true}
-use Rattle.area.proofs.Walks.{by-test, and-left, and-right, and-both, true-not-false}
-use Rattle.area.proofs.Lowest.{lowest-here, lowest-past, lowest-none}
-use Rattle.area.proofs.Exactly.{Shorter, end, keep, skip, shorter-same}
+use borrow.Author.Tests.{ne-eqb, lt-ltb, leb-true, leb-false, le-ltb}
+use Rattle.area.proofs.Walks.{and-left, and-right, true-not-false}
+use Rattle.area.proofs.Lowest.{lowest-none}
+use Rattle.area.proofs.Exactly.{end, keep, skip, shorter-same}
 use Rattle.area.specs.Lists.{allOf}
 use Rattle.area.specs.Parts.{isWord, partOf}
-use Rattle.area.specs.Refusals.{Rows, lowest}
+use Rattle.area.specs.Refusals.{lowest}
 use Rattle.channel.specs.declared.Request.{Request}
 use Rattle.channel.specs.declared.Turn.{Turn}
 use Rattle.channel.specs.declared.Turn.the-variants.{Idle, Waiting, Displaced, Working}
@@ -31,12 +31,11 @@ use Rattle.files.specs.Input.{hasEmpty, hasFull, blockFits}
 use Rattle.files.specs.Output.{hasUnsent}
 use Rattle.word.specs.declared.blocks.Judged.{Judged}
 use Rattle.word.specs.Blocks.{isNumber, judgeRefusal, judged}
-use Rattle.requests.specs.declared.AskChange.{AskChange}
 use Rattle.requests.specs.declared.Effect.{Effect}
 use Rattle.requests.specs.declared.ReportChange.{ReportChange}
-use Rattle.requests.specs.Ask.{isReading, isWriting, isMarking, askRows, askRefusal, askedFile, askedChannel, askOn}
+use Rattle.requests.specs.Ask.{isReading, isWriting, isMarking, askRefusal, askedFile, askedChannel, askOn}
 use Rattle.requests.specs.Effects.{effectOf, isDelivery}
-use Rattle.requests.specs.Report.{isIdleFor, takesNoWords, isForbidden, shownStart, shownCount, shownBlock, effectAt, reportRows, rowsBy, reportRefusal, deliveryError, reportedFile, reportedArea, refusedReport, reportOn, reportOnArea}
+use Rattle.requests.specs.Report.{isIdleFor, takesNoWords, isForbidden, shownStart, shownCount, effectAt, rowsBy, reportRefusal, deliveryError, reportedFile, reportedArea, refusedReport, reportOn, reportOnArea}
 
 -- ---- ask
 
@@ -184,9 +183,10 @@ module _ (x : Effect) (f : File) (words : List ℕ) where
   unfolding judged judgeRefusal
   look-judged brings isB h j isJ =
       let small : isNumber (f .block) ≡ true = lt-ltb (f .block) 32768 (omega (arith, leb-true (f .block) 32767 (and-right brings _ h))) in
-      let right : not (isNumber (f .block)) ≡ false = ap not small in
-      (ap (λ (k : Judged). not (eqb (k .refusal) 2)) isJ ∙ rw right (two (allOf isWord words) _),
-      ap (λ (k : Judged). k .error) isJ ∙ rw (sym isB ∙ and-left brings _ h))
+      let right : not (isNumber (f .block)) ≡ false = ap not small in (
+        ap (λ (k : Judged). not (eqb (k .refusal) 2)) isJ ∙ rw right (two (allOf isWord words) _),
+        ap (λ (k : Judged). k .error) isJ ∙ rw (sym isB ∙ and-left brings _ h),
+      )
 
   pub look-other : (brings : Bool) → brings ≡ isDelivery x → (brings && leb (f .block) 32767) ≡ false → 0 ≡ deliveryError x f words
   unfolding judged judgeRefusal lowest

@@ -1,12 +1,12 @@
 -- What ask and report make of a sound file: it is sound still, ready for what is requested then, and on the same unit and buffers.
 -- Assumes nothing.
-use mathlib.Core.Path.{_≡_, refl, sym, ap, subst, _∙_}
-use mathlib.Core.Bool.{Bool, true, false, not, cond, _&&_, _||_}
-use Prim.Native.Nat.{ℕ, zero, suc, _+_, _-_, _≤_, _<_}
+use mathlib.Core.Path.{_≡_, refl, ap, _∙_}
+use mathlib.Core.Bool.{Bool, true, false, not, _&&_, _||_}
+use Prim.Native.Nat.{ℕ, zero, suc, _+_, _-_, _≤_}
 use native.Mathlib.Omega.{arith}
 use lib.Dec.{ltb, eqb}
-use borrow.Author.Tests.{eqb-true, eq-eqb, not-true, ltb-false}
-use Rattle.area.proofs.Walks.{true-not-false, and-left, and-right, and-both, or-left, or-right}
+use borrow.Author.Tests.{eqb-true, eq-eqb, ltb-false}
+use Rattle.area.proofs.Walks.{true-not-false, and-left, and-right, and-both, or-left}
 use Rattle.channel.specs.declared.Op.{Op}
 use Rattle.channel.specs.declared.Op.the-variants.{Read, Write, Mark}
 use Rattle.channel.specs.declared.Work.{Work}
@@ -33,7 +33,6 @@ use Rattle.pool.proofs.Replaced.{Alike, alike-self}
 use Rattle.pool.proofs.Events.{event-alike}
 use Rattle.state.specs.Requests.{isRead, isWrite, fitsOutput}
 use Rattle.state.specs.Judged.{fileReady}
-use Rattle.requests.specs.declared.Effect.{Effect}
 use Rattle.requests.specs.Ask.{isReading, isWriting, isMarking, opOf, askedFile}
 use Rattle.requests.specs.Effects.{isDelivery, opEffect}
 use Rattle.requests.specs.Report.{reportedFile}
@@ -129,7 +128,7 @@ pub data Kind (f : File) : ℕ → Type 0 where
   writes : f .output ≡ true → hasFull f ≡ true → Kind f 1
   marks : f .output ≡ true → hasUnsent f ≡ false → Kind f 2
 
-not-false : (b : Bool) → not b ≡ false → b ≡ true
+pub not-false : (b : Bool) → not b ≡ false → b ≡ true
 not-false true e = refl
 not-false false e = true-not-false refl e
 

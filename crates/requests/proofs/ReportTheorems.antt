@@ -1,16 +1,15 @@
 -- The promises of report: refused exactly by its table, a sound state kept, nothing else touched, booked to the one file of its unit, one event
 -- of its channel. The files of a state are sixteen, as the array of the code has them. Assumes nothing.
 use mathlib.Core.Path.{_≡_, refl, sym, ap, subst, _∙_}
-use mathlib.Core.Logic.{_≢_}
 use mathlib.Core.Bool.{Bool, true, false, not, cond, _&&_, _||_}
-use mathlib.Core.Option.{Option, none, some}
+use mathlib.Core.Option.{some}
 use mathlib.Core.List.{List}
-use Prim.Native.Nat.{ℕ, suc, _+_, _*_, _≤_, _<_}
+use Prim.Native.Nat.{ℕ, suc, _+_, _≤_, _<_}
 use native.Mathlib.Decide.{ℕ-discrete}
 use native.Mathlib.Omega.{arith}
 use lib.Dec.{ltb, eqb}
 use lib.ListN.{length, take, getD}
-use borrow.Author.Tests.{not-true, ne-eqb, eq-eqb, eqb-true, ltb-false}
+use borrow.Author.Tests.{not-true, ne-eqb, eq-eqb, eqb-true}
 use Rattle.area.specs.declared.Found.{Found}
 use Rattle.area.specs.declared.Found.the-variants as found
 use Rattle.area.specs.Lists.{allOf}
@@ -20,8 +19,6 @@ use Rattle.area.proofs.Walks.{true-not-false, and-left, and-right, and-both, or
 use Rattle.area.proofs.Lowest.{lowest-none}
 use Rattle.area.proofs.Exactly.{Exactly, exactly}
 use Rattle.area.proofs.Firsts.{first-finds}
-use Rattle.channel.specs.declared.Op.{Op}
-use Rattle.channel.specs.declared.Op.the-variants.{Read, Write, Mark}
 use Rattle.channel.specs.declared.Request.{Request}
 use Rattle.channel.specs.declared.Turn.{Turn}
 use Rattle.channel.specs.declared.Turn.the-variants.{Idle, Waiting, Displaced, Working}
@@ -30,29 +27,28 @@ use Rattle.channel.specs.declared.Work.{Work}
 use Rattle.channel.specs.declared.Work.the-variants.{At, Nothing}
 use Rattle.channel.specs.declared.Ending.{Ending}
 use Rattle.channel.specs.declared.Verdict.{Verdict}
-use Rattle.channel.specs.declared.Verdict.the-variants.{Refused, Repeats, Ends}
+use Rattle.channel.specs.declared.Verdict.the-variants.{Repeats, Ends}
 use Rattle.channel.specs.Rules.{isAllowed, isFailure, isPermanent, nextAttempt, endingOf, verdictOf, resultNumber}
 use Rattle.channel.specs.Units.{turnAt, workOf, operationAt}
 use Rattle.channel.specs.Scans.{workingIn, unitNumber}
 use Rattle.channel.specs.Turns.{judgeTurn, judgeOf, bookOf, reportOf}
-use Rattle.channel.specs.History.{Station, station, report, stepTo, reportAnswer, step, aReport}
-use Rattle.channel.specs.Lifted.{Shown, Agrees}
+use Rattle.channel.specs.History.{station, report, stepTo, reportAnswer, step, aReport}
+use Rattle.channel.specs.Lifted.{Agrees}
 use Rattle.files.specs.declared.File.{File}
 use Rattle.files.specs.Opening.{closedFile}
 use Rattle.files.specs.Input.{blockFits}
 use Rattle.pool.specs.Free.{fileCount, serves, servingFile, isFound}
 use Rattle.pool.specs.Soundness.{shareBuffer, shareUnit, apart}
-use Rattle.pool.proofs.Facts.{Sound}
 use Rattle.pool.proofs.Replaced.{alike-self, unbound}
 use Rattle.state.specs.declared.State.{State}
-use Rattle.state.specs.Places.{fileAt, channelIn, channelAt, withFile, withChannel, areaShort}
+use Rattle.state.specs.Places.{fileAt, channelAt, withFile, withChannel}
 use Rattle.state.specs.Requests.{requested, isNone}
-use Rattle.state.specs.Soundness.{sound, requestOf}
+use Rattle.state.specs.Soundness.{sound}
 use Rattle.state.specs.Judged.{fileReady}
 use Rattle.state.proofs.Everywhere.{place-inside}
 use Rattle.state.proofs.Facts.{Served, SoundFacts, sound-facts, facts-sound}
 use Rattle.state.proofs.ChannelCalls.{repeat-moved, end-moved}
-use Rattle.state.proofs.Kept.{line-of, place-of}
+use Rattle.state.proofs.Kept.{line-of}
 use Rattle.word.specs.CheckWords.{address, chosen}
 use Rattle.word.specs.Sums.{logicalSum, firstHalf, folded}
 use Rattle.word.specs.Blocks.{dataWords, judgeRefusal, judged, errorOf}
@@ -60,14 +56,9 @@ use Rattle.requests.specs.declared.Effect.{Effect}
 use Rattle.requests.specs.declared.ReportChange.{ReportChange}
 use Rattle.requests.specs.declared.Reporting.{Reporting}
 use Rattle.requests.specs.Effects.{effectOf, opEffect, isDelivery}
-use Rattle.requests.specs.Report.{isIdleFor, takesNoWords, isForbidden, shownStart, shownCount, shownBlock, effectAt, reportRows, reportRefusal, deliveryError, reportedFile, reportedArea, refusedReport, reportOn, reportOnArea, numberOr, fileOf, reportWrong, reportBy, reportByArea}
-use Rattle.requests.specs.Changes.{changedState}
-use Rattle.requests.proofs.Ready.{Became, ended-file}
-use Rattle.requests.proofs.Changed.{Frame, changed-refused, changed-taken, changed-frame, here-file, here-channel, became-sound}
-
-not-false : (b : Bool) → not b ≡ false → b ≡ true
-not-false true e = refl
-not-false false e = true-not-false refl e
+use Rattle.requests.specs.Report.{isIdleFor, takesNoWords, isForbidden, shownStart, shownCount, shownBlock, effectAt, reportRows, reportRefusal, deliveryError, reportedFile, refusedReport, reportOn, reportOnArea, numberOr, fileOf, reportWrong, reportBy, reportByArea}
+use Rattle.requests.proofs.Ready.{not-false, ended-file}
+use Rattle.requests.proofs.Changed.{Frame, changed-refused, changed-taken, changed-frame, here-channel, became-sound}
 
 -- ---- what a report that is booked comes to
 
@@ -220,8 +211,15 @@ module _ (s : State) (area : List ℕ) (channel unit outcome : ℕ) (words : Lis
   change-refused h = rw (ne-eqb refusal 0 h)
 
   change-booked : refusal ≡ 0 → change ≡ record {
-    refusal = 0; result = resultNumber (judgeOf c unit outcome); error = deliveryError effect f words; working = unitNumber (workingIn booking);
-    start = shownStart effect (s .w) f; count = shownCount effect f; file = became; channel = booking }
+    refusal = 0;
+    result = resultNumber (judgeOf c unit outcome);
+    error = deliveryError effect f words;
+    working = unitNumber (workingIn booking);
+    start = shownStart effect (s .w) f;
+    count = shownCount effect f;
+    file = became;
+    channel = booking;
+  }
   unfolding reportOn
   change-booked z = rw (eq-eqb refusal 0 z)
 
@@ -360,7 +358,7 @@ module _ (s : State) (area : List ℕ) (channel unit outcome : ℕ) (words : Lis
   -- an accepted report is one event of its channel, which the channel books too
   pub record ReportEvent : Type 0 where
     pub event : Agrees (station c (s .frozen)) (some (record { event = report unit outcome; answer = reportAnswer (judgeOf c unit outcome) }))
-      (station (channelAt (reported .state) channel) (reported .state .frozen))
+        (station (channelAt (reported .state) channel) (reported .state .frozen))
     pub counted : aReport (report unit outcome) (reportAnswer (judgeOf c unit outcome)) ≡ true
 
   pub report-event : length (s .files) ≡ fileCount → reported .refusal ≡ 0 → ReportEvent

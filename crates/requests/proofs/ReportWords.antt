@@ -1,15 +1,15 @@
 -- The words of the area at a report: a delivered block lies in the taken buffer and no word outside the file's own buffers changes; the block of a
 -- write lies in the area and its words are below 2^36. Assumes nothing.
-use mathlib.Core.Path.{_≡_, refl, sym, ap, subst, _∙_}
+use mathlib.Core.Path.{_≡_, refl, sym, ap, _∙_}
 use mathlib.Core.Logic.{_⊎_, ⊎-elim}
-use mathlib.Core.Bool.{Bool, true, false, not, cond, _&&_, _||_}
+use mathlib.Core.Bool.{Bool, true, false, not, _&&_, _||_, and-false}
 use mathlib.Core.List.{List}
-use Prim.Native.Nat.{ℕ, suc, _+_, _-_, _*_, _≤_, _<_}
+use Prim.Native.Nat.{ℕ, _+_, _-_, _*_, _≤_, _<_}
 use native.Mathlib.Nat.{suc-mul}
 use native.Mathlib.Decide.{ℕ-discrete}
 use native.Mathlib.Omega.{arith}
-use lib.Dec.{ltb, eqb}
-use lib.ListN.{length, take, drop, getD}
+use lib.Dec.{eqb}
+use lib.ListN.{length, drop, getD}
 use lib.Seq.{getD-take, getD-drop}
 use borrow.Author.Tests.{ne-eqb, eq-eqb, ltb-false}
 use Rattle.area.specs.Lists.{allOf}
@@ -26,15 +26,13 @@ use Rattle.channel.specs.declared.Ending.{Ending}
 use Rattle.channel.specs.declared.Ending.the-variants.{Good, Opposite, MarkRead, MediumEnd, LostRedundancy, LostIncomplete}
 use Rattle.channel.specs.declared.Verdict.{Verdict}
 use Rattle.channel.specs.declared.Verdict.the-variants.{Refused, Repeats, Ends}
+use Rattle.channel.specs.Rules.{resultNumber}
 use Rattle.channel.specs.Units.{turnAt, workOf, operationAt}
-use Rattle.channel.specs.Turns.{judgeOf}
 use Rattle.files.specs.declared.Side.{Side}
 use Rattle.files.specs.declared.Side.the-variants.{Low, High, Neither}
 use Rattle.files.specs.declared.File.{File}
-use Rattle.files.specs.Sides.{bufferAt, startAt, isSide, takenSide, oldest}
-use Rattle.files.specs.Opening.{extra}
-use Rattle.files.specs.Input.{hasFull, blockFits}
-use Rattle.files.specs.Output.{sendStart, sendWords}
+use Rattle.files.specs.Sides.{bufferAt, startAt, isSide, takenSide}
+use Rattle.files.specs.Input.{hasFull}
 use Rattle.pool.specs.Free.{fileCount, heldBy}
 use Rattle.pool.specs.Soundness.{takenCount}
 use Rattle.pool.proofs.Kept.{owns}
@@ -42,18 +40,74 @@ use Rattle.pool.proofs.Changes.{own-taken}
 use Rattle.pool.proofs.Inside.{size-fits, taken-inside, send-inside}
 use Rattle.state.specs.declared.State.{State}
 use Rattle.state.specs.Places.{fileAt, channelAt, areaShort}
-use Rattle.state.specs.Requests.{requested}
+use Rattle.state.specs.Requests.{requested, isReadOp, isWriteOp, isRead, isWrite}
 use Rattle.state.specs.Soundness.{sound}
 use Rattle.state.specs.Judged.{fileReady}
 use Rattle.requests.specs.declared.Effect.{Effect}
 use Rattle.requests.specs.declared.Effect.the-variants.{Delivers, MeetsMark, GivesBack, Sends, Keeps}
-use Rattle.requests.specs.Effects.{effectOf, opEffect, isDelivery, isSending}
-use Rattle.requests.specs.Report.{effectAt, shownStart, shownCount, shownBlock, reportRefusal, reportedArea, reportOnArea, fileOf, reportWrong, reportByArea}
+use Rattle.requests.specs.Effects.{effectOf, opEffect, isDelivery}
+use Rattle.requests.specs.Report.{effectAt, shownStart, shownCount, reportRefusal, reportedArea, reportOnArea, fileOf, reportWrong, reportByArea}
 use Rattle.requests.proofs.Found.{fits-bounds}
 use Rattle.requests.proofs.Ready.{ready-facts, some-taken}
 use Rattle.requests.proofs.ReportTheorems.{Booked, again, ended, ReportReady, report-ready, facts, view, isOpen, requested-ready}
 
 -- ---- which operation an effect is of
+
+abbrev pub isSending : Effect → Bool
+isSending Delivers = false
+isSending MeetsMark = false
+isSending GivesBack = false
+isSending Sends = true
+isSending Keeps = false
+
+abbrev isGood : ℕ → Bool
+isGood result = eqb result 1 || eqb result 2
+
+-- "if it ends a write with 01 or 04"
+abbrev isDone : ℕ → Bool
+isDone result = eqb result 1 || eqb result 4
+
+-- a block is delivered exactly by a read that ends with 01 or 02
+pub delivers-exactly : (x : Work) (v : Verdict) → isDelivery (effectOf x v) ≡ (isRead x && isGood (resultNumber v))
+delivers-exactly (At op) (Refused n) = sym (and-false (isReadOp op))
+delivers-exactly (At op) (Repeats q) = sym (and-false (isReadOp op))
+delivers-exactly (At Read) (Ends Good) = refl
+delivers-exactly (At Read) (Ends Opposite) = refl
+delivers-exactly (At Read) (Ends MarkRead) = refl
+delivers-exactly (At Read) (Ends MediumEnd) = refl
+delivers-exactly (At Read) (Ends LostRedundancy) = refl
+delivers-exactly (At Read) (Ends LostIncomplete) = refl
+delivers-exactly (At Write) (Ends Good) = refl
+delivers-exactly (At Write) (Ends Opposite) = refl
+delivers-exactly (At Write) (Ends MarkRead) = refl
+delivers-exactly (At Write) (Ends MediumEnd) = refl
+delivers-exactly (At Write) (Ends LostRedundancy) = refl
+delivers-exactly (At Write) (Ends LostIncomplete) = refl
+delivers-exactly (At Mark) (Ends e) = refl
+delivers-exactly Nothing (Refused n) = refl
+delivers-exactly Nothing (Repeats q) = refl
+delivers-exactly Nothing (Ends e) = refl
+
+-- a block is handed out exactly by a write that ends with 01 or 04
+pub sends-exactly : (x : Work) (v : Verdict) → isSending (effectOf x v) ≡ (isWrite x && isDone (resultNumber v))
+sends-exactly (At op) (Refused n) = sym (and-false (isWriteOp op))
+sends-exactly (At op) (Repeats q) = sym (and-false (isWriteOp op))
+sends-exactly (At Read) (Ends Good) = refl
+sends-exactly (At Read) (Ends Opposite) = refl
+sends-exactly (At Read) (Ends MarkRead) = refl
+sends-exactly (At Read) (Ends MediumEnd) = refl
+sends-exactly (At Read) (Ends LostRedundancy) = refl
+sends-exactly (At Read) (Ends LostIncomplete) = refl
+sends-exactly (At Write) (Ends Good) = refl
+sends-exactly (At Write) (Ends Opposite) = refl
+sends-exactly (At Write) (Ends MarkRead) = refl
+sends-exactly (At Write) (Ends MediumEnd) = refl
+sends-exactly (At Write) (Ends LostRedundancy) = refl
+sends-exactly (At Write) (Ends LostIncomplete) = refl
+sends-exactly (At Mark) (Ends e) = refl
+sends-exactly Nothing (Refused n) = refl
+sends-exactly Nothing (Repeats q) = refl
+sends-exactly Nothing (Ends e) = refl
 
 delivery-taken : (op : Op) (e : Ending) (f : File) → fileReady (At op) f ≡ true → isDelivery (opEffect op e) ≡ true → takenCount f ≡ 1
 delivery-taken Read e f h b = ready-facts (At Read) f h .taken

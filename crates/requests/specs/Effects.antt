@@ -51,10 +51,3 @@ isDelivery MeetsMark = false
 isDelivery GivesBack = false
 isDelivery Sends = false
 isDelivery Keeps = false
-
-abbrev pub isSending : Effect → Bool
-isSending Delivers = false
-isSending MeetsMark = false
-isSending GivesBack = false
-isSending Sends = true
-isSending Keeps = false

@@ -34,7 +34,7 @@ use Rattle.requests.specs.declared.Effect.the-variants.{Delivers, MeetsM
 use Rattle.requests.specs.declared.ReportChange.{ReportChange}
 use Rattle.requests.specs.declared.Reporting.{Reporting}
 use Rattle.requests.specs.Changes.{changedState}
-use Rattle.requests.specs.Effects.{effectOf, isDelivery, isSending}
+use Rattle.requests.specs.Effects.{effectOf, isDelivery}
 
 -- ---- what is reported of unit u of the channel c, with an outcome
 

@@ -5,7 +5,7 @@ use channel::Op;
 use channel::Verdict;
 use channel::Work;
 ghost use mathlib.Core.Path.{_≡_};
-ghost use Rattle.requests.specs.Effects.{readEffect, writeEffect, opEffect, workEffect, effectOf, isDelivery, isSending};
+ghost use Rattle.requests.specs.Effects.{readEffect, writeEffect, opEffect, workEffect, effectOf, isDelivery};
 ghost use Rattle.requests.specs.Report.{takesNoWords};
 
 // The end of a read.

@@ -1,22 +1,17 @@
+-- `requests::asks::asked_file` meets its contract, branch by branch. Assumes nothing.
 use borrow.Author.Tests.{eq-eqb, ne-eqb}
 use Rattle.requests.specs.Ask.{askedFile}
 use borrow.Author.Needs.{needs}
 use Rattle.requests.proofs.asks.asked_file.Statement.{statement}
 use Rattle.requests.proofs.asks.asked_file.Tie as tie
-use Rattle.requests.proofs.asks.asked_file.Reads as reads
-use Rattle.requests.proofs.asks.asked_file.Lts as lts
-use Rattle.files.proofs.took_buffer.Reads as took-buffer-reads
 
--- src/asks.rt:74:9
 took-buffer-requires : tie.Need-took-buffer-requires
 took-buffer-requires c κs = search needs
 
--- src/asks.rt:74:9
 returns : tie.Need-returns
 unfolding askedFile
 returns c = rw (eq-eqb _ _ (c .before .if1 .taken)) (c .took-buffer .ensures)
 
--- src/asks.rt:70:1
 returns-2 : tie.Need-returns-2
 unfolding askedFile
 returns-2 c = rw (ne-eqb _ _ (c .if1 .left))

@@ -1,21 +1,17 @@
+-- `requests::asks::op_of` meets its contract, branch by branch. Assumes nothing.
 use borrow.Author.Tests.{eq-eqb, ne-eqb}
 use Rattle.requests.specs.Ask.{opOf}
 use Rattle.requests.proofs.asks.op_of.Statement.{statement}
 use Rattle.requests.proofs.asks.op_of.Tie as tie
-use Rattle.requests.proofs.asks.op_of.Reads as reads
-use Rattle.requests.proofs.asks.op_of.Lts as lts
 
--- src/asks.rt:27:9
 returns : tie.Need-returns
 unfolding opOf
 returns c = rw (eq-eqb _ _ (c .if1 .taken))
 
--- src/asks.rt:30:9
 returns-2 : tie.Need-returns-2
 unfolding opOf
 returns-2 c = rw (ne-eqb _ _ (c .before .if1 .left), eq-eqb _ _ (c .if2 .taken))
 
--- src/asks.rt:23:1
 returns-3 : tie.Need-returns-3
 unfolding opOf
 returns-3 c = rw (ne-eqb _ _ (c .before .if1 .left), ne-eqb _ _ (c .if2 .left))

@@ -1,36 +1,26 @@
+-- `requests::blocks::put_words` meets its contract, from those of `taken_start` and `copy_in`. Assumes nothing.
 use mathlib.Core.Path.{sym, _∙_}
 use Rattle.requests.specs.Report.{reportedArea}
 use borrow.Author.Needs.{needs}
 use Rattle.requests.proofs.blocks.put_words.Statement.{statement}
 use Rattle.requests.proofs.blocks.put_words.Tie as tie
-use Rattle.requests.proofs.blocks.put_words.Reads as reads
-use Rattle.requests.proofs.blocks.put_words.Lts as lts
-use Rattle.area.proofs.copy_in.Reads as copy-in-reads
-use Rattle.files.proofs.taken_start.Reads as taken-start-reads
-use Rattle.requests.proofs.effects.is_delivery.Reads as is-delivery-reads
 
--- src/blocks.rt:106:8
 is-delivery-requires : tie.Need-is-delivery-requires
 is-delivery-requires c κs = search needs
 
--- src/blocks.rt:107:13
 taken-start-requires : tie.Need-taken-start-requires
 taken-start-requires c κs = search needs
 
--- src/blocks.rt:108:9
 copy-in-requires : tie.Need-copy-in-requires
 copy-in-requires c κs = search needs
 
--- src/blocks.rt:103:1
 same-length : tie.Need-same-length
 same-length c = search needs
 
--- src/blocks.rt:103:1
 returns : tie.Need-returns
 unfolding reportedArea
 returns c = rw (sym (c .before .before .before .before .before .before .is-delivery .ensures) ∙ c .before .before .before .before .before .if1 .taken, ← c .before .before .before .before .taken-start .ensures .0) (c .before .before .copy-in .ensures .1)
 
--- src/blocks.rt:103:1
 returns-2 : tie.Need-returns-2
 unfolding reportedArea
 returns-2 c = rw (sym (c .before .is-delivery .ensures) ∙ c .if1 .left)

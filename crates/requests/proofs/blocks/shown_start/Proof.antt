@@ -1,52 +1,39 @@
+-- `requests::blocks::shown_start` meets its contract, a case each. Assumes nothing.
 use native.Mathlib.Omega.{arith}
 use borrow.Author.Needs.{needs}
 use Rattle.requests.proofs.blocks.shown_start.Statement.{statement}
 use Rattle.requests.proofs.blocks.shown_start.Tie as tie
-use Rattle.requests.proofs.blocks.shown_start.Reads as reads
-use Rattle.requests.proofs.blocks.shown_start.Lts as lts
-use Rattle.files.proofs.send_start.Reads as send-start-reads
 
--- src/blocks.rt:58:29
 enum-told : tie.Need-enum-told
 enum-told c = search needs
 
--- src/blocks.rt:59:30
 enum-told-2 : tie.Need-enum-told-2
 enum-told-2 c = search needs
 
--- src/blocks.rt:60:30
 enum-told-3 : tie.Need-enum-told-3
 enum-told-3 c = search needs
 
--- src/blocks.rt:61:26
 enum-told-4 : tie.Need-enum-told-4
 enum-told-4 c = search needs
 
--- src/blocks.rt:61:26
 send-start-requires : tie.Need-send-start-requires
 send-start-requires c κs = search needs
 
--- src/blocks.rt:62:26
 enum-told-5 : tie.Need-enum-told-5
 enum-told-5 c = search needs
 
--- src/blocks.rt:54:1
 returns : tie.Need-returns
 returns c = (rw (c .enum-told .given .1), omega arith)
 
--- src/blocks.rt:54:1
 returns-2 : tie.Need-returns-2
 returns-2 c = (rw (c .enum-told2 .given .1), omega arith)
 
--- src/blocks.rt:54:1
 returns-3 : tie.Need-returns-3
 returns-3 c = (rw (c .enum-told3 .given .1), omega arith)
 
--- src/blocks.rt:54:1
 returns-4 : tie.Need-returns-4
 returns-4 c = (rw (c .before .enum-told4 .given .1) (c .send-start .ensures .0), c .send-start .ensures .1)
 
--- src/blocks.rt:54:1
 returns-5 : tie.Need-returns-5
 returns-5 c = (rw (c .enum-told5 .given .1), omega arith)
 

@@ -1,35 +1,26 @@
+-- `requests::blocks::with_delivery` meets its contract: a block that fits has a check word to leave out, and no more data words than B. Assumes nothing.
 use native.Mathlib.Omega.{arith}
 use Rattle.requests.specs.Report.{reportedFile}
 use Rattle.requests.proofs.Found.{fits-bounds}
 use borrow.Author.Needs.{needs}
 use Rattle.requests.proofs.blocks.with_delivery.Statement.{statement}
 use Rattle.requests.proofs.blocks.with_delivery.Tie as tie
-use Rattle.requests.proofs.blocks.with_delivery.Reads as reads
-use Rattle.requests.proofs.blocks.with_delivery.Lts as lts
-use Rattle.files.proofs.delivered.Reads as delivered-reads
-use Rattle.files.proofs.extra.Reads as extra-reads
 
--- src/blocks.rt:84:13
 extra-requires : tie.Need-extra-requires
 extra-requires c κs = search needs
 
--- src/blocks.rt:84:13
 cast-e : tie.Need-cast-e
 cast-e c = search needs
 
--- src/blocks.rt:85:19
 sub-delivered : tie.Need-sub-delivered
 sub-delivered c = omega (arith, fits-bounds (c .before .args .f) (c .before .args .n) (c .before .pre) .0, c .extra .ensures .0)
 
--- src/blocks.rt:85:18
 cast-delivered : tie.Need-cast-delivered
 cast-delivered c = omega (arith, fits-bounds (c .before .args .f) (c .before .args .n) (c .before .pre) .1, c .extra .ensures .0)
 
--- src/blocks.rt:85:5
 delivered-requires : tie.Need-delivered-requires
 delivered-requires c κs = search needs
 
--- src/blocks.rt:80:1
 returns : tie.Need-returns
 unfolding reportedFile
 returns c = rw (← c .before .extra .ensures .0) (c .delivered .ensures)

@@ -1,27 +1,20 @@
+-- `requests::calls::file_of` meets its contract, a case each. Assumes nothing.
 use borrow.Author.Needs.{needs}
 use Rattle.requests.proofs.calls.file_of.Statement.{statement}
 use Rattle.requests.proofs.calls.file_of.Tie as tie
-use Rattle.requests.proofs.calls.file_of.Reads as reads
-use Rattle.requests.proofs.calls.file_of.Lts as lts
-use Rattle.pool.proofs.serving_file.Reads as serving-file-reads
 
--- src/calls.rt:46:11
 serving-file-requires : tie.Need-serving-file-requires
 serving-file-requires c κs = search needs
 
--- src/calls.rt:47:19
 enum-known-i : tie.Need-enum-known-i
 enum-known-i c = search needs
 
--- src/calls.rt:48:27
 enum-told : tie.Need-enum-told
 enum-told c = search needs
 
--- src/calls.rt:42:1
 returns : tie.Need-returns
 returns c = rw (← c .before .before .before .serving-file .ensures, c .before .i .given .1)
 
--- src/calls.rt:42:1
 returns-2 : tie.Need-returns-2
 returns-2 c = rw (← c .before .before .serving-file .ensures, c .enum-told .given .1)
 

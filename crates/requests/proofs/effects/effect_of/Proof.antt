@@ -1,36 +1,26 @@
-use Rattle.requests.specs.Effects.{effectOf}
+-- `requests::effects::effect_of` meets its contract, a case each. Assumes nothing.
 use borrow.Author.Needs.{needs}
 use Rattle.requests.proofs.effects.effect_of.Statement.{statement}
 use Rattle.requests.proofs.effects.effect_of.Tie as tie
-use Rattle.requests.proofs.effects.effect_of.Reads as reads
-use Rattle.requests.proofs.effects.effect_of.Lts as lts
-use Rattle.requests.proofs.effects.work_effect.Reads as work-effect-reads
 
--- src/effects.rt:63:32
 enum-told : tie.Need-enum-told
 enum-told c = search needs
 
--- src/effects.rt:64:32
 enum-told-2 : tie.Need-enum-told-2
 enum-told-2 c = search needs
 
--- src/effects.rt:65:23
 enum-known-v : tie.Need-enum-known-v
 enum-known-v c = search needs
 
--- src/effects.rt:65:29
 work-effect-requires : tie.Need-work-effect-requires
 work-effect-requires c κs = search needs
 
--- src/effects.rt:59:1
 returns : tie.Need-returns
 returns c = search needs
 
--- src/effects.rt:59:1
 returns-2 : tie.Need-returns-2
 returns-2 c = search needs
 
--- src/effects.rt:59:1
 returns-3 : tie.Need-returns-3
 returns-3 c = rw (c .before .before .v .given .1) (c .work-effect .ensures)
 

@@ -1,32 +1,22 @@
+-- `requests::reports::report_refusal` meets its contract: the rows that `lowest_of` is given are those of report, the others being false. Assumes nothing.
 use mathlib.Core.Path.{_∙_}
 use Rattle.requests.proofs.Found.{rows-found}
 use borrow.Author.Needs.{needs}
 use Rattle.requests.proofs.reports.report_refusal.Statement.{statement}
 use Rattle.requests.proofs.reports.report_refusal.Tie as tie
-use Rattle.requests.proofs.reports.report_refusal.Reads as reads
-use Rattle.requests.proofs.reports.report_refusal.Lts as lts
-use Rattle.channel.proofs.refusal_number.Reads as refusal-number-reads
-use Rattle.requests.proofs.effects.is_delivery.Reads as is-delivery-reads
-use Rattle.requests.proofs.effects.takes_no_words.Reads as takes-no-words-reads
-use Rattle.state.proofs.lowest_of.Reads as lowest-of-reads
 
--- src/reports.rt:45:9
 takes-no-words-requires : tie.Need-takes-no-words-requires
 takes-no-words-requires c κs = search needs
 
--- src/reports.rt:46:9
 refusal-number-requires : tie.Need-refusal-number-requires
 refusal-number-requires c κs = search needs
 
--- src/reports.rt:47:9
 is-delivery-requires : tie.Need-is-delivery-requires
 is-delivery-requires c κs = search needs
 
--- src/reports.rt:54:5
 lowest-of-requires : tie.Need-lowest-of-requires
 lowest-of-requires c κs = search needs
 
--- src/reports.rt:31:1
 returns : tie.Need-returns
 returns c = c .lowest-of .ensures ∙ rows-found (c .before .before .before .before .args .wrong) (c .before .before .before .before .args .unit) (c .before .before .before .before .args .outcome) (c .before .before .before .before .args .x) (c .before .before .before .before .args .v) (c .before .before .before .before .args .e) (c .before .before .before .before .args .fits) (c .before .before .before .before .args .clean) (c .before .before .before .before .args .room) (c .before .before .before .before .args .n) _ _ _ (c .before .before .before .takes-no-words .ensures) (c .before .before .refusal-number .ensures) (c .before .is-delivery .ensures)
 
