@@ -1,0 +1,33 @@
+// The pack: the eleven calls under one roof, with the state that they take and hand back and what each of them answers.
+// This is all that a caller needs to name; the groups below hold the code, the definitions and the proofs.
+pub use files::File;
+pub use gets::got_error;
+pub use gets::got_number;
+pub use gets::got_start;
+pub use gets::got_words as got_count;
+pub use gets::Got;
+pub use input::get;
+pub use input::get_words;
+pub use input::got_words;
+pub use input::skip;
+pub use input::Getting;
+pub use input::Skipping;
+pub use opening::close;
+pub use opening::freeze;
+pub use opening::fresh;
+pub use opening::open;
+pub use opening::thaw;
+pub use opening::Called;
+pub use opening::Masks;
+pub use output::put;
+pub use output::seal;
+pub use output::Putting;
+pub use output::Sealing;
+pub use requests::ask;
+pub use requests::report;
+pub use requests::reported_words;
+pub use requests::Asking;
+pub use requests::Reporting;
+pub use state::before_start;
+pub use state::is_sound;
+pub use state::State;

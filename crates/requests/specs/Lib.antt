@@ -1,0 +1,4 @@
+pub mod Changes
+pub mod Ask
+pub mod Effects
+pub mod Report
