@@ -24,7 +24,8 @@ lowest-of-requires : tie.Need-lowest-of-requires
 lowest-of-requires c κs = search needs
 
 returns : tie.Need-returns
-returns c = c .lowest-of .ensures ∙ ask-found (c .before .before .before .before .before .before .before .before .before .before .args .wrong) (c .before .before .before .before .before .before .before .before .before .before .args .f) (c .before .before .before .before .before .before .before .before .before .before .args .c) (c .before .before .before .before .before .before .before .before .before .before .args .op) (c .before .before .before .before .before .before .before .before .before .before .args .priority) _ _ _ _ (c .before .before .before .before .before .before .before .before .has-request .ensures) (c .before .before .before .before .before .before .before .has-empty .ensures) (c .before .before .before .before .before .before .has-full .ensures) (c .before .before .before .before .before .has-unsent .ensures)
+returns c =
+    c .lowest-of .ensures ∙ ask-found (c .before .before .before .before .before .before .before .before .before .before .args .wrong) (c .before .before .before .before .before .before .before .before .before .before .args .f) (c .before .before .before .before .before .before .before .before .before .before .args .c) (c .before .before .before .before .before .before .before .before .before .before .args .op) (c .before .before .before .before .before .before .before .before .before .before .args .priority) _ _ _ _ (c .before .before .before .before .before .before .before .before .has-request .ensures) (c .before .before .before .before .before .before .before .has-empty .ensures) (c .before .before .before .before .before .before .has-full .ensures) (c .before .before .before .before .before .has-unsent .ensures)
 
 pub ask-refusal-spec : {M : Type 1} → statement M
 ask-refusal-spec =

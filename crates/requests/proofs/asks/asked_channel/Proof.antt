@@ -20,7 +20,8 @@ ask-requires c κs = search needs
 
 returns : tie.Need-returns
 unfolding askedChannel
-returns c = ap (λ (a : Asked). a .channel) (c .before .ask .ensures) ∙ ap (λ (op : Op). askOf (c .before .before .before .before .args .c) (c .before .before .before .before .args .f .unit) op (eqb (c .before .before .before .before .args .priority) 1) (c .before .before .before .before .args .frozen) .channel) (c .before .before .before .op-of .ensures)
+returns c =
+    ap (λ (a : Asked). a .channel) (c .before .ask .ensures) ∙ ap (λ (op : Op). askOf (c .before .before .before .before .args .c) (c .before .before .before .before .args .f .unit) op (eqb (c .before .before .before .before .args .priority) 1) (c .before .before .before .before .args .frozen) .channel) (c .before .before .before .op-of .ensures)
 
 pub asked-channel-spec : {M : Type 1} → statement M
 asked-channel-spec = tie.close (tie.spec op-of-requires cast-ask ask-requires returns)

@@ -11,13 +11,15 @@ judge-requires : tie.Need-judge-requires
 judge-requires c κs = search needs
 
 returns : tie.Need-returns
-returns c = look-judged (c .before .before .before .before .before .before .args .x) (c .before .before .before .before .before .before .args .f) (c .before .before .before .before .before .before .args .words .now) _ (c .before .before .before .before .is-delivery .ensures) (c .before .before .if1 .taken) _ (c .before .judge .ensures)
+returns c =
+    look-judged (c .before .before .before .before .before .before .args .x) (c .before .before .before .before .before .before .args .f) (c .before .before .before .before .before .before .args .words .now) _ (c .before .before .before .before .is-delivery .ensures) (c .before .before .if1 .taken) _ (c .before .judge .ensures)
 
 are-words-requires : tie.Need-are-words-requires
 are-words-requires c κs = search needs
 
 returns-2 : tie.Need-returns-2
-returns-2 c = (c .are-words .ensures, look-other (c .before .before .before .before .before .args .x) (c .before .before .before .before .before .args .f) (c .before .before .before .before .before .args .words .now) _ (c .before .before .before .is-delivery .ensures) (c .before .if1 .left))
+returns-2 c =
+    (c .are-words .ensures, look-other (c .before .before .before .before .before .args .x) (c .before .before .before .before .before .args .f) (c .before .before .before .before .before .args .words .now) _ (c .before .before .before .is-delivery .ensures) (c .before .if1 .left))
 
 pub look-spec : {M : Type 1} → statement M
 look-spec =

@@ -19,7 +19,8 @@ same-length c = search needs
 
 returns : tie.Need-returns
 unfolding reportedArea
-returns c = rw (sym (c .before .before .before .before .before .before .is-delivery .ensures) ∙ c .before .before .before .before .before .if1 .taken, ← c .before .before .before .before .taken-start .ensures .0) (c .before .before .copy-in .ensures .1)
+returns c =
+    rw (sym (c .before .before .before .before .before .before .is-delivery .ensures) ∙ c .before .before .before .before .before .if1 .taken, ← c .before .before .before .before .taken-start .ensures .0) (c .before .before .copy-in .ensures .1)
 
 returns-2 : tie.Need-returns-2
 unfolding reportedArea

@@ -23,7 +23,9 @@ changed-state-requires : tie.Need-changed-state-requires
 changed-state-requires c κs = search needs
 
 returns : tie.Need-returns
-returns c = let a = c .before .before .before .before .before .before .before .before .args in ask-whole (a .s) (a .file) (a .op) (a .priority) _ _ _ _ _ (c .before .before .before .before .before .before .before .file-at .ensures) (c .before .before .before .before .before .channel-at .ensures) (c .before .before .before .before .is-sound .ensures) (c .before .before .before .ask-on .ensures) (c .changed-state .ensures)
+returns c =
+    let a = c .before .before .before .before .before .before .before .before .args in
+    ask-whole (a .s) (a .file) (a .op) (a .priority) _ _ _ _ _ (c .before .before .before .before .before .before .before .file-at .ensures) (c .before .before .before .before .before .channel-at .ensures) (c .before .before .before .before .is-sound .ensures) (c .before .before .before .ask-on .ensures) (c .changed-state .ensures)
 
 pub ask-spec : {M : Type 1} → statement M
 ask-spec =

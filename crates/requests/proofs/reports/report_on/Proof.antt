@@ -39,13 +39,40 @@ same-length : tie.Need-same-length
 same-length c = search needs
 
 returns : tie.Need-returns
-returns c = let a = c .before .before .before .before .before .before .before .before .before .before .before .before .before .before .args in let S : Seen (a .f) (a .c) (a .unit) (a .outcome) (a .w) (a .area .now) (a .words .now) _ _ _ _ _ _ _ _ = record { work = c .before .before .before .before .before .before .before .before .before .before .operation-of .ensures; verdict = c .before .before .before .before .before .before .before .before .before .before .before .judge .ensures; effect = c .before .before .before .before .before .before .before .before .before .effect-of .ensures; given = c .before .before .before .before .before .before .before .before .look .ensures .0; from = c .before .before .before .before .before .before .before .shown-start .ensures .0; many = c .before .before .before .before .before .before .shown-count .ensures .0; handed = c .before .before .before .before .part-are-words .ensures; space = c .before .before .before .block-fits .ensures } in let k = report-refused (a .wrong) (a .frozen) S _ (c .before .before .report-refusal .ensures ∙ refusal-found (a .wrong) (a .frozen) S) (c .before .if1 .taken) in (c .refused .ensures ∙ k .0, k .1)
+returns c =
+    let a = c .before .before .before .before .before .before .before .before .before .before .before .before .before .before .args in
+    let S : Seen (a .f) (a .c) (a .unit) (a .outcome) (a .w) (a .area .now) (a .words .now) _ _ _ _ _ _ _ _ =
+    record {
+      work = c .before .before .before .before .before .before .before .before .before .before .operation-of .ensures;
+      verdict = c .before .before .before .before .before .before .before .before .before .before .before .judge .ensures;
+      effect = c .before .before .before .before .before .before .before .before .before .effect-of .ensures;
+      given = c .before .before .before .before .before .before .before .before .look .ensures .0;
+      from = c .before .before .before .before .before .before .before .shown-start .ensures .0;
+      many = c .before .before .before .before .before .before .shown-count .ensures .0;
+      handed = c .before .before .before .before .part-are-words .ensures;
+      space = c .before .before .before .block-fits .ensures;
+    } in
+    let k = report-refused (a .wrong) (a .frozen) S _ (c .before .before .report-refusal .ensures ∙ refusal-found (a .wrong) (a .frozen) S) (c .before .if1 .taken) in
+    (c .refused .ensures ∙ k .0, k .1)
 
 put-words-requires : tie.Need-put-words-requires
 put-words-requires c κs = search needs
 
 reported-file-requires : tie.Need-reported-file-requires
-reported-file-requires c κs = let a = c .before .before .before .before .before .before .before .before .before .before .before .before .before .before .before .before .before .args in let S : Seen (a .f) (a .c) (a .unit) (a .outcome) (a .w) (a .area .now) (a .words .now) _ _ _ _ _ _ _ _ = record { work = c .before .before .before .before .before .before .before .before .before .before .before .before .before .operation-of .ensures; verdict = c .before .before .before .before .before .before .before .before .before .before .before .before .before .before .judge .ensures; effect = c .before .before .before .before .before .before .before .before .before .before .before .before .effect-of .ensures; given = c .before .before .before .before .before .before .before .before .before .before .before .look .ensures .0; from = c .before .before .before .before .before .before .before .before .before .before .shown-start .ensures .0; many = c .before .before .before .before .before .before .before .before .before .shown-count .ensures .0; handed = c .before .before .before .before .before .before .before .part-are-words .ensures; space = c .before .before .before .before .before .before .block-fits .ensures } in room-found (a .wrong) (a .frozen) S (sym (c .before .before .before .before .before .report-refusal .ensures) ∙ c .before .before .before .before .if1 .left)
+reported-file-requires c κs =
+    let a = c .before .before .before .before .before .before .before .before .before .before .before .before .before .before .before .before .before .args in
+    let S : Seen (a .f) (a .c) (a .unit) (a .outcome) (a .w) (a .area .now) (a .words .now) _ _ _ _ _ _ _ _ =
+    record {
+      work = c .before .before .before .before .before .before .before .before .before .before .before .before .before .operation-of .ensures;
+      verdict = c .before .before .before .before .before .before .before .before .before .before .before .before .before .before .judge .ensures;
+      effect = c .before .before .before .before .before .before .before .before .before .before .before .before .effect-of .ensures;
+      given = c .before .before .before .before .before .before .before .before .before .before .before .look .ensures .0;
+      from = c .before .before .before .before .before .before .before .before .before .before .shown-start .ensures .0;
+      many = c .before .before .before .before .before .before .before .before .before .shown-count .ensures .0;
+      handed = c .before .before .before .before .before .before .before .part-are-words .ensures;
+      space = c .before .before .before .before .before .before .block-fits .ensures;
+    } in
+    room-found (a .wrong) (a .frozen) S (sym (c .before .before .before .before .before .report-refusal .ensures) ∙ c .before .before .before .before .if1 .left)
 
 book-requires : tie.Need-book-requires
 book-requires c κs = search needs
@@ -60,7 +87,23 @@ same-length-2 : tie.Need-same-length-2
 same-length-2 c = search needs
 
 returns-2 : tie.Need-returns-2
-returns-2 c = let a = c .before .before .before .before .before .before .before .before .before .before .before .before .before .before .before .before .before .before .before .before .before .args in let S : Seen (a .f) (a .c) (a .unit) (a .outcome) (a .w) (a .area .now) (a .words .now) _ _ _ _ _ _ _ _ = record { work = c .before .before .before .before .before .before .before .before .before .before .before .before .before .before .before .before .before .operation-of .ensures; verdict = c .before .before .before .before .before .before .before .before .before .before .before .before .before .before .before .before .before .before .judge .ensures; effect = c .before .before .before .before .before .before .before .before .before .before .before .before .before .before .before .before .effect-of .ensures; given = c .before .before .before .before .before .before .before .before .before .before .before .before .before .before .before .look .ensures .0; from = c .before .before .before .before .before .before .before .before .before .before .before .before .before .before .shown-start .ensures .0; many = c .before .before .before .before .before .before .before .before .before .before .before .before .before .shown-count .ensures .0; handed = c .before .before .before .before .before .before .before .before .before .before .before .part-are-words .ensures; space = c .before .before .before .before .before .before .before .before .before .before .block-fits .ensures } in let found = c .before .before .before .before .before .before .before .before .before .report-refusal .ensures ∙ refusal-found (a .wrong) (a .frozen) S in (report-booked (a .wrong) (a .frozen) S _ found (c .before .before .before .before .before .before .before .before .if1 .left) _ _ _ _ _ (c .before .before .before .before .before .before .before .before .before .before .before .before .before .before .before .look .ensures .1) (c .result-number .ensures) (c .before .before .before .reported-file .ensures) (c .before .before .book .ensures) (c .before .working-number .ensures), c .before .before .before .before .before .before .put-words .ensures ∙ booked-area (a .wrong) (a .frozen) S _ found (c .before .before .before .before .before .before .before .before .if1 .left))
+returns-2 c =
+    let a = c .before .before .before .before .before .before .before .before .before .before .before .before .before .before .before .before .before .before .before .before .before .args in
+    let S : Seen (a .f) (a .c) (a .unit) (a .outcome) (a .w) (a .area .now) (a .words .now) _ _ _ _ _ _ _ _ =
+    record {
+      work = c .before .before .before .before .before .before .before .before .before .before .before .before .before .before .before .before .before .operation-of .ensures;
+      verdict = c .before .before .before .before .before .before .before .before .before .before .before .before .before .before .before .before .before .before .judge .ensures;
+      effect = c .before .before .before .before .before .before .before .before .before .before .before .before .before .before .before .before .effect-of .ensures;
+      given = c .before .before .before .before .before .before .before .before .before .before .before .before .before .before .before .look .ensures .0;
+      from = c .before .before .before .before .before .before .before .before .before .before .before .before .before .before .shown-start .ensures .0;
+      many = c .before .before .before .before .before .before .before .before .before .before .before .before .before .shown-count .ensures .0;
+      handed = c .before .before .before .before .before .before .before .before .before .before .before .part-are-words .ensures;
+      space = c .before .before .before .before .before .before .before .before .before .before .block-fits .ensures;
+    } in
+    let found = c .before .before .before .before .before .before .before .before .before .report-refusal .ensures ∙ refusal-found (a .wrong) (a .frozen) S in (
+      report-booked (a .wrong) (a .frozen) S _ found (c .before .before .before .before .before .before .before .before .if1 .left) _ _ _ _ _ (c .before .before .before .before .before .before .before .before .before .before .before .before .before .before .before .look .ensures .1) (c .result-number .ensures) (c .before .before .before .reported-file .ensures) (c .before .before .book .ensures) (c .before .working-number .ensures),
+      c .before .before .before .before .before .before .put-words .ensures ∙ booked-area (a .wrong) (a .frozen) S _ found (c .before .before .before .before .before .before .before .before .if1 .left),
+    )
 
 pub report-on-spec : {M : Type 1} → statement M
 report-on-spec =

@@ -18,7 +18,8 @@ lowest-of-requires : tie.Need-lowest-of-requires
 lowest-of-requires c κs = search needs
 
 returns : tie.Need-returns
-returns c = c .lowest-of .ensures ∙ rows-found (c .before .before .before .before .args .wrong) (c .before .before .before .before .args .unit) (c .before .before .before .before .args .outcome) (c .before .before .before .before .args .x) (c .before .before .before .before .args .v) (c .before .before .before .before .args .e) (c .before .before .before .before .args .fits) (c .before .before .before .before .args .clean) (c .before .before .before .before .args .room) (c .before .before .before .before .args .n) _ _ _ (c .before .before .before .takes-no-words .ensures) (c .before .before .refusal-number .ensures) (c .before .is-delivery .ensures)
+returns c =
+    c .lowest-of .ensures ∙ rows-found (c .before .before .before .before .args .wrong) (c .before .before .before .before .args .unit) (c .before .before .before .before .args .outcome) (c .before .before .before .before .args .x) (c .before .before .before .before .args .v) (c .before .before .before .before .args .e) (c .before .before .before .before .args .fits) (c .before .before .before .before .args .clean) (c .before .before .before .before .args .room) (c .before .before .before .before .args .n) _ _ _ (c .before .before .before .takes-no-words .ensures) (c .before .before .refusal-number .ensures) (c .before .is-delivery .ensures)
 
 pub report-refusal-spec : {M : Type 1} → statement M
 report-refusal-spec =
