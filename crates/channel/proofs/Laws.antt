@@ -1,5 +1,2 @@
 pub mod Units
 pub mod Rules
-pub mod Scans
-pub mod Turns
-pub mod Sums

@@ -75,3 +75,13 @@ workOf (Working q) = At (q .op)
 -- the operation that unit u is worked for, if it is
 unfoldable pub operationAt : Channel → ℕ → Work
 operationAt c u = workOf (turnAt c u)
+
+-- a unit that is worked for
+abbrev pub isWorking : Turn → Bool
+isWorking Idle = false
+isWorking (Waiting q) = false
+isWorking (Displaced q) = false
+isWorking (Working q) = true
+
+abbrev pub unitWorks : Unit → Bool
+unitWorks x = isWorking (x .turn)

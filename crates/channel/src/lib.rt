@@ -1,34 +1,23 @@
-// Whose turn it is on one channel: its units and their requests, what a report means for a request, and who is worked for next.
-// A channel goes in and comes out by value, and every function answers for any channel value and any number.
-// Whether the pack is frozen is a parameter. The crate knows nothing of files, buffers or words.
+// One channel as a value: its units with their requests, what can be seen of them, and document 01's table of outcomes and attempts.
+// Every function answers for any channel value and any number. Whose turn it is stands in `schedule`.
+// The crate knows nothing of files, buffers or words.
 mod rules;
-mod scans;
-mod sound;
-mod turns;
 mod units;
 
+pub use rules::attempt_limit;
 pub use rules::refusal_number;
 pub use rules::result_number;
-pub use scans::working_number;
-pub use scans::working_unit;
-pub use sound::is_sound;
-pub use turns::ask;
-pub use turns::book;
-pub use turns::judge;
-pub use turns::report;
-pub use turns::start;
-pub use turns::thaw;
+pub use rules::verdict_of;
 pub use units::accepts;
 pub use units::fresh;
 pub use units::has_request;
 pub use units::is_declared;
 pub use units::operation_of;
 pub use units::turn_of;
+pub use units::with_turn;
 
-// The units of a channel, and the number of the last one.
+// The units of a channel.
 pub const UNITS: usize = 10;
-
-const LAST: usize = UNITS - 1;
 
 pub enum Op {
     Read,
@@ -84,16 +73,4 @@ pub enum Verdict {
     Refused(u8),
     Repeats(Request),
     Ends(Ending),
-}
-
-// The answer to an ask, and the channel after it.
-pub struct Asked {
-    pub accepted: bool,
-    pub channel: Channel,
-}
-
-// What a report came to, and the channel after it.
-pub struct Reported {
-    pub verdict: Verdict,
-    pub channel: Channel,
 }

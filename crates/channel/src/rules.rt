@@ -94,7 +94,7 @@ fn next_attempt(q: Request, outcome: u8) -> Request
 }
 
 // What an outcome means for the request that is worked for.
-pub fn verdict(q: Request, outcome: u8) -> Verdict
+pub fn verdict_of(q: Request, outcome: u8) -> Verdict
     ensures { λ r. ⌜ r ≡ verdictOf q outcome ⌝ }
 {
     if OUTCOMES <= outcome {

@@ -46,8 +46,8 @@ pub fn turn_of(c: Channel, unit: usize) -> Turn
     if UNITS <= unit {
         return Turn::Idle;
     }
-    let u = c.units[unit];
-    u.turn
+    let x = c.units[unit];
+    x.turn
 }
 
 fn is_idle(t: Turn) -> bool

@@ -5,11 +5,8 @@ mod write;
 
 pub use read::all_digits;
 pub use read::byte_at;
-pub use read::is_digit;
 pub use read::size_at;
-pub use read::value;
 pub use read::word_at;
 pub use write::put_byte;
 pub use write::put_size;
-pub use write::put_word;
 pub use write::put_words;

@@ -54,8 +54,8 @@ fn open(text: &[u8], p: Desk) -> Desk {
 }
 
 fn take(f: File, w: u16) -> File {
-    let g = files::took_buffer(f);
-    number(files::taken_start(g, w) as u64);
+    let g = moves::took_buffer(f);
+    number(moves::taken_start(g, w) as u64);
     g
 }
 
@@ -70,23 +70,23 @@ fn get(f: File, w: u16) -> File {
 }
 
 fn put(f: File, w: u16) -> File {
-    let g = files::added(f);
-    number(files::put_start(f, w) as u64);
-    number(files::part_length(g) as u64);
-    let sealed = if files::is_complete(g) { 1 } else { 0 };
+    let g = moves::added(f);
+    number(moves::put_start(f, w) as u64);
+    number(moves::part_length(g) as u64);
+    let sealed = if moves::is_complete(g) { 1 } else { 0 };
     number(sealed);
-    files::after_put(f)
+    moves::after_put(f)
 }
 
 fn seal(f: File, w: u16) -> File {
-    number(files::part_start(f, w) as u64);
-    number(files::part_length(f) as u64);
-    files::sealed(f)
+    number(moves::part_start(f, w) as u64);
+    number(moves::part_length(f) as u64);
+    moves::sealed(f)
 }
 
 fn send(f: File, w: u16) -> File {
-    number(files::send_start(f, w) as u64);
-    number(files::send_words(f) as u64);
+    number(moves::send_start(f, w) as u64);
+    number(moves::send_words(f) as u64);
     f
 }
 
@@ -94,15 +94,15 @@ fn send(f: File, w: u16) -> File {
 fn after(kind: u64, f: File, w: u16) -> File {
     match kind {
         2 => take(f, w),
-        4 => files::gave_back(f),
-        5 => files::met_mark(f),
+        4 => moves::gave_back(f),
+        5 => moves::met_mark(f),
         6 => get(f, w),
         7 => files::without_oldest(f),
         8 => put(f, w),
         9 => seal(f, w),
         10 => send(f, w),
-        11 => files::after_write(f, true),
-        _ => files::after_write(f, false),
+        11 => moves::after_write(f, true),
+        _ => moves::after_write(f, false),
     }
 }
 
@@ -111,7 +111,7 @@ fn deliver(text: &[u8], p: Desk) -> Desk {
     let error = next(text, n.at);
     let f = p.file;
     Desk {
-        file: files::delivered(f, size(n.value), byte(error.value)),
+        file: moves::delivered(f, size(n.value), byte(error.value)),
         w: p.w,
         at: error.at,
     }

@@ -1,2 +1,1 @@
 pub mod Which
-pub mod Ages

@@ -5,7 +5,7 @@ use Rattle.area.proofs.Walks.{true-not-false, and-left, and-right}
 use Rattle.files.specs.declared.Side.{Side}
 use Rattle.files.specs.declared.Side.the-variants.{Low, High, Neither}
 use Rattle.files.specs.declared.File.{File}
-use Rattle.files.specs.Slots.{isEmpty, isTaken, isPart, isFull}
+use Rattle.slots.specs.Slots.{isEmpty, isTaken, isPart, isFull}
 use Rattle.files.specs.Sides.{slotAt, isSide, lower, emptySide, takenSide, partSide, oldest}
 
 -- the lower of two that pass is the first, or the second where the first does not pass, or none

@@ -2,7 +2,7 @@
 use Prim.Native.Nat.{ℕ, _+_}
 use mathlib.Core.Bool.{Bool, true, false, cond, _&&_, _||_}
 use lib.Dec.{leb}
-use Rattle.files.specs.declared.Slot.the-variants.{Empty}
+use Rattle.slots.specs.declared.Slot.the-variants.{Empty}
 use Rattle.files.specs.declared.Buffer.{Buffer}
 use Rattle.files.specs.declared.File.{File}
 use Rattle.files.specs.declared.Wish.{Wish}

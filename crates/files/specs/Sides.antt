@@ -1,13 +1,13 @@
 -- Which of a file's one or two buffers is meant, and the file with something else in one of them. Assumes nothing.
 use Prim.Native.Nat.{ℕ, _+_, _*_, _%_}
 use mathlib.Core.Bool.{Bool, true, false, not, cond, _&&_}
-use Rattle.files.specs.declared.Slot.{Slot}
-use Rattle.files.specs.declared.Slot.the-variants.{Empty, Full}
+use Rattle.slots.specs.declared.Slot.{Slot}
+use Rattle.slots.specs.declared.Slot.the-variants.{Empty, Full}
 use Rattle.files.specs.declared.Side.{Side}
 use Rattle.files.specs.declared.Side.the-variants.{Low, High, Neither}
 use Rattle.files.specs.declared.Buffer.{Buffer}
 use Rattle.files.specs.declared.File.{File}
-use Rattle.files.specs.Slots.{isEmpty, isTaken, isPart, isFull}
+use Rattle.slots.specs.Slots.{isEmpty, isTaken, isPart, isFull}
 
 -- a buffer that is none: its number has no meaning
 abbrev pub noBuffer : Buffer

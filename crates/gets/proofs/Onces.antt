@@ -14,12 +14,12 @@ use lib.Seq.{take-add, drop-drop}
 use Rattle.area.specs.Parts.{partOf}
 use Rattle.area.proofs.Walks.{true-not-false}
 use Rattle.area.proofs.Marks.{cond-true, cond-false}
-use Rattle.files.specs.declared.Slot.{Slot}
-use Rattle.files.specs.declared.Slot.the-variants.{Full}
+use Rattle.slots.specs.declared.Slot.{Slot}
+use Rattle.slots.specs.declared.Slot.the-variants.{Full}
 use Rattle.files.specs.declared.Side.{Side}
 use Rattle.files.specs.declared.Side.the-variants.{Low, High, Neither}
 use Rattle.files.specs.declared.File.{File}
-use Rattle.files.specs.Slots.{isFull}
+use Rattle.slots.specs.Slots.{isFull}
 use Rattle.files.specs.Sides.{bufferAt, slotAt, startAt, isSide, lower, oldest, withSlot, withoutOldest}
 use Rattle.gets.specs.declared.Got.{Got}
 use Rattle.gets.specs.declared.Got.the-variants.{Record, Leftover, Error}

@@ -2,10 +2,10 @@
 use Prim.Native.Nat.{ℕ, _+_, _-_}
 use mathlib.Core.Bool.{Bool, false, cond}
 use lib.Dec.{leb, ltb}
-use Rattle.files.specs.declared.Slot.{Slot}
-use Rattle.files.specs.declared.Slot.the-variants.{Empty, Taken, Part, Full}
+use Rattle.slots.specs.declared.Slot.{Slot}
+use Rattle.slots.specs.declared.Slot.the-variants.{Empty, Taken, Part, Full}
 use Rattle.files.specs.declared.File.{File}
-use Rattle.files.specs.Slots.{fullWords, fullPlace, fullError}
+use Rattle.slots.specs.Slots.{fullWords, fullPlace, fullError}
 use Rattle.files.specs.Sides.{slotAt, startAt, isSide, oldest, withSlot, withoutOldest}
 use Rattle.gets.specs.declared.Got.{Got}
 use Rattle.gets.specs.declared.Got.the-variants.{Record, Leftover, Error, End, Nothing}

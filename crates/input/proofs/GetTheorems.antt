@@ -20,14 +20,14 @@ use Rattle.files.specs.Opening.{closedFile}
 use Rattle.gets.specs.declared.Got.{Got}
 use Rattle.gets.specs.Gets.{getFrom, gotStart, gotWords}
 use Rattle.gets.specs.Histories.{shown, get}
-use Rattle.pool.proofs.Changes.{get-sound}
-use Rattle.pool.proofs.Events.{event-alike}
-use Rattle.pool.proofs.Inside.{get-inside}
+use Rattle.filing.proofs.Changes.{get-sound}
+use Rattle.filing.proofs.Events.{event-alike}
+use Rattle.filing.proofs.Inside.{get-inside}
 use Rattle.state.specs.declared.State.{State}
 use Rattle.state.specs.Places.{fileAt, withFile, areaShort}
-use Rattle.state.specs.Soundness.{sound, requestOf}
-use Rattle.state.proofs.Facts.{SoundFacts, sound-facts, facts-sound}
-use Rattle.state.proofs.Kept.{file-kept, place-of}
+use Rattle.judging.specs.Soundness.{sound, requestOf}
+use Rattle.judging.proofs.Facts.{SoundFacts, sound-facts, facts-sound}
+use Rattle.judging.proofs.Kept.{file-kept, place-of}
 use Rattle.input.specs.Get.{misused, givesOut, getRows, getRefusal, noAnswer, getOn, getChange, getBy, getWords}
 use Rattle.input.proofs.Ready.{get-taken, input-ready, holdings}
 

@@ -8,21 +8,21 @@ use Rattle.area.proofs.Walks.{and-left, and-right, and-both}
 use Rattle.channel.specs.declared.Op.the-variants.{Read, Write, Mark}
 use Rattle.channel.specs.declared.Work.{Work}
 use Rattle.channel.specs.declared.Work.the-variants.{At, Nothing}
-use Rattle.files.specs.declared.Slot.{Slot}
-use Rattle.files.specs.declared.Slot.the-variants.{Empty}
+use Rattle.slots.specs.declared.Slot.{Slot}
+use Rattle.slots.specs.declared.Slot.the-variants.{Empty}
 use Rattle.files.specs.declared.Side.{Side}
 use Rattle.files.specs.declared.Side.the-variants.{Low, High, Neither}
 use Rattle.files.specs.declared.File.{File}
-use Rattle.files.specs.Slots.{isTaken}
+use Rattle.slots.specs.Slots.{isTaken}
 use Rattle.files.specs.Sides.{slotAt, oldest, withSlot, emptiedAt, withoutOldest}
-use Rattle.files.specs.Input.{hasFull}
-use Rattle.files.proofs.Ages.{Aged, noBlock, old, aged}
+use Rattle.moves.specs.Input.{hasFull}
+use Rattle.moves.proofs.Ages.{Aged, noBlock, old, aged}
 use Rattle.gets.specs.Gets.{isUsedUp, passed, lookedAt, slotAfter, afterFound, getFrom}
-use Rattle.pool.specs.Soundness.{oneIf, takenCount}
-use Rattle.pool.proofs.Replaced.{Alike}
-use Rattle.state.specs.Requests.{isRead, isWrite, fitsOutput}
-use Rattle.state.specs.Judged.{fileReady}
-use Rattle.state.proofs.Kept.{SameHoldings}
+use Rattle.filing.specs.Soundness.{oneIf, takenCount}
+use Rattle.filing.proofs.Replaced.{Alike}
+use Rattle.judging.specs.Requests.{isRead, isWrite, fitsOutput}
+use Rattle.judging.specs.Judged.{fileReady}
+use Rattle.judging.proofs.Kept.{SameHoldings}
 
 -- ---- which buffers are taken
 

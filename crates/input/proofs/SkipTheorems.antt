@@ -14,17 +14,17 @@ use Rattle.area.proofs.Exactly.{Exactly, NoneApplies, here, later, exactly}
 use Rattle.files.specs.declared.File.{File}
 use Rattle.files.specs.Opening.{closedFile}
 use Rattle.files.specs.Sides.{withoutOldest}
-use Rattle.files.specs.Input.{hasFull}
-use Rattle.files.specs.Blocks.{line}
-use Rattle.files.proofs.Ages.{oldest-leaves}
+use Rattle.moves.specs.Input.{hasFull}
+use Rattle.moves.specs.Blocks.{line}
+use Rattle.moves.proofs.Ages.{oldest-leaves}
 use Rattle.gets.specs.Histories.{skip}
-use Rattle.pool.proofs.Changes.{dropped-sound}
-use Rattle.pool.proofs.Events.{event-alike}
+use Rattle.filing.proofs.Changes.{dropped-sound}
+use Rattle.filing.proofs.Events.{event-alike}
 use Rattle.state.specs.declared.State.{State}
 use Rattle.state.specs.Places.{fileAt, withFile}
-use Rattle.state.specs.Soundness.{sound, requestOf}
-use Rattle.state.proofs.Facts.{SoundFacts, sound-facts, facts-sound}
-use Rattle.state.proofs.Kept.{file-kept, place-of}
+use Rattle.judging.specs.Soundness.{sound, requestOf}
+use Rattle.judging.proofs.Facts.{SoundFacts, sound-facts, facts-sound}
+use Rattle.judging.proofs.Kept.{file-kept, place-of}
 use Rattle.input.specs.Skip.{skipMisused, skipRows, skipRefusal, skipOn, skipChange, skipBy}
 use Rattle.input.proofs.Ready.{dropped-taken, input-ready, holdings}
 

@@ -12,14 +12,14 @@ use Rattle.area.proofs.Walks.{or-neither}
 use Rattle.area.specs.Refusals.{Rows, lowest}
 use Rattle.files.specs.declared.File.{File}
 use Rattle.files.specs.Sides.{withoutOldest}
-use Rattle.files.specs.Input.{hasFull}
+use Rattle.moves.specs.Input.{hasFull}
 use Rattle.gets.specs.declared.Got.{Got}
 use Rattle.gets.specs.declared.Finding.{Finding}
 use Rattle.gets.specs.Gets.{getFrom}
 use Rattle.gets.specs.Histories.{shown}
 use Rattle.state.specs.declared.State.{State}
 use Rattle.state.specs.Places.{fileAt, withFile}
-use Rattle.state.specs.Soundness.{sound}
+use Rattle.judging.specs.Soundness.{sound}
 use Rattle.input.specs.declared.GetChange.{GetChange}
 use Rattle.input.specs.declared.Getting.{Getting}
 use Rattle.input.specs.declared.SkipChange.{SkipChange}

@@ -14,7 +14,7 @@ use Rattle.gets.specs.Gets.{getFrom}
 use Rattle.gets.specs.Histories.{shown}
 use Rattle.state.specs.declared.State.{State}
 use Rattle.state.specs.Places.{fileAt, withFile, areaShort}
-use Rattle.state.specs.Soundness.{sound}
+use Rattle.judging.specs.Soundness.{sound}
 use Rattle.input.specs.declared.GetChange.{GetChange}
 use Rattle.input.specs.declared.Getting.{Getting}
 

@@ -6,10 +6,10 @@ use lib.Dec.{ltb, eqb}
 use Rattle.area.specs.Refusals.{Rows, lowest}
 use Rattle.files.specs.declared.File.{File}
 use Rattle.files.specs.Sides.{withoutOldest}
-use Rattle.files.specs.Input.{hasFull}
+use Rattle.moves.specs.Input.{hasFull}
 use Rattle.state.specs.declared.State.{State}
 use Rattle.state.specs.Places.{fileAt, withFile}
-use Rattle.state.specs.Soundness.{sound}
+use Rattle.judging.specs.Soundness.{sound}
 use Rattle.input.specs.declared.SkipChange.{SkipChange}
 use Rattle.input.specs.declared.Skipping.{Skipping}
 

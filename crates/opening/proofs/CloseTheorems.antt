@@ -18,14 +18,14 @@ use Rattle.channel.specs.Units.{turnAt, isIdle, hasRequest}
 use Rattle.files.specs.declared.File.{File}
 use Rattle.files.specs.Opening.{closedFile}
 use Rattle.pool.specs.Free.{fileCount, heldBy, isHeld, isFree}
-use Rattle.pool.proofs.Shares.{apart-holds}
+use Rattle.filing.proofs.Shares.{apart-holds}
 use Rattle.state.specs.declared.State.{State}
 use Rattle.state.specs.Places.{fileAt, channelAt, withFile}
-use Rattle.state.specs.Requests.{requested, isNone}
-use Rattle.state.specs.Soundness.{sound}
-use Rattle.state.proofs.ChannelFacts.{none-idle}
-use Rattle.state.proofs.Facts.{SoundFacts, sound-facts, facts-sound}
-use Rattle.state.proofs.Kept.{close-kept as close-facts, place-of}
+use Rattle.judging.specs.Requests.{requested, isNone}
+use Rattle.judging.specs.Soundness.{sound}
+use Rattle.judging.proofs.ChannelFacts.{none-idle}
+use Rattle.judging.proofs.Facts.{SoundFacts, sound-facts, facts-sound}
+use Rattle.judging.proofs.Kept.{close-kept as close-facts, place-of}
 use Rattle.opening.specs.Close.{closeRows, closeOff, closeOn, closeChange, closeBy}
 use Rattle.opening.specs.Open.{openBy}
 use Rattle.opening.proofs.Answered.{not-so, state-refused, state-accepted, file-accepted}

@@ -6,9 +6,9 @@ use Rattle.area.specs.Refusals.{lowest}
 use Rattle.channel.specs.Units.{freshWith, bitsFrom, freshOf}
 use Rattle.files.specs.Opening.{openedFile}
 use Rattle.pool.specs.Free.{lowestFree, freeCount, servingFile}
-use Rattle.pool.specs.Soundness.{isBlank}
+use Rattle.filing.specs.Soundness.{isBlank}
 use Rattle.state.specs.Places.{withFile}
-use Rattle.state.specs.Soundness.{numbersInRange, noBufferHeldTwice, eachHasItsOwn, requestsFit, channelsWork, readsAloneTake, writesHaveBlocks, fullBlocksRight, partBuffersRight, placesRight, attemptsInLimit, sound}
+use Rattle.judging.specs.Soundness.{numbersInRange, noBufferHeldTwice, eachHasItsOwn, requestsFit, channelsWork, readsAloneTake, writesHaveBlocks, fullBlocksRight, partBuffersRight, placesRight, attemptsInLimit, sound}
 use Rattle.opening.specs.Fresh.{freshState}
 use Rattle.opening.specs.Open.{freeOf, openRows, openOn, openBy}
 use Rattle.opening.specs.Examples.{runs, holds, table}

@@ -15,17 +15,17 @@ use Rattle.channel.specs.declared.Turn.{Turn}
 use Rattle.channel.specs.declared.Turn.the-variants.{Idle, Waiting, Displaced, Working}
 use Rattle.channel.specs.declared.Channel.{Channel}
 use Rattle.channel.specs.Units.{isIdle, turnAt}
-use Rattle.channel.specs.Scans.{workingIn, isFound}
-use Rattle.channel.specs.Sound.{isWorking}
-use Rattle.channel.specs.Turns.{startOf, thawOf}
-use Rattle.channel.proofs.Theorems.Turning.{held, at-set}
-use Rattle.channel.proofs.Theorems.Starts.{Started, isFrozen, isBusy, isQuiet, begins, started, works-found}
-use Rattle.channel.proofs.Laws.Turns.{start-stays}
+use Rattle.schedule.specs.Scans.{workingIn, isFound}
+use Rattle.channel.specs.Units.{isWorking}
+use Rattle.schedule.specs.Turns.{startOf, thawOf}
+use Rattle.service.proofs.Theorems.Turning.{held, at-set}
+use Rattle.service.proofs.Theorems.Starts.{Started, isFrozen, isBusy, isQuiet, begins, started, works-found}
+use Rattle.schedule.proofs.Laws.Turns.{start-stays}
 use Rattle.state.specs.declared.State.{State}
 use Rattle.state.specs.Places.{channelAt}
-use Rattle.state.specs.Soundness.{sound}
-use Rattle.state.proofs.Facts.{sound-facts, facts-sound}
-use Rattle.state.proofs.Wholes.{freeze-kept as freeze-facts, thaw-kept as thaw-facts}
+use Rattle.judging.specs.Soundness.{sound}
+use Rattle.judging.proofs.Facts.{sound-facts, facts-sound}
+use Rattle.judging.proofs.Wholes.{freeze-kept as freeze-facts, thaw-kept as thaw-facts}
 use Rattle.opening.specs.Freeze.{stateRows, stateRefusal, frozenState, thawedState, freezeBy, thawBy}
 use Rattle.opening.proofs.Answered.{not-so, state-refused, state-accepted}
 use Rattle.opening.proofs.Maps.{map-twice}

@@ -12,8 +12,8 @@ use Rattle.area.proofs.Walks.{and-left, or-left, or-first}
 use Rattle.area.proofs.Exactly.{Exactly, here, exactly}
 use Rattle.pool.specs.Free.{fileCount, bufferLimit, poolFits}
 use Rattle.state.specs.declared.State.{State}
-use Rattle.state.specs.Soundness.{sound}
-use Rattle.state.proofs.Wholes.{fresh-sound}
+use Rattle.judging.specs.Soundness.{sound}
+use Rattle.judging.proofs.Wholes.{fresh-sound}
 use Rattle.opening.specs.declared.Masks.{Masks}
 use Rattle.opening.specs.Fresh.{areMasks, freshRows, freshRefusal, freshState, freshBy}
 use Rattle.opening.proofs.Answered.{not-so, state-refused, state-accepted}

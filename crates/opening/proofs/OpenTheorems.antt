@@ -20,14 +20,14 @@ use Rattle.files.specs.declared.File.{File}
 use Rattle.files.specs.declared.Wish.{Wish}
 use Rattle.files.specs.Opening.{sizesFit, buffersFor, openedFile, closedFile}
 use Rattle.pool.specs.Free.{fileCount, heldBy, isHeld, isFree, freeCount, serves, isBound}
-use Rattle.pool.proofs.Changes.{opened-sound}
-use Rattle.pool.proofs.Replaced.{unbound}
+use Rattle.filing.proofs.Changes.{opened-sound}
+use Rattle.filing.proofs.Replaced.{unbound}
 use Rattle.state.specs.declared.State.{State}
 use Rattle.state.specs.Places.{channelCount, fileAt, channelAt, withFile}
-use Rattle.state.specs.Soundness.{sound}
-use Rattle.state.proofs.Everywhere.{by-place}
-use Rattle.state.proofs.Facts.{sound-facts, facts-sound}
-use Rattle.state.proofs.Kept.{open-kept as open-facts}
+use Rattle.judging.specs.Soundness.{sound}
+use Rattle.judging.proofs.Everywhere.{by-place}
+use Rattle.judging.proofs.Facts.{sound-facts, facts-sound}
+use Rattle.judging.proofs.Kept.{open-kept as open-facts}
 use Rattle.opening.specs.Open.{isSet, wishOf, lowestNumber, freeOf, openRows, openOff, openOn, openChange, openBy}
 use Rattle.opening.proofs.Answered.{not-so, state-refused, state-accepted, file-accepted}
 use Rattle.opening.proofs.Frames.{OnlyFile, store-frame}

@@ -8,11 +8,11 @@ use Rattle.channel.specs.declared.Channel.{Channel}
 use Rattle.channel.specs.Units.{hasRequest}
 use Rattle.files.specs.declared.File.{File}
 use Rattle.files.specs.Opening.{closedFile}
-use Rattle.files.specs.Output.{hasUnsent}
+use Rattle.moves.specs.Output.{hasUnsent}
 use Rattle.pool.specs.Free.{fileCount}
 use Rattle.state.specs.declared.State.{State}
 use Rattle.state.specs.Places.{fileAt, channelAt, withFile}
-use Rattle.state.specs.Soundness.{sound}
+use Rattle.judging.specs.Soundness.{sound}
 use Rattle.opening.specs.declared.Called.{Called}
 use Rattle.opening.specs.declared.FileChange.{FileChange}
 use Rattle.opening.specs.Answers.{called, fileChange}

@@ -3,9 +3,9 @@ use Prim.Native.Nat.{ℕ}
 use mathlib.Core.Bool.{true, false, not}
 use mathlib.Core.List.{[], _∷_, map}
 use Rattle.area.specs.Refusals.{Rows, lowest}
-use Rattle.channel.specs.Turns.{thawOf}
+use Rattle.schedule.specs.Turns.{thawOf}
 use Rattle.state.specs.declared.State.{State}
-use Rattle.state.specs.Soundness.{sound}
+use Rattle.judging.specs.Soundness.{sound}
 use Rattle.opening.specs.declared.Called.{Called}
 use Rattle.opening.specs.Answers.{called}
 

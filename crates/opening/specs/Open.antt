@@ -14,7 +14,7 @@ use Rattle.files.specs.Opening.{sizesFit, buffersFor, openedFile}
 use Rattle.pool.specs.Free.{fileCount, lowestFree, freeCount, isBound}
 use Rattle.state.specs.declared.State.{State}
 use Rattle.state.specs.Places.{channelCount, fileAt, channelAt, withFile}
-use Rattle.state.specs.Soundness.{sound}
+use Rattle.judging.specs.Soundness.{sound}
 use Rattle.opening.specs.declared.Called.{Called}
 use Rattle.opening.specs.declared.FileChange.{FileChange}
 use Rattle.opening.specs.declared.Free.{Free}

@@ -1,13 +1,13 @@
 // Freeze stops starts on all channels; thaw lets them happen.
 use crate::Called;
 use channel::Channel;
+use judging::is_sound;
 use state::CHANNELS;
 use state::State;
-use state::is_sound;
 use state::lowest_of;
 ghost use mathlib.Core.Path.{_≡_};
 ghost use mathlib.Core.List.{map};
-ghost use Rattle.channel.specs.Turns.{thawOf};
+ghost use Rattle.schedule.specs.Turns.{thawOf};
 ghost use Rattle.opening.specs.Freeze.{stateRefusal, frozenState, thawedState, freezeBy, thawBy};
 
 // The refusal of a freeze or a thaw, 0 for none: the state is unsound.
@@ -50,7 +50,7 @@ fn all_started(channels: [Channel; CHANNELS]) -> [Channel; CHANNELS]
     let mut i: usize = 0;
     while i < CHANNELS {
         let c = started[i];
-        let d = channel::thaw(c);
+        let d = schedule::thaw(c);
         started[i] = d;
         i += 1;
     }

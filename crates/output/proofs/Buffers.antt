@@ -12,21 +12,21 @@ use Rattle.area.specs.Lists.{allOf}
 use Rattle.area.specs.Parts.{isWord, partOf}
 use Rattle.area.proofs.Walks.{true-not-false}
 use Rattle.area.proofs.Marks.{cond-true, cond-false}
-use Rattle.files.specs.declared.Slot.{Slot}
-use Rattle.files.specs.declared.Slot.the-variants.{Empty, Taken, Part, Full}
+use Rattle.slots.specs.declared.Slot.{Slot}
+use Rattle.slots.specs.declared.Slot.the-variants.{Empty, Taken, Part, Full}
 use Rattle.files.specs.declared.Side.{Side}
 use Rattle.files.specs.declared.Side.the-variants.{Low, High, Neither}
 use Rattle.files.specs.declared.File.{File}
-use Rattle.files.specs.Slots.{isEmpty, isPart, partWords}
+use Rattle.slots.specs.Slots.{isEmpty, isPart, partWords}
 use Rattle.files.specs.Sides.{bufferAt, slotAt, startAt, isSide, lower, emptySide, partSide, withSlot}
 use Rattle.files.specs.Opening.{extra}
-use Rattle.files.specs.Output.{putSide, wordsAfter, added, partStart, partLength}
+use Rattle.moves.specs.Output.{putSide, wordsAfter, added, partStart, partLength}
 use Rattle.files.proofs.Which.{empty-there}
-use Rattle.pool.proofs.Facts.{Sound}
-use Rattle.pool.proofs.Kept.{other}
-use Rattle.pool.proofs.Changes.{one-record}
-use Rattle.pool.proofs.Puts.{PutAt, put-at}
-use Rattle.pool.proofs.Inside.{put-inside, size-fits}
+use Rattle.filing.proofs.Facts.{Sound}
+use Rattle.filing.proofs.Kept.{other}
+use Rattle.filing.proofs.Changes.{one-record}
+use Rattle.filing.proofs.Puts.{PutAt, put-at}
+use Rattle.filing.proofs.Inside.{put-inside, size-fits}
 use Rattle.output.specs.Blocks.{heldRight, sealedIn, sealedArea}
 
 -- a buffer of which a word lies among the words of m buffers lies there whole

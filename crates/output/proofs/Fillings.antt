@@ -13,11 +13,11 @@ use Rattle.word.specs.Sums.{logicalSum}
 use Rattle.word.specs.CheckWords.{checkWord, IsCheckWord}
 use Rattle.word.proofs.Laws.CheckWord.{check-word-is}
 use Rattle.files.specs.declared.File.{File}
-use Rattle.files.specs.Slots.{partWords}
+use Rattle.slots.specs.Slots.{partWords}
 use Rattle.files.specs.Sides.{slotAt, startAt, isSide, partSide}
 use Rattle.files.specs.Opening.{extra}
-use Rattle.files.specs.Output.{putSide, putStart, wordsAfter, added, isComplete, partStart, partLength}
-use Rattle.pool.proofs.Facts.{Sound}
+use Rattle.moves.specs.Output.{putSide, putStart, wordsAfter, added, isComplete, partStart, partLength}
+use Rattle.filing.proofs.Facts.{Sound}
 use Rattle.output.specs.Only.{Only}
 use Rattle.output.specs.Blocks.{heldRight, sealedArea}
 use Rattle.output.specs.Put.{filledArea, putArea}

@@ -15,19 +15,19 @@ use Rattle.area.specs.Refusals.{Rows, lowest}
 use Rattle.area.proofs.Walks.{or-left, or-right, true-not-false, and-both}
 use Rattle.area.proofs.Exactly.{Exactly, NoneApplies, here, later, exactly}
 use Rattle.files.specs.declared.File.{File}
-use Rattle.files.specs.Slots.{partWords}
+use Rattle.slots.specs.Slots.{partWords}
 use Rattle.files.specs.Sides.{bufferAt, slotAt, startAt}
 use Rattle.files.specs.Opening.{closedFile, extra}
-use Rattle.files.specs.Output.{putSide, hasRoom, putStart, wordsAfter, added, isComplete, afterPut}
+use Rattle.moves.specs.Output.{putSide, hasRoom, putStart, wordsAfter, added, isComplete, afterPut}
 use Rattle.gets.specs.Histories as histories
-use Rattle.pool.proofs.Facts.{Sound}
-use Rattle.pool.proofs.Puts.{put-sound}
-use Rattle.pool.proofs.Events.{event-alike}
+use Rattle.filing.proofs.Facts.{Sound}
+use Rattle.filing.proofs.Puts.{put-sound}
+use Rattle.filing.proofs.Events.{event-alike}
 use Rattle.state.specs.declared.State.{State}
 use Rattle.state.specs.Places.{fileAt, withFile, areaShort}
-use Rattle.state.specs.Soundness.{sound, requestOf}
-use Rattle.state.proofs.Facts.{SoundFacts, sound-facts, facts-sound}
-use Rattle.state.proofs.Kept.{file-kept, place-of}
+use Rattle.judging.specs.Soundness.{sound, requestOf}
+use Rattle.judging.proofs.Facts.{SoundFacts, sound-facts, facts-sound}
+use Rattle.judging.proofs.Kept.{file-kept, place-of}
 use Rattle.output.specs.Only.{Only}
 use Rattle.output.specs.Blocks.{misused, heldRight}
 use Rattle.output.specs.Put.{isTaken, sums, putRows, putRefusal, putArea, putOn, putOnArea, putChange, putBy, putByArea}

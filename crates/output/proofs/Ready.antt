@@ -9,23 +9,23 @@ use lib.ListN.{length}
 use Rattle.area.proofs.Walks.{true-not-false, and-left, and-right, and-both}
 use Rattle.area.proofs.Marks.{cond-true, unless, unless-so}
 use Rattle.channel.specs.declared.Work.{Work}
-use Rattle.files.specs.declared.Slot.the-variants.{Part}
+use Rattle.slots.specs.declared.Slot.the-variants.{Part}
 use Rattle.files.specs.declared.Side.{Side}
 use Rattle.files.specs.declared.Side.the-variants.{Low, High, Neither}
 use Rattle.files.specs.declared.File.{File}
-use Rattle.files.specs.Slots.{isFull}
+use Rattle.slots.specs.Slots.{isFull}
 use Rattle.files.specs.Sides.{isSide, lower, oldest, partSide, withSlot, turnedBy, filledAt}
-use Rattle.files.specs.Input.{hasFull}
-use Rattle.files.specs.Output.{putSide, wordsAfter, added, partLength, sealed, afterPut}
-use Rattle.files.specs.Blocks.{line}
-use Rattle.files.proofs.Ages.{Aged, noBlock, old, aged, added-line}
-use Rattle.pool.specs.Soundness.{oneIf, takenCount}
-use Rattle.pool.proofs.Facts.{Sound}
-use Rattle.pool.proofs.Puts.{PutAt, put-at, put-is}
-use Rattle.pool.proofs.Replaced.{Alike}
-use Rattle.state.specs.Requests.{isRead, isWrite, fitsOutput}
-use Rattle.state.specs.Judged.{fileReady}
-use Rattle.state.proofs.Kept.{SameHoldings}
+use Rattle.moves.specs.Input.{hasFull}
+use Rattle.moves.specs.Output.{putSide, wordsAfter, added, partLength, sealed, afterPut}
+use Rattle.moves.specs.Blocks.{line}
+use Rattle.moves.proofs.Ages.{Aged, noBlock, old, aged, added-line}
+use Rattle.filing.specs.Soundness.{oneIf, takenCount}
+use Rattle.filing.proofs.Facts.{Sound}
+use Rattle.filing.proofs.Puts.{PutAt, put-at, put-is}
+use Rattle.filing.proofs.Replaced.{Alike}
+use Rattle.judging.specs.Requests.{isRead, isWrite, fitsOutput}
+use Rattle.judging.specs.Judged.{fileReady}
+use Rattle.judging.proofs.Kept.{SameHoldings}
 
 -- ---- a full block
 

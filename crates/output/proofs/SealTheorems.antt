@@ -16,16 +16,16 @@ use Rattle.area.proofs.Exactly.{Exactly, NoneApplies, here, later, exactly}
 use Rattle.files.specs.declared.File.{File}
 use Rattle.files.specs.Sides.{bufferAt, partSide}
 use Rattle.files.specs.Opening.{closedFile, extra}
-use Rattle.files.specs.Output.{hasPart, partStart, partLength, sealed}
+use Rattle.moves.specs.Output.{hasPart, partStart, partLength, sealed}
 use Rattle.gets.specs.Histories as histories
-use Rattle.pool.proofs.Facts.{Sound}
-use Rattle.pool.proofs.Changes.{sealed-sound}
-use Rattle.pool.proofs.Events.{event-alike}
+use Rattle.filing.proofs.Facts.{Sound}
+use Rattle.filing.proofs.Changes.{sealed-sound}
+use Rattle.filing.proofs.Events.{event-alike}
 use Rattle.state.specs.declared.State.{State}
 use Rattle.state.specs.Places.{fileAt, withFile, areaShort}
-use Rattle.state.specs.Soundness.{sound, requestOf}
-use Rattle.state.proofs.Facts.{SoundFacts, sound-facts, facts-sound}
-use Rattle.state.proofs.Kept.{file-kept, place-of}
+use Rattle.judging.specs.Soundness.{sound, requestOf}
+use Rattle.judging.proofs.Facts.{SoundFacts, sound-facts, facts-sound}
+use Rattle.judging.proofs.Kept.{file-kept, place-of}
 use Rattle.output.specs.Only.{Only}
 use Rattle.output.specs.Blocks.{misused, heldRight, sealedArea}
 use Rattle.output.specs.Seal.{sealSums, sealRows, sealRefusal, sealOn, sealOnArea, sealChange, sealBy, sealByArea}

@@ -11,10 +11,10 @@ use Rattle.area.specs.Parts.{isWord}
 use Rattle.area.proofs.Walks.{or-neither}
 use Rattle.area.specs.Refusals.{Rows, lowest}
 use Rattle.files.specs.declared.File.{File}
-use Rattle.files.specs.Output.{hasRoom, hasPart, added, isComplete, sealed, afterPut}
+use Rattle.moves.specs.Output.{hasRoom, hasPart, added, isComplete, sealed, afterPut}
 use Rattle.state.specs.declared.State.{State}
 use Rattle.state.specs.Places.{fileAt, withFile}
-use Rattle.state.specs.Soundness.{sound}
+use Rattle.judging.specs.Soundness.{sound}
 use Rattle.output.specs.declared.PutChange.{PutChange}
 use Rattle.output.specs.declared.Putting.{Putting}
 use Rattle.output.specs.declared.SealChange.{SealChange}

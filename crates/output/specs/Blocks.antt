@@ -7,10 +7,10 @@ use Rattle.area.specs.Lists.{allOf}
 use Rattle.area.specs.Parts.{isWord, partOf, paste}
 use Rattle.word.specs.Blocks.{sealed}
 use Rattle.files.specs.declared.File.{File}
-use Rattle.files.specs.Output.{partStart, partLength}
+use Rattle.moves.specs.Output.{partStart, partLength}
 use Rattle.state.specs.declared.State.{State}
 use Rattle.state.specs.Places.{areaShort}
-use Rattle.state.specs.Soundness.{sound}
+use Rattle.judging.specs.Soundness.{sound}
 
 -- 1: "an argument is outside its range, the area is short, a state passed back is unsound" ("Files 0 to 15")
 abbrev pub misused : State → ℕ → ℕ → Bool

@@ -1,11 +1,11 @@
 // What put and seal share: row 1 of their refusals, the words that a part-filled buffer holds, and a block sealed where it lies in the area.
 use crate::LAST_FILE;
 use files::File;
-use files::part_length;
-use files::part_start;
+use judging::is_sound;
+use moves::part_length;
+use moves::part_start;
 use state::State;
 use state::area_short;
-use state::is_sound;
 ghost use mathlib.Core.Path.{_≡_};
 ghost use mathlib.Core.Bool.{not, _&&_};
 ghost use Rattle.output.specs.Blocks.{misused, heldRight, sealedIn, sealedArea};

@@ -13,23 +13,23 @@ use Rattle.area.specs.Refusals.{Rows, lowest}
 use Rattle.channel.specs.declared.Turn.{Turn}
 use Rattle.channel.specs.declared.Turn.the-variants.{Idle, Waiting, Displaced, Working}
 use Rattle.channel.specs.declared.Channel.{Channel}
-use Rattle.channel.specs.declared.Asked.{Asked}
+use Rattle.schedule.specs.declared.Asked.{Asked}
 use Rattle.channel.specs.declared.Work.the-variants.{At}
 use Rattle.channel.specs.Units.{declaredAt, turnAt, isIdle, hasRequest, acceptsAt}
-use Rattle.channel.specs.History.{station, ask, accepted, stepTo, askStep, step}
-use Rattle.channel.specs.Lifted.{Agrees}
-use Rattle.channel.proofs.Laws.Turns as turns
+use Rattle.service.specs.History.{station, ask, accepted, stepTo, askStep, step}
+use Rattle.service.specs.Lifted.{Agrees}
+use Rattle.schedule.proofs.Laws.Turns as turns
 use Rattle.files.specs.declared.File.{File}
-use Rattle.files.specs.Input.{hasEmpty, hasFull}
-use Rattle.files.specs.Output.{hasUnsent}
-use Rattle.pool.specs.Soundness.{oneIf, takenCount}
+use Rattle.moves.specs.Input.{hasEmpty, hasFull}
+use Rattle.moves.specs.Output.{hasUnsent}
+use Rattle.filing.specs.Soundness.{oneIf, takenCount}
 use Rattle.state.specs.declared.State.{State}
 use Rattle.state.specs.Places.{fileAt, channelAt, withFile, withChannel}
-use Rattle.state.specs.Requests.{requested, isRead}
-use Rattle.state.specs.Soundness.{sound}
-use Rattle.state.proofs.Facts.{SoundFacts, sound-facts, facts-sound}
-use Rattle.state.proofs.ChannelCalls.{ask-moved}
-use Rattle.state.proofs.Kept.{line-of}
+use Rattle.judging.specs.Requests.{requested, isRead}
+use Rattle.judging.specs.Soundness.{sound}
+use Rattle.judging.proofs.Facts.{SoundFacts, sound-facts, facts-sound}
+use Rattle.judging.proofs.ChannelCalls.{ask-moved}
+use Rattle.judging.proofs.Kept.{line-of}
 use Rattle.requests.specs.declared.AskChange.{AskChange}
 use Rattle.requests.specs.declared.Asking.{Asking}
 use Rattle.requests.specs.Ask.{isReading, isWriting, isMarking, isPriority, opOf, askRows, askRefusal, askedFile, askedChannel, askOn, askWrong, askBy}

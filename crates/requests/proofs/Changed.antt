@@ -11,14 +11,14 @@ use Rattle.channel.specs.declared.Channel.{Channel}
 use Rattle.channel.specs.declared.Work.{Work}
 use Rattle.files.specs.declared.File.{File}
 use Rattle.files.specs.Opening.{closedFile}
-use Rattle.pool.proofs.Replaced.{Alike}
+use Rattle.filing.proofs.Replaced.{Alike}
 use Rattle.state.specs.declared.State.{State}
 use Rattle.state.specs.Places.{noChannel, fileAt, channelAt, withFile, withChannel}
-use Rattle.state.specs.Requests.{requested}
-use Rattle.state.specs.Judged.{fileReady}
-use Rattle.state.proofs.Facts.{SoundFacts}
-use Rattle.state.proofs.ChannelCalls.{Moved}
-use Rattle.state.proofs.Kept.{SameHoldings, both-kept}
+use Rattle.judging.specs.Requests.{requested}
+use Rattle.judging.specs.Judged.{fileReady}
+use Rattle.judging.proofs.Facts.{SoundFacts}
+use Rattle.judging.proofs.ChannelCalls.{Moved}
+use Rattle.judging.proofs.Kept.{SameHoldings, both-kept}
 use Rattle.requests.specs.Changes.{changedState}
 use Rattle.requests.proofs.Ready.{Became}
 

@@ -23,12 +23,12 @@ use Rattle.channel.specs.declared.Verdict.{Verdict}
 use Rattle.channel.specs.declared.Verdict.the-variants.{Refused, Repeats, Ends}
 use Rattle.channel.specs.Rules.{isAllowed, isFailure, isPermanent, nextAttempt, endingOf, verdictOf, resultNumber, refusalNumber}
 use Rattle.channel.specs.Units.{turnAt, hasRequest, workOf, operationAt}
-use Rattle.channel.specs.Scans.{workingIn, unitNumber}
-use Rattle.channel.specs.Turns.{judgeTurn, judgeOf, bookOf}
+use Rattle.schedule.specs.Scans.{workingIn, unitNumber}
+use Rattle.schedule.specs.Turns.{judgeTurn, judgeOf, bookOf}
 use Rattle.files.specs.declared.File.{File}
 use Rattle.files.specs.Opening.{extra}
-use Rattle.files.specs.Input.{hasEmpty, hasFull, blockFits}
-use Rattle.files.specs.Output.{hasUnsent}
+use Rattle.moves.specs.Input.{hasEmpty, hasFull, blockFits}
+use Rattle.moves.specs.Output.{hasUnsent}
 use Rattle.word.specs.declared.blocks.Judged.{Judged}
 use Rattle.word.specs.Blocks.{isNumber, judgeRefusal, judged}
 use Rattle.requests.specs.declared.Effect.{Effect}

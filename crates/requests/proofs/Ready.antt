@@ -13,26 +13,26 @@ use Rattle.channel.specs.declared.Work.{Work}
 use Rattle.channel.specs.declared.Work.the-variants.{At, Nothing}
 use Rattle.channel.specs.declared.Ending.{Ending}
 use Rattle.channel.specs.declared.Ending.the-variants.{Good, Opposite, MarkRead, MediumEnd, LostRedundancy, LostIncomplete}
-use Rattle.files.specs.declared.Slot.{Slot}
-use Rattle.files.specs.declared.Slot.the-variants.{Empty, Taken, Full}
+use Rattle.slots.specs.declared.Slot.{Slot}
+use Rattle.slots.specs.declared.Slot.the-variants.{Empty, Taken, Full}
 use Rattle.files.specs.declared.Side.{Side}
 use Rattle.files.specs.declared.Side.the-variants.{Low, High, Neither}
 use Rattle.files.specs.declared.File.{File}
-use Rattle.files.specs.Slots.{isTaken}
+use Rattle.slots.specs.Slots.{isTaken}
 use Rattle.files.specs.Sides.{slotAt, isSide, lower, emptySide, takenSide, oldest, withSlot, turnedBy, nextBlock, filledAt, emptiedAt, withoutOldest}
 use Rattle.files.specs.Opening.{extra}
-use Rattle.files.specs.Input.{hasEmpty, hasFull, blockFits, tookBuffer, delivered, gaveBack, metMark}
-use Rattle.files.specs.Output.{hasUnsent, afterWrite}
+use Rattle.moves.specs.Input.{hasEmpty, hasFull, blockFits, tookBuffer, delivered, gaveBack, metMark}
+use Rattle.moves.specs.Output.{hasUnsent, afterWrite}
 use Rattle.files.proofs.Which.{taken-there}
 use Rattle.gets.specs.Histories.{read, giveBack, mark, send, deliver}
-use Rattle.pool.specs.Soundness.{oneIf, takenCount}
-use Rattle.pool.proofs.Facts.{Sound}
-use Rattle.pool.proofs.Kept.{other, taken-sides}
-use Rattle.pool.proofs.Changes.{taken-input, took-sound, delivered-sound, back-sound, dropped-sound, met-sound}
-use Rattle.pool.proofs.Replaced.{Alike, alike-self}
-use Rattle.pool.proofs.Events.{event-alike}
-use Rattle.state.specs.Requests.{isRead, isWrite, fitsOutput}
-use Rattle.state.specs.Judged.{fileReady}
+use Rattle.filing.specs.Soundness.{oneIf, takenCount}
+use Rattle.filing.proofs.Facts.{Sound}
+use Rattle.filing.proofs.Kept.{other, taken-sides}
+use Rattle.filing.proofs.Changes.{taken-input, took-sound, delivered-sound, back-sound, dropped-sound, met-sound}
+use Rattle.filing.proofs.Replaced.{Alike, alike-self}
+use Rattle.filing.proofs.Events.{event-alike}
+use Rattle.judging.specs.Requests.{isRead, isWrite, fitsOutput}
+use Rattle.judging.specs.Judged.{fileReady}
 use Rattle.requests.specs.Ask.{isReading, isWriting, isMarking, opOf, askedFile}
 use Rattle.requests.specs.Effects.{isDelivery, opEffect}
 use Rattle.requests.specs.Report.{reportedFile}

@@ -30,25 +30,25 @@ use Rattle.channel.specs.declared.Verdict.{Verdict}
 use Rattle.channel.specs.declared.Verdict.the-variants.{Repeats, Ends}
 use Rattle.channel.specs.Rules.{isAllowed, isFailure, isPermanent, nextAttempt, endingOf, verdictOf, resultNumber}
 use Rattle.channel.specs.Units.{turnAt, workOf, operationAt}
-use Rattle.channel.specs.Scans.{workingIn, unitNumber}
-use Rattle.channel.specs.Turns.{judgeTurn, judgeOf, bookOf, reportOf}
-use Rattle.channel.specs.History.{station, report, stepTo, reportAnswer, step, aReport}
-use Rattle.channel.specs.Lifted.{Agrees}
+use Rattle.schedule.specs.Scans.{workingIn, unitNumber}
+use Rattle.schedule.specs.Turns.{judgeTurn, judgeOf, bookOf, reportOf}
+use Rattle.service.specs.History.{station, report, stepTo, reportAnswer, step, aReport}
+use Rattle.service.specs.Lifted.{Agrees}
 use Rattle.files.specs.declared.File.{File}
 use Rattle.files.specs.Opening.{closedFile}
-use Rattle.files.specs.Input.{blockFits}
+use Rattle.moves.specs.Input.{blockFits}
 use Rattle.pool.specs.Free.{fileCount, serves, servingFile, isFound}
-use Rattle.pool.specs.Soundness.{shareBuffer, shareUnit, apart}
-use Rattle.pool.proofs.Replaced.{alike-self, unbound}
+use Rattle.filing.specs.Soundness.{shareBuffer, shareUnit, apart}
+use Rattle.filing.proofs.Replaced.{alike-self, unbound}
 use Rattle.state.specs.declared.State.{State}
 use Rattle.state.specs.Places.{fileAt, channelAt, withFile, withChannel}
-use Rattle.state.specs.Requests.{requested, isNone}
-use Rattle.state.specs.Soundness.{sound}
-use Rattle.state.specs.Judged.{fileReady}
-use Rattle.state.proofs.Everywhere.{place-inside}
-use Rattle.state.proofs.Facts.{Served, SoundFacts, sound-facts, facts-sound}
-use Rattle.state.proofs.ChannelCalls.{repeat-moved, end-moved}
-use Rattle.state.proofs.Kept.{line-of}
+use Rattle.judging.specs.Requests.{requested, isNone}
+use Rattle.judging.specs.Soundness.{sound}
+use Rattle.judging.specs.Judged.{fileReady}
+use Rattle.judging.proofs.Everywhere.{place-inside}
+use Rattle.judging.proofs.Facts.{Served, SoundFacts, sound-facts, facts-sound}
+use Rattle.judging.proofs.ChannelCalls.{repeat-moved, end-moved}
+use Rattle.judging.proofs.Kept.{line-of}
 use Rattle.word.specs.CheckWords.{address, chosen}
 use Rattle.word.specs.Sums.{logicalSum, firstHalf, folded}
 use Rattle.word.specs.Blocks.{dataWords, judgeRefusal, judged, errorOf}

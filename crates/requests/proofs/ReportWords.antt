@@ -32,17 +32,17 @@ use Rattle.files.specs.declared.Side.{Side}
 use Rattle.files.specs.declared.Side.the-variants.{Low, High, Neither}
 use Rattle.files.specs.declared.File.{File}
 use Rattle.files.specs.Sides.{bufferAt, startAt, isSide, takenSide}
-use Rattle.files.specs.Input.{hasFull}
+use Rattle.moves.specs.Input.{hasFull}
 use Rattle.pool.specs.Free.{fileCount, heldBy}
-use Rattle.pool.specs.Soundness.{takenCount}
-use Rattle.pool.proofs.Kept.{owns}
-use Rattle.pool.proofs.Changes.{own-taken}
-use Rattle.pool.proofs.Inside.{size-fits, taken-inside, send-inside}
+use Rattle.filing.specs.Soundness.{takenCount}
+use Rattle.filing.proofs.Kept.{owns}
+use Rattle.filing.proofs.Changes.{own-taken}
+use Rattle.filing.proofs.Inside.{size-fits, taken-inside, send-inside}
 use Rattle.state.specs.declared.State.{State}
 use Rattle.state.specs.Places.{fileAt, channelAt, areaShort}
-use Rattle.state.specs.Requests.{requested, isReadOp, isWriteOp, isRead, isWrite}
-use Rattle.state.specs.Soundness.{sound}
-use Rattle.state.specs.Judged.{fileReady}
+use Rattle.judging.specs.Requests.{requested, isReadOp, isWriteOp, isRead, isWrite}
+use Rattle.judging.specs.Soundness.{sound}
+use Rattle.judging.specs.Judged.{fileReady}
 use Rattle.requests.specs.declared.Effect.{Effect}
 use Rattle.requests.specs.declared.Effect.the-variants.{Delivers, MeetsMark, GivesBack, Sends, Keeps}
 use Rattle.requests.specs.Effects.{effectOf, opEffect, isDelivery}

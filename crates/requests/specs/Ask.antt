@@ -8,14 +8,14 @@ use Rattle.channel.specs.declared.Op.{Op}
 use Rattle.channel.specs.declared.Op.the-variants.{Read, Write, Mark}
 use Rattle.channel.specs.declared.Channel.{Channel}
 use Rattle.channel.specs.Units.{hasRequest}
-use Rattle.channel.specs.Scans.{workingIn, unitNumber}
-use Rattle.channel.specs.Turns.{askOf}
+use Rattle.schedule.specs.Scans.{workingIn, unitNumber}
+use Rattle.schedule.specs.Turns.{askOf}
 use Rattle.files.specs.declared.File.{File}
-use Rattle.files.specs.Input.{hasEmpty, hasFull, tookBuffer}
-use Rattle.files.specs.Output.{hasUnsent}
+use Rattle.moves.specs.Input.{hasEmpty, hasFull, tookBuffer}
+use Rattle.moves.specs.Output.{hasUnsent}
 use Rattle.state.specs.declared.State.{State}
 use Rattle.state.specs.Places.{fileAt, channelAt}
-use Rattle.state.specs.Soundness.{sound}
+use Rattle.judging.specs.Soundness.{sound}
 use Rattle.requests.specs.Changes.{changedState}
 use Rattle.requests.specs.declared.AskChange.{AskChange}
 use Rattle.requests.specs.declared.Asking.{Asking}

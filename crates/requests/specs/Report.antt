@@ -17,18 +17,18 @@ use Rattle.channel.specs.declared.Channel.{Channel}
 use Rattle.channel.specs.declared.Verdict.{Verdict}
 use Rattle.channel.specs.Rules.{isAllowed, resultNumber, refusalNumber}
 use Rattle.channel.specs.Units.{operationAt}
-use Rattle.channel.specs.Scans.{workingIn, unitNumber}
-use Rattle.channel.specs.Turns.{judgeOf, bookOf}
+use Rattle.schedule.specs.Scans.{workingIn, unitNumber}
+use Rattle.schedule.specs.Turns.{judgeOf, bookOf}
 use Rattle.files.specs.declared.File.{File}
 use Rattle.files.specs.Sides.{startAt, takenSide}
 use Rattle.files.specs.Opening.{extra}
-use Rattle.files.specs.Input.{blockFits, delivered, gaveBack, metMark}
-use Rattle.files.specs.Output.{sendStart, sendWords, afterWrite}
+use Rattle.moves.specs.Input.{blockFits, delivered, gaveBack, metMark}
+use Rattle.moves.specs.Output.{sendStart, sendWords, afterWrite}
 use Rattle.word.specs.Blocks.{judged}
 use Rattle.pool.specs.Free.{fileCount, servingFile}
 use Rattle.state.specs.declared.State.{State}
 use Rattle.state.specs.Places.{fileAt, channelAt, areaShort}
-use Rattle.state.specs.Soundness.{sound}
+use Rattle.judging.specs.Soundness.{sound}
 use Rattle.requests.specs.declared.Effect.{Effect}
 use Rattle.requests.specs.declared.Effect.the-variants.{Delivers, MeetsMark, GivesBack, Sends, Keeps}
 use Rattle.requests.specs.declared.ReportChange.{ReportChange}

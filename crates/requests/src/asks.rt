@@ -3,12 +3,12 @@ use crate::AskChange;
 use channel::Channel;
 use channel::Op;
 use channel::has_request;
-use channel::working_number;
 use files::File;
-use files::has_empty;
-use files::has_full;
-use files::has_unsent;
-use files::took_buffer;
+use moves::has_empty;
+use moves::has_full;
+use moves::has_unsent;
+use moves::took_buffer;
+use schedule::working_number;
 use state::lowest_of;
 ghost use mathlib.Core.Path.{_≡_};
 ghost use Rattle.requests.specs.Ask.{opOf, askRefusal, askedFile, askedChannel, askOn};
@@ -81,7 +81,7 @@ fn asked_channel(f: File, c: Channel, op: u8, priority: u8, frozen: bool) -> Cha
     ensures { λ r. ⌜ r ≡ askedChannel f c op priority frozen ⌝ }
 {
     let x = op_of(op);
-    let a = channel::ask(c, f.unit as usize, x, priority == 1, frozen);
+    let a = schedule::ask(c, f.unit as usize, x, priority == 1, frozen);
     a.channel
 }
 

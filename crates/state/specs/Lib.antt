@@ -1,4 +1,1 @@
 pub mod Places
-pub mod Requests
-pub mod Soundness
-pub mod Judged

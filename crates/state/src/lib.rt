@@ -1,25 +1,20 @@
 // The whole state of a pack: the pool's two numbers, the freeze, five channels and sixteen files, by value.
-// It looks a file or a channel up, replaces one, judges whether a state that a caller passes back is sound, and gives the lowest refusal
-// that applies. It knows nothing of what a call does.
-mod channels;
-mod fits;
+// It looks a file or a channel up, replaces one, and gives the lowest refusal that applies. Whether a state is sound stands in `judging`.
+// It knows nothing of what a call does.
 mod places;
 mod refusals;
-mod sound;
-mod turns;
 
 use channel::Channel;
 use files::File;
 pub use places::area_short;
 pub use places::before_start;
 pub use places::channel_at;
+pub use places::channel_in;
 pub use places::file_at;
 pub use places::with_channel;
 pub use places::with_file;
 use pool::FILES;
 pub use refusals::lowest_of;
-pub use sound::is_sound;
-pub use turns::requested;
 
 // How many channels there are: the manual's A to E.
 pub const CHANNELS: usize = 5;

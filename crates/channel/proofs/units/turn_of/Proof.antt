@@ -13,14 +13,14 @@ returns c =
     let long = sym (length-map (c .before .args .t1 .units) _) ∙ c .before .good .0 .1 .1 .0 .1 .0 .1 in
     sym (turn-beyond (c .before .args .t1) (c .before .args .unit) (omega arith))
 
-mul-u : tie.Need-mul-u
-mul-u c = search needs
+mul-x : tie.Need-mul-x
+mul-x c = search needs
 
-element-copy-out-u : tie.Need-element-copy-out-u
-element-copy-out-u c = search needs
+element-copy-out-x : tie.Need-element-copy-out-x
+element-copy-out-x c = search needs
 
 returns-2 : tie.Need-returns-2
 returns-2 c = search needs
 
 pub turn-of-spec : {M : Type 1} → statement M
-turn-of-spec = tie.close (tie.spec returns mul-u element-copy-out-u returns-2)
+turn-of-spec = tie.close (tie.spec returns mul-x element-copy-out-x returns-2)

@@ -5,7 +5,7 @@ use mathlib.Core.List.{List, _++_, map}
 use Prim.Native.Nat.{ℕ, _≤_, _<_, _-_, _+_}
 use native.Mathlib.Omega.{arith}
 use lib.ListN.{length, take, drop, length-set, length-map}
-use Rattle.channel.specs.Turns.{thawOf}
+use Rattle.schedule.specs.Turns.{thawOf}
 use Rattle.state.specs.Places.{channelCount}
 use Rattle.opening.proofs.Maps.{map-step, map-done}
 use borrow.Author.Needs.{needs}

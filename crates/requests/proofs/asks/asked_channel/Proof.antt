@@ -1,9 +1,9 @@
 -- `requests::asks::asked_channel` meets its contract, from those of `op_of` and of the channel's `ask`. Assumes nothing.
 use lib.Dec.{eqb}
 use Rattle.channel.specs.declared.Op.{Op}
-use Rattle.channel.specs.Turns.{askOf}
+use Rattle.schedule.specs.Turns.{askOf}
 use mathlib.Core.Path.{ap, _∙_}
-use Rattle.channel.specs.declared.Asked.{Asked}
+use Rattle.schedule.specs.declared.Asked.{Asked}
 use Rattle.requests.specs.Ask.{askedChannel}
 use borrow.Author.Needs.{needs}
 use Rattle.requests.proofs.asks.asked_channel.Statement.{statement}
