@@ -25,11 +25,12 @@ use Rattle.filing.proofs.Events.{event-alike}
 use Rattle.filing.proofs.Inside.{get-inside}
 use Rattle.state.specs.declared.State.{State}
 use Rattle.state.specs.Places.{fileAt, withFile, areaShort}
+use Rattle.judging.specs.Misused.{misused}
 use Rattle.judging.specs.Soundness.{sound, requestOf}
 use Rattle.judging.proofs.Facts.{SoundFacts, sound-facts, facts-sound}
-use Rattle.judging.proofs.Kept.{file-kept, place-of}
-use Rattle.input.specs.Get.{misused, givesOut, getRows, getRefusal, noAnswer, getOn, getChange, getBy, getWords}
-use Rattle.input.proofs.Ready.{get-taken, input-ready, holdings}
+use Rattle.judging.proofs.Kept.{file-kept, holdings, place-of}
+use Rattle.input.specs.Get.{givesOut, getRows, getRefusal, noAnswer, getOn, getChange, getBy, getWords}
+use Rattle.input.proofs.Ready.{get-taken, input-ready}
 
 module _ (s : State) (area : List ℕ) (file : ℕ) where
   abbrev f : File

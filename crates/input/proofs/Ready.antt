@@ -19,10 +19,8 @@ use Rattle.moves.specs.Input.{hasFull}
 use Rattle.moves.proofs.Ages.{Aged, noBlock, old, aged}
 use Rattle.gets.specs.Gets.{isUsedUp, passed, lookedAt, slotAfter, afterFound, getFrom}
 use Rattle.filing.specs.Soundness.{oneIf, takenCount}
-use Rattle.filing.proofs.Replaced.{Alike}
 use Rattle.judging.specs.Requests.{isRead, isWrite, fitsOutput}
 use Rattle.judging.specs.Judged.{fileReady}
-use Rattle.judging.proofs.Kept.{SameHoldings}
 
 -- ---- which buffers are taken
 
@@ -78,7 +76,3 @@ input-ready x f g i same taken h =
     and-both (fitsOutput x (g .output)) _ (ap (fitsOutput x) same ∙ way)
     (and-both (eqb (takenCount g) (oneIf (isRead x))) _ (ap (λ (n : ℕ). eqb n (oneIf (isRead x))) taken ∙ and-left (eqb (takenCount f) (oneIf (isRead x))) _ rest)
     (ap (λ (b : Bool). not b || hasFull g) quiet))
-
--- a file that holds what another held
-pub holdings : (f g : File) → Alike f g → SameHoldings g f
-holdings f g A = record { opened = A .opened; channel = A .channel; unit = A .unit; double = A .double; low = A .low; high = A .high }

@@ -24,9 +24,9 @@ use Rattle.state.specs.declared.State.{State}
 use Rattle.state.specs.Places.{fileAt, withFile}
 use Rattle.judging.specs.Soundness.{sound, requestOf}
 use Rattle.judging.proofs.Facts.{SoundFacts, sound-facts, facts-sound}
-use Rattle.judging.proofs.Kept.{file-kept, place-of}
+use Rattle.judging.proofs.Kept.{file-kept, holdings, place-of}
 use Rattle.input.specs.Skip.{skipMisused, skipRows, skipRefusal, skipOn, skipChange, skipBy}
-use Rattle.input.proofs.Ready.{dropped-taken, input-ready, holdings}
+use Rattle.input.proofs.Ready.{dropped-taken, input-ready}
 
 module _ (s : State) (file : ℕ) where
   abbrev f : File

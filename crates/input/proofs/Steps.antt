@@ -19,12 +19,13 @@ use Rattle.gets.specs.Gets.{getFrom}
 use Rattle.gets.specs.Histories.{shown}
 use Rattle.state.specs.declared.State.{State}
 use Rattle.state.specs.Places.{fileAt, withFile}
+use Rattle.judging.specs.Misused.{misused}
 use Rattle.judging.specs.Soundness.{sound}
 use Rattle.input.specs.declared.GetChange.{GetChange}
 use Rattle.input.specs.declared.Getting.{Getting}
 use Rattle.input.specs.declared.SkipChange.{SkipChange}
 use Rattle.input.specs.declared.Skipping.{Skipping}
-use Rattle.input.specs.Get.{misused, getRows, getRefusal, noAnswer, getOn, getChange, getBy, getWords}
+use Rattle.input.specs.Get.{getRows, getRefusal, noAnswer, getOn, getChange, getBy, getWords}
 use Rattle.input.specs.Skip.{skipMisused, skipRows, skipRefusal, skipOn, skipChange, skipBy}
 
 -- ---- the refusal: rows that the call does not have are false

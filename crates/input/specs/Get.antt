@@ -14,15 +14,12 @@ use Rattle.gets.specs.Gets.{getFrom}
 use Rattle.gets.specs.Histories.{shown}
 use Rattle.state.specs.declared.State.{State}
 use Rattle.state.specs.Places.{fileAt, withFile, areaShort}
+use Rattle.judging.specs.Misused.{misused}
 use Rattle.judging.specs.Soundness.{sound}
 use Rattle.input.specs.declared.GetChange.{GetChange}
 use Rattle.input.specs.declared.Getting.{Getting}
 
 -- ---- the refusal
-
--- 1: "an argument is outside its range, the area is short, a state passed back is unsound" ("Files 0 to 15")
-abbrev pub misused : State → ℕ → ℕ → Bool
-misused s n file = ltb 15 file || (areaShort s n || not (sound s))
 
 -- a file out of which get hands words
 abbrev pub givesOut : File → Bool

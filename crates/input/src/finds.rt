@@ -1,29 +1,18 @@
 // Get: the next record of an input file, shown as a part of the lent area.
 use crate::GetChange;
 use crate::Getting;
-use crate::LAST_FILE;
 use files::File;
 use gets::Got;
 use gets::got_start;
-use judging::is_sound;
+use judging::is_misused;
 use state::State;
-use state::area_short;
 use state::file_at;
 use state::lowest_of;
 use state::with_file;
 ghost use mathlib.Core.Path.{_≡_};
 ghost use lib.ListN.{length};
 ghost use Rattle.gets.specs.Histories.{shown};
-ghost use Rattle.input.specs.Get.{misused, getRefusal, getOn, getBy, getWords};
-
-// Row 1: the file number is outside its range, the area is short, or the state is unsound.
-fn is_misused(s: State, n: usize, file: u8) -> bool
-    ensures { λ r. ⌜ r ≡ misused s n file ⌝ }
-{
-    let short = area_short(s, n);
-    let whole = is_sound(s);
-    (LAST_FILE < file) | (short | !whole)
-}
+ghost use Rattle.input.specs.Get.{getRefusal, getOn, getBy, getWords};
 
 // The part of the area that an answer shows: the words of a record or a leftover, none of any other.
 pub fn got_words<'a>(area: &'a [u64], g: Got) -> &'a [u64]

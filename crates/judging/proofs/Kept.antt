@@ -22,6 +22,7 @@ use Rattle.files.specs.Opening.{closedFile}
 use Rattle.pool.specs.Free.{heldBy, isHeld, isFree, serves}
 use Rattle.filing.specs.Soundness.{takenCount, isBlank, shareBuffer, shareUnit, apart}
 use Rattle.filing.proofs.Facts.{Sound}
+use Rattle.filing.proofs.Replaced.{Alike}
 use Rattle.state.specs.declared.State.{State}
 use Rattle.state.specs.Places.{noChannel, fileAt, channelIn, channelAt, withFile, withChannel}
 use Rattle.judging.specs.Requests.{requested, isNone, isRead, isWrite, fitsOutput}
@@ -156,6 +157,10 @@ pub record SameHoldings (f g : File) : Type 0 where
   pub double : f .double ≡ g .double
   pub low : f .low .number ≡ g .low .number
   pub high : f .high .number ≡ g .high .number
+
+-- a file that is alike but for what its buffers hold
+pub holdings : (f g : File) → Alike f g → SameHoldings g f
+holdings f g A = record { opened = A .opened; channel = A .channel; unit = A .unit; double = A .double; low = A .low; high = A .high }
 
 abbrev apartBy : Bool → ℕ → ℕ → Bool → ℕ → ℕ → File → Bool
 apartBy o c u d low high h = not (o && (heldBy low h || (d && heldBy high h))) && not (o && serves c u h)

@@ -1,3 +1,4 @@
 pub mod Requests
 pub mod Soundness
 pub mod Judged
+pub mod Misused

@@ -25,15 +25,16 @@ use Rattle.filing.proofs.Puts.{put-sound}
 use Rattle.filing.proofs.Events.{event-alike}
 use Rattle.state.specs.declared.State.{State}
 use Rattle.state.specs.Places.{fileAt, withFile, areaShort}
+use Rattle.judging.specs.Misused.{misused}
 use Rattle.judging.specs.Soundness.{sound, requestOf}
 use Rattle.judging.proofs.Facts.{SoundFacts, sound-facts, facts-sound}
-use Rattle.judging.proofs.Kept.{file-kept, place-of}
+use Rattle.judging.proofs.Kept.{file-kept, holdings, place-of}
 use Rattle.output.specs.Only.{Only}
-use Rattle.output.specs.Blocks.{misused, heldRight}
+use Rattle.output.specs.Blocks.{heldRight}
 use Rattle.output.specs.Put.{isTaken, sums, putRows, putRefusal, putArea, putOn, putOnArea, putChange, putBy, putByArea}
 use Rattle.output.proofs.Written.{only-self, other-buffer}
 use Rattle.output.proofs.Fillings.{withCheck, put-only, put-buffer, put-added, put-sealed}
-use Rattle.output.proofs.Ready.{put-full, output-ready, holdings}
+use Rattle.output.proofs.Ready.{put-full, output-ready}
 
 module _ (s : State) (area : List ℕ) (file : ℕ) (words : List ℕ) where
   abbrev f : File

@@ -22,10 +22,8 @@ use Rattle.moves.proofs.Ages.{Aged, noBlock, old, aged, added-line}
 use Rattle.filing.specs.Soundness.{oneIf, takenCount}
 use Rattle.filing.proofs.Facts.{Sound}
 use Rattle.filing.proofs.Puts.{PutAt, put-at, put-is}
-use Rattle.filing.proofs.Replaced.{Alike}
 use Rattle.judging.specs.Requests.{isRead, isWrite, fitsOutput}
 use Rattle.judging.specs.Judged.{fileReady}
-use Rattle.judging.proofs.Kept.{SameHoldings}
 
 -- ---- a full block
 
@@ -102,7 +100,3 @@ output-ready m w x f g S T o same full h =
     and-both (fitsOutput x (g .output)) _ (ap (fitsOutput x) same ∙ and-left (fitsOutput x (f .output)) _ h)
     (and-both (eqb (takenCount g) (oneIf (isRead x))) _ (ap (λ (n : ℕ). eqb n (oneIf (isRead x))) taken ∙ and-left (eqb (takenCount f) (oneIf (isRead x))) _ rest)
     (unless-so (isWrite x) (hasFull g) (λ e. full (unless (isWrite x) (hasFull f) (and-right (eqb (takenCount f) (oneIf (isRead x))) _ rest) e))))
-
--- a file that holds what another held
-pub holdings : (f g : File) → Alike f g → SameHoldings g f
-holdings f g A = record { opened = A .opened; channel = A .channel; unit = A .unit; double = A .double; low = A .low; high = A .high }

@@ -23,15 +23,16 @@ use Rattle.filing.proofs.Changes.{sealed-sound}
 use Rattle.filing.proofs.Events.{event-alike}
 use Rattle.state.specs.declared.State.{State}
 use Rattle.state.specs.Places.{fileAt, withFile, areaShort}
+use Rattle.judging.specs.Misused.{misused}
 use Rattle.judging.specs.Soundness.{sound, requestOf}
 use Rattle.judging.proofs.Facts.{SoundFacts, sound-facts, facts-sound}
-use Rattle.judging.proofs.Kept.{file-kept, place-of}
+use Rattle.judging.proofs.Kept.{file-kept, holdings, place-of}
 use Rattle.output.specs.Only.{Only}
-use Rattle.output.specs.Blocks.{misused, heldRight, sealedArea}
+use Rattle.output.specs.Blocks.{heldRight, sealedArea}
 use Rattle.output.specs.Seal.{sealSums, sealRows, sealRefusal, sealOn, sealOnArea, sealChange, sealBy, sealByArea}
 use Rattle.output.proofs.Written.{only-self, other-buffer}
 use Rattle.output.proofs.Fillings.{withCheck, seal-only, seal-buffer, seal-block}
-use Rattle.output.proofs.Ready.{sealed-full, output-ready, holdings}
+use Rattle.output.proofs.Ready.{sealed-full, output-ready}
 
 module _ (s : State) (area : List ℕ) (file : ℕ) where
   abbrev f : File

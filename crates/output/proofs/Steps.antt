@@ -14,12 +14,13 @@ use Rattle.files.specs.declared.File.{File}
 use Rattle.moves.specs.Output.{hasRoom, hasPart, added, isComplete, sealed, afterPut}
 use Rattle.state.specs.declared.State.{State}
 use Rattle.state.specs.Places.{fileAt, withFile}
+use Rattle.judging.specs.Misused.{misused}
 use Rattle.judging.specs.Soundness.{sound}
 use Rattle.output.specs.declared.PutChange.{PutChange}
 use Rattle.output.specs.declared.Putting.{Putting}
 use Rattle.output.specs.declared.SealChange.{SealChange}
 use Rattle.output.specs.declared.Sealing.{Sealing}
-use Rattle.output.specs.Blocks.{misused, heldRight, sealedArea}
+use Rattle.output.specs.Blocks.{heldRight, sealedArea}
 use Rattle.output.specs.Put.{sums, putRows, putRefusal, filledArea, putArea, putOn, putOnArea, putChange, putBy, putByArea}
 use Rattle.output.specs.Seal.{sealSums, sealRows, sealRefusal, sealOn, sealOnArea, sealChange, sealBy, sealByArea}
 

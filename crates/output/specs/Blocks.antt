@@ -1,4 +1,4 @@
--- What put and seal share: row 1, the words that a part-filled buffer holds, and a block sealed where it lies. Assumes nothing.
+-- What put and seal share: the words that a part-filled buffer holds, and a block sealed where it lies. Assumes nothing.
 use Prim.Native.Nat.{ℕ}
 use mathlib.Core.Bool.{Bool, not, _||_}
 use mathlib.Core.List.{List}
@@ -11,10 +11,6 @@ use Rattle.moves.specs.Output.{partStart, partLength}
 use Rattle.state.specs.declared.State.{State}
 use Rattle.state.specs.Places.{areaShort}
 use Rattle.judging.specs.Soundness.{sound}
-
--- 1: "an argument is outside its range, the area is short, a state passed back is unsound" ("Files 0 to 15")
-abbrev pub misused : State → ℕ → ℕ → Bool
-misused s n file = ltb 15 file || (areaShort s n || not (sound s))
 
 -- the words that the part-filled buffer holds are all below 2^36
 abbrev pub heldRight : ℕ → File → List ℕ → Bool

@@ -11,9 +11,10 @@ use Rattle.files.specs.declared.File.{File}
 use Rattle.moves.specs.Output.{hasRoom, putStart, added, isComplete, afterPut}
 use Rattle.state.specs.declared.State.{State}
 use Rattle.state.specs.Places.{fileAt, withFile}
+use Rattle.judging.specs.Misused.{misused}
 use Rattle.output.specs.declared.PutChange.{PutChange}
 use Rattle.output.specs.declared.Putting.{Putting}
-use Rattle.output.specs.Blocks.{misused, heldRight, sealedArea}
+use Rattle.output.specs.Blocks.{heldRight, sealedArea}
 
 -- ---- the refusal
 

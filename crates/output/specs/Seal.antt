@@ -9,9 +9,10 @@ use Rattle.files.specs.declared.File.{File}
 use Rattle.moves.specs.Output.{hasPart, sealed}
 use Rattle.state.specs.declared.State.{State}
 use Rattle.state.specs.Places.{fileAt, withFile}
+use Rattle.judging.specs.Misused.{misused}
 use Rattle.output.specs.declared.SealChange.{SealChange}
 use Rattle.output.specs.declared.Sealing.{Sealing}
-use Rattle.output.specs.Blocks.{misused, heldRight, sealedArea}
+use Rattle.output.specs.Blocks.{heldRight, sealedArea}
 
 -- ---- the refusal
 

@@ -1,23 +1,10 @@
-// What put and seal share: row 1 of their refusals, the words that a part-filled buffer holds, and a block sealed where it lies in the area.
-use crate::LAST_FILE;
+// What put and seal share: the words that a part-filled buffer holds, and a block sealed where it lies in the area.
 use files::File;
-use judging::is_sound;
 use moves::part_length;
 use moves::part_start;
-use state::State;
-use state::area_short;
 ghost use mathlib.Core.Path.{_≡_};
 ghost use mathlib.Core.Bool.{not, _&&_};
-ghost use Rattle.output.specs.Blocks.{misused, heldRight, sealedIn, sealedArea};
-
-// Row 1: the file number is outside its range, the area is short, or the state is unsound.
-pub fn is_misused(s: State, n: usize, file: u8) -> bool
-    ensures { λ r. ⌜ r ≡ misused s n file ⌝ }
-{
-    let short = area_short(s, n);
-    let whole = is_sound(s);
-    (LAST_FILE < file) | (short | !whole)
-}
+ghost use Rattle.output.specs.Blocks.{heldRight, sealedIn, sealedArea};
 
 // Whether a call sums a word of 2^36 or more that the part-filled buffer holds. The words are looked at only if it sums.
 pub fn sums_spoilt(summed: bool, f: File, w: u16, area: &[u64]) -> bool

@@ -1,10 +1,10 @@
 // Seal: the part-filled block of an output file gets its check word and is full.
 use crate::SealChange;
 use crate::Sealing;
-use crate::blocks::is_misused;
 use crate::blocks::seal_block;
 use crate::blocks::sums_spoilt;
 use files::File;
+use judging::is_misused;
 use moves::has_part;
 use moves::sealed;
 use state::State;

@@ -1,10 +1,10 @@
 // Put: words added to an output file, and the block sealed at once if no more fit.
 use crate::PutChange;
 use crate::Putting;
-use crate::blocks::is_misused;
 use crate::blocks::seal_block;
 use crate::blocks::sums_spoilt;
 use files::File;
+use judging::is_misused;
 use moves::added;
 use moves::has_room;
 use moves::is_complete;

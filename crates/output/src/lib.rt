@@ -36,6 +36,3 @@ pub struct SealChange {
     pub refusal: u8,
     pub file: File,
 }
-
-// The highest file number.
-const LAST_FILE: u8 = 15;

@@ -1,7 +1,7 @@
--- `output::is_misused` meets its contract, from those of `area_short` and `is_sound`. Assumes nothing.
+-- `judging::is_misused` meets its contract, from those of `area_short` and `is_sound`. Assumes nothing.
 use borrow.Author.Needs.{needs}
-use Rattle.output.proofs.blocks.is_misused.Statement.{statement}
-use Rattle.output.proofs.blocks.is_misused.Tie as tie
+use Rattle.judging.proofs.misuse.is_misused.Statement.{statement}
+use Rattle.judging.proofs.misuse.is_misused.Tie as tie
 
 area-short-requires : tie.Need-area-short-requires
 area-short-requires c κs = search needs
