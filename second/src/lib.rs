@@ -20,6 +20,8 @@ pub mod reach;
 pub mod refusals;
 pub mod session;
 pub mod shorten;
+pub mod sound;
+pub mod state;
 pub mod text;
 pub mod word;
 pub mod word_cases;
