@@ -22,6 +22,8 @@ pub mod session;
 pub mod shorten;
 pub mod sound;
 pub mod state;
+pub mod state_calls;
+pub mod state_pack;
 pub mod text;
 pub mod word;
 pub mod word_cases;
