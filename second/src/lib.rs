@@ -13,6 +13,7 @@ pub mod file_walks;
 pub mod frame;
 pub mod generate;
 pub mod pack;
+pub mod pack_cases;
 pub mod pack_player;
 pub mod profile;
 pub mod program;

@@ -11,8 +11,11 @@ use crate::word::LAST_NUMBER;
 /// "Error 1 is sequence, 2 check sum, 3 both."
 const LAST_ERROR: u64 = 3;
 
+/// Whether a clause holds for a state.
+type Holds = fn(&State) -> bool;
+
 /// The clauses, each with the test that a state must pass.
-const CLAUSES: [(Clause, fn(&State) -> bool); 26] = [
+const CLAUSES: [(Clause, Holds); 26] = [
     (Clause::PoolSizes, pool_sizes),
     (Clause::NothingBeforeFresh, nothing_before_fresh),
     (Clause::ScanMarks, scan_marks),
