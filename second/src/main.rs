@@ -10,6 +10,8 @@ use second::compare::{compare, Options};
 use second::file_player::answer_walks;
 use second::file_walks::file_walks;
 use second::generate::Generator;
+use second::pack_cases::pack_cases;
+use second::pack_player::answer_script;
 use second::profile::Profile;
 use second::program::play_with;
 use second::session::play;
@@ -39,10 +41,11 @@ second: document 01 of Plorrettix, written a second time
   channel-events                 prints a fixed list of such events
   files                          plays events on one file and its buffers
   file-walks                     prints a fixed list of such events
+  pack                           plays calls on a state and an area by hand
+  pack-cases                     prints a fixed script of such calls
   help                           prints this
 
-The exit status is 0 if all is well, 1 if programs differ or something was
-never reached, 2 for a complaint.
+Exit status: 0 all well, 1 a difference or a thing never reached, 2 a complaint
 ";
 
 fn main() -> ExitCode {
@@ -66,6 +69,8 @@ fn run(arguments: &[String]) -> Result<ExitCode, String> {
         ["channel-events"] => print(&lines_of(&channel_events()))?,
         ["files"] => print(&answer_walks(&standard_input()?)?)?,
         ["file-walks"] => print(&lines_of(&file_walks()))?,
+        ["pack"] => print(&answer_script(&standard_input()?)?)?,
+        ["pack-cases"] => print(&lines_of(&pack_cases()))?,
         ["help"] => print(HELP)?,
         _ => return Err("what shall be done? See `second help`".to_string()),
     }

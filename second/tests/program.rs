@@ -1,6 +1,7 @@
 //! The program itself, run as a user runs it.
 
-use std::process::{Command, Output};
+use std::io::Write;
+use std::process::{Command, Output, Stdio};
 
 use second::program::play_with;
 
@@ -88,8 +89,9 @@ fn complaints_end_with_2() {
 #[test]
 fn help_names_every_subcommand() {
     let help = text(&run(&["help"]));
-    let names = "play generate compare bench words word-cases channel channel-events files file-walks help";
-    for name in names.split(' ') {
+    let names = "play generate compare bench words word-cases channel channel-events files file-walks pack \
+                 pack-cases help";
+    for name in names.split_ascii_whitespace() {
         assert!(help.lines().any(|line| line.trim_start().split(' ').next() == Some(name)), "{name}");
     }
 }
@@ -103,4 +105,36 @@ fn words_channel_and_files_answer_their_lists() {
         let lines = |text: &[u8]| text.iter().filter(|&&character| character == b'\n').count();
         assert_eq!(lines(&played.answers), lines(&cases));
     }
+}
+
+/// Calls and prints have an answer, changes have none.
+#[test]
+fn pack_answers_its_script() {
+    let script = run(&["pack-cases"]).stdout;
+    let played = play_with(&command(&["pack"]), &script).expect("answers");
+    assert!(played.ended_well);
+    let is_answered = |line: &&str| !(11..=17).contains(&line.split(' ').next().map_or(0, number));
+    let answered = String::from_utf8(script).expect("text").lines().filter(is_answered).count();
+    assert_eq!(played.answers.iter().filter(|&&character| character == b'\n').count(), answered);
+}
+
+fn number(text: &str) -> u64 {
+    text.parse().expect("a number")
+}
+
+#[test]
+fn pack_complains_of_a_malformed_script() {
+    let mut child = Command::new(program())
+        .arg("pack")
+        .stdin(Stdio::piped())
+        .stdout(Stdio::piped())
+        .stderr(Stdio::piped())
+        .spawn()
+        .expect("the program starts");
+    child.stdin.take().expect("an input").write_all(b"9\n13 0 0\n").expect("written");
+    let output = child.wait_with_output().expect("the program ends");
+    assert_eq!(output.status.code(), Some(2));
+    assert!(output.stdout.is_empty());
+    let complaint = "second: line 2: command 13 takes 3 numbers and not 2\n";
+    assert_eq!(String::from_utf8(output.stderr).expect("text"), complaint);
 }

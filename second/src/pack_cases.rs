@@ -1,0 +1,306 @@
+//! The subcommand `pack-cases`: a fixed script for `pack`. It has what no session can show: areas
+//! that are short or spoilt, states that are unsound or that no calls lead to, and the words that stay.
+
+mod areas;
+mod buffers;
+mod given;
+mod input_by_hand;
+mod output_by_hand;
+mod random_changes;
+mod random_steps;
+mod script;
+mod spoilt;
+mod turns_by_hand;
+mod unsound;
+mod unsound_bench;
+mod unsound_files;
+mod unsound_requests;
+
+use script::Script;
+
+/// The whole script, one command a line.
+pub fn pack_cases() -> Vec<Vec<u64>> {
+    let mut script = Script::default();
+    areas::add_cases(&mut script);
+    spoilt::add_cases(&mut script);
+    given::add_cases(&mut script);
+    unsound::add_cases(&mut script);
+    buffers::add_cases(&mut script);
+    input_by_hand::add_cases(&mut script);
+    output_by_hand::add_cases(&mut script);
+    turns_by_hand::add_cases(&mut script);
+    random_steps::add_cases(&mut script);
+    script.commands
+}
+
+#[cfg(test)]
+mod tests {
+    use super::*;
+    use crate::pack::FILES;
+    use crate::pack_player::{
+        answer_script, Player, ASK, CLOSE, FRESH, GET, OPEN, PRINT_SOUND, PRINT_STATE, PUT, REPORT, ROOM,
+        SEAL, SKIP, THAW,
+    };
+    use crate::sound::{all_clauses, broken_clauses, is_sound, Clause};
+    use crate::state::State;
+    use crate::state_pack::{pack_of, state_of};
+    use crate::text::lines_of;
+    use std::collections::{BTreeMap, BTreeSet};
+
+    /// The refusal numbers of each call that takes more than none, from the table of document 01.
+    const REFUSALS: [(u64, &[u64]); 9] = [
+        (FRESH, &[1]),
+        (OPEN, &[1, 3, 4, 7, 13]),
+        (CLOSE, &[1, 5, 8, 15]),
+        (ASK, &[1, 5, 6, 8, 9, 10, 15]),
+        (REPORT, &[1, 2, 11, 12, 13]),
+        (GET, &[1, 2, 5, 6]),
+        (PUT, &[1, 2, 5, 6, 9, 13]),
+        (SEAL, &[1, 2, 5, 6, 9]),
+        (SKIP, &[1, 5, 6, 9]),
+    ];
+
+    const OTHER_SEEDS: u64 = 20;
+
+    /// A command of a script with the player before and after it.
+    struct Played<'a> {
+        command: &'a [u64],
+        before: &'a Player,
+        answer: Option<&'a [u64]>,
+        after: &'a Player,
+    }
+
+    impl Played<'_> {
+        fn is_call(&self) -> bool {
+            self.command[0] <= THAW
+        }
+
+        /// The first number of the answer: 0, or the refusal of a call.
+        fn first(&self) -> u64 {
+            self.answer.expect("an answer")[0]
+        }
+    }
+
+    fn play_all(script: &[Vec<u64>], mut look: impl FnMut(&Played)) {
+        let mut player = Player::new();
+        for command in script {
+            let before = player.clone();
+            let answer = player.play(command).expect("a command");
+            look(&Played { command, before: &before, answer: answer.as_deref(), after: &player });
+        }
+    }
+
+    fn random_script() -> Vec<Vec<u64>> {
+        let mut script = Script::default();
+        random_steps::add_cases(&mut script);
+        script.commands
+    }
+
+    /// The scripts of other seeds, for what must hold of every script.
+    fn other_scripts() -> impl Iterator<Item = Vec<Vec<u64>>> {
+        (1..=OTHER_SEEDS).map(|seed| {
+            let mut script = Script::default();
+            random_steps::add_steps(&mut script, seed);
+            script.commands
+        })
+    }
+
+    #[test]
+    fn the_script_keeps_its_size() {
+        let script = lines_of(&pack_cases());
+        assert!(script.len() < 120_000, "{}", script.len());
+        let answers = answer_script(&script).expect("a script");
+        assert!(answers.len() < 150_000, "{}", answers.len());
+    }
+
+    #[test]
+    fn every_refusal_of_every_call_is_met() {
+        let mut met = BTreeSet::new();
+        play_all(&pack_cases(), |played| {
+            if played.is_call() && played.first() != 0 {
+                met.insert((played.command[0], played.first()));
+            }
+        });
+        let mut expected: BTreeSet<(u64, u64)> = BTreeSet::from([(9, 1), (10, 1)]);
+        for (call, numbers) in REFUSALS {
+            expected.extend(numbers.iter().map(|&number| (call, number)));
+        }
+        assert_eq!(met, expected);
+        let numbers: BTreeSet<u64> = met.into_iter().map(|(_, number)| number).collect();
+        assert!(numbers.into_iter().eq((1..=13).chain([15])));
+    }
+
+    #[test]
+    fn every_answer_is_met() {
+        let mut met = BTreeMap::<&str, BTreeSet<u64>>::new();
+        play_all(&pack_cases(), |played| {
+            let Some(answer) = played.answer else {
+                return;
+            };
+            let mut note = |what, number| met.entry(what).or_default().insert(number);
+            match (played.command[0], answer) {
+                (REPORT, [0, result, error, ..]) => {
+                    note("result", *result);
+                    note("error of a report", *error);
+                    note("working unit", u64::from(answer[3] == 255));
+                    note("block shown", u64::from(answer[5] > 0));
+                }
+                (GET, [0, kind, error, ..]) => {
+                    note("get", *kind);
+                    note("error of a get", *error);
+                }
+                (ASK, [0, working]) => _ = note("ask", u64::from(*working == 255)),
+                (PRINT_SOUND, [sound]) => _ = note("sound", *sound),
+                _ => {}
+            }
+        });
+        for (what, last) in [
+            ("result", 6),
+            ("error of a report", 3),
+            ("working unit", 1),
+            ("block shown", 1),
+            ("get", 4),
+            ("error of a get", 3),
+            ("ask", 1),
+            ("sound", 1),
+        ] {
+            assert!(met[what].iter().copied().eq(0..=last), "{what}");
+        }
+    }
+
+    /// Every clause is broken alone, by several states that are asked for.
+    #[test]
+    fn every_clause_is_broken_alone() {
+        let mut alone = BTreeMap::<Clause, Vec<State>>::new();
+        play_all(&pack_cases(), |played| {
+            if let (PRINT_SOUND, [clause]) = (played.command[0], &broken_clauses(&played.after.state)[..]) {
+                let states = alone.entry(*clause).or_default();
+                if !states.contains(&played.after.state) {
+                    states.push(played.after.state.clone());
+                }
+            }
+        });
+        for clause in all_clauses() {
+            let states = alone.get(&clause).map_or(0, Vec::len);
+            assert!(states >= 2, "{clause:?} is broken alone by {states} states");
+        }
+    }
+
+    /// Each call but a fresh start is refused 1 on at least three unsound states. A fresh start is
+    /// accepted on at least three, and what it leaves is printed.
+    #[test]
+    fn every_call_meets_unsound_states() {
+        let mut met = BTreeMap::<u64, Vec<State>>::new();
+        let mut printed = 0;
+        let mut fresh_from_unsound = false;
+        play_all(&pack_cases(), |played| {
+            printed += u64::from(fresh_from_unsound && played.command[0] == PRINT_STATE);
+            let unsound = played.is_call() && !is_sound(&played.before.state);
+            fresh_from_unsound = unsound && played.command[0] == FRESH && played.first() == 0;
+            if !unsound {
+                return;
+            }
+            if played.command[0] != FRESH {
+                assert_eq!(played.answer, Some(&[1][..]));
+            }
+            let states = met.entry(played.command[0]).or_default();
+            if !states.contains(&played.before.state) {
+                states.push(played.before.state.clone());
+            }
+        });
+        for call in FRESH..=THAW {
+            assert!(met[&call].len() >= 3, "{call}: {}", met[&call].len());
+        }
+        assert!(printed >= 3);
+    }
+
+    /// A refused call changes nothing; an accepted one leaves a sound state, and sets words of the
+    /// area alone, in buffers of one file.
+    #[test]
+    fn what_calls_may_change() {
+        for script in other_scripts().chain([pack_cases()]) {
+            play_all(&script, |played| {
+                if !played.is_call() {
+                    return;
+                }
+                if played.first() == 0 {
+                    assert!(is_sound(&played.after.state), "{:?}", played.command);
+                    assert_eq!(played.before.length, played.after.length);
+                    judge_changed_words(played);
+                } else {
+                    assert_eq!(played.before, played.after, "{:?}", played.command);
+                }
+            });
+        }
+    }
+
+    fn judge_changed_words(played: &Played) {
+        let (before, after) = (played.before, played.after);
+        let changed: Vec<usize> =
+            (0..ROOM).filter(|&place| before.room[place] != after.room[place]).collect();
+        let sets = [REPORT, PUT, SEAL].contains(&played.command[0]);
+        assert!(changed.is_empty() || sets, "{:?}", played.command);
+        assert!(changed.iter().all(|&place| place < after.length), "{:?}", played.command);
+        let holders: BTreeSet<Option<usize>> =
+            changed.iter().map(|&place| holder_of(&before.state, place)).collect();
+        assert!(holders.len() <= 1 && !holders.contains(&None), "{:?}", played.command);
+    }
+
+    /// The file that holds the buffer of a place in the area.
+    fn holder_of(state: &State, place: usize) -> Option<usize> {
+        let buffer = place as u64 / state.width;
+        (0..FILES).find(|&file| {
+            let file = &state.files[file];
+            file.opened && file.buffers().iter().any(|held| held.number == buffer)
+        })
+    }
+
+    /// Every sound state goes to a pack and comes back.
+    #[test]
+    fn sound_states_go_to_a_pack_and_back() {
+        let mut count = 0;
+        for script in other_scripts().chain([pack_cases()]) {
+            play_all(&script, |played| {
+                if is_sound(&played.after.state) {
+                    assert_eq!(state_of(&pack_of(&played.after.state, &[])), played.after.state);
+                    count += 1;
+                }
+            });
+        }
+        assert!(count > 10_000);
+    }
+
+    /// The random steps get somewhere: each call is accepted often, and states of both sorts are met.
+    #[test]
+    fn random_steps_reach_much() {
+        let mut accepted = BTreeMap::<u64, u64>::new();
+        let mut refused = BTreeSet::new();
+        let mut sound = [0, 0];
+        play_all(&random_script(), |played| {
+            if played.is_call() {
+                *accepted.entry(played.command[0]).or_default() += u64::from(played.first() == 0);
+                refused.insert(played.first());
+            } else if played.command[0] == PRINT_SOUND {
+                sound[played.first() as usize] += 1;
+            }
+        });
+        for call in FRESH..=THAW {
+            assert!(accepted[&call] >= 5, "{call}: {}", accepted[&call]);
+        }
+        refused.remove(&0);
+        assert!(refused.len() >= 11, "{refused:?}");
+        assert!(sound.iter().all(|&count| count >= 50), "{sound:?}");
+    }
+
+    /// The changes that take a state back do so.
+    #[test]
+    fn states_are_set_field_by_field() {
+        let mut states = Vec::new();
+        play_all(&random_script(), |played| states.push(played.after.state.clone()));
+        let mut script = Script::default();
+        for state in states.iter().step_by(7) {
+            script.set_state(state);
+            assert_eq!(&script.player.state, state);
+        }
+    }
+}

@@ -1,0 +1,233 @@
+//! A script of pack cases in the making. Every command is played as it is added, so that a case can
+//! go by what came of the commands before it.
+
+use crate::channel::UNITS;
+use crate::pack::{CHANNELS, FILES};
+use crate::pack_player::{self as player, Player};
+use crate::state::State;
+use crate::state_fields::{
+    file_fields, pool_fields, unit_fields, AT, ATTEMPTS, ERROR, FILE_FIELDS, FULL, INCOMPLETE, OPERATION,
+    PART_FILLED, POOL_FIELDS, PRIORITY, SLOT_KIND, TURN_KIND, UNIT_FIELDS, WORDS,
+};
+
+pub const READ: u64 = 0;
+pub const WRITE: u64 = 1;
+pub const MARK: u64 = 2;
+
+pub const GOOD: u64 = 0;
+pub const REDUNDANCY: u64 = 1;
+pub const INCOMPLETE_WORD: u64 = 2;
+pub const FILE_MARK: u64 = 3;
+pub const END_OF_MEDIUM: u64 = 4;
+
+/// The largest word, the smallest number that is none, and the largest number.
+pub const LARGEST: u64 = (1 << 36) - 1;
+pub const SPOILT: u64 = 1 << 36;
+pub const HUGE: u64 = u64::MAX;
+
+#[derive(Default)]
+pub struct Script {
+    pub commands: Vec<Vec<u64>>,
+    pub player: Player,
+}
+
+impl Script {
+    /// Adds a command and gives its answer; a change has none.
+    pub fn add(&mut self, command: &[u64]) -> Vec<u64> {
+        let answer = self.player.play(command).unwrap_or_else(|complaint| panic!("{command:?}: {complaint}"));
+        self.commands.push(command.to_vec());
+        answer.unwrap_or_default()
+    }
+
+    /// Adds a call that must be accepted for the case to be what it is meant to be.
+    fn accepted(&mut self, call: &[u64]) {
+        assert_eq!(self.add(call).first(), Some(&0), "{call:?}");
+    }
+
+    pub fn start_over(&mut self) {
+        self.add(&[player::START_OVER]);
+    }
+
+    pub fn fresh(&mut self, buffers: u64, width: u64, masks: [u64; CHANNELS]) {
+        self.add(&[&[player::FRESH, buffers, width][..], &masks].concat());
+    }
+
+    /// Starts over with a pool and the same units on the first two channels.
+    pub fn begin(&mut self, buffers: u64, width: u64, mask: u64) {
+        self.start_over();
+        self.accepted(&[player::FRESH, buffers, width, mask, mask, 0, 0, 0]);
+    }
+
+    /// Opens a file on channel 0, on the unit of the same number.
+    pub fn open(&mut self, file: u64, flags: u64, size: u64, record: u64) {
+        self.open_on(file, 0, file, flags, size, record);
+    }
+
+    pub fn open_on(&mut self, file: u64, channel: u64, unit: u64, flags: u64, size: u64, record: u64) {
+        self.accepted(&[player::OPEN, file, channel, unit, flags, size, record]);
+    }
+
+    /// The same of an open that may be refused.
+    pub fn try_open(&mut self, file: u64, flags: u64, size: u64, record: u64) {
+        self.try_open_on(file, 0, file, flags, size, record);
+    }
+
+    pub fn try_open_on(&mut self, file: u64, channel: u64, unit: u64, flags: u64, size: u64, record: u64) {
+        self.add(&[player::OPEN, file, channel, unit, flags, size, record]);
+    }
+
+    pub fn close(&mut self, file: u64) {
+        self.add(&[player::CLOSE, file]);
+    }
+
+    /// An ordinary request.
+    pub fn ask(&mut self, file: u64, operation: u64) {
+        self.add(&[player::ASK, file, operation, 0]);
+    }
+
+    /// A report of channel 0 with words.
+    pub fn deliver(&mut self, unit: u64, words: &[u64]) {
+        self.add(&[&[player::REPORT, 0, unit, GOOD, words.len() as u64], words].concat());
+    }
+
+    /// A report of channel 0 without words.
+    pub fn report(&mut self, unit: u64, outcome: u64) {
+        self.add(&[player::REPORT, 0, unit, outcome, 0]);
+    }
+
+    /// A read on channel 0 that delivers the words.
+    pub fn read(&mut self, file: u64, words: &[u64]) {
+        self.accepted(&[player::ASK, file, READ, 0]);
+        self.accepted(&[&[player::REPORT, 0, file, GOOD, words.len() as u64], words].concat());
+    }
+
+    pub fn get(&mut self, file: u64) {
+        self.add(&[player::GET, file]);
+    }
+
+    pub fn put(&mut self, file: u64, words: &[u64]) {
+        self.add(&[&[player::PUT, file, words.len() as u64], words].concat());
+    }
+
+    pub fn seal(&mut self, file: u64) {
+        self.add(&[player::SEAL, file]);
+    }
+
+    pub fn skip(&mut self, file: u64) {
+        self.add(&[player::SKIP, file]);
+    }
+
+    pub fn freeze(&mut self) {
+        self.add(&[player::FREEZE]);
+    }
+
+    pub fn thaw(&mut self) {
+        self.add(&[player::THAW]);
+    }
+
+    pub fn length(&mut self, length: u64) {
+        self.add(&[player::LENGTH, length]);
+    }
+
+    pub fn word(&mut self, place: u64, value: u64) {
+        self.add(&[player::WORD, place, value]);
+    }
+
+    pub fn file(&mut self, file: u64, field: u64, value: u64) {
+        self.add(&[player::FILE, file, field, value]);
+    }
+
+    pub fn unit(&mut self, channel: u64, unit: u64, field: u64, value: u64) {
+        self.add(&[player::UNIT, channel, unit, field, value]);
+    }
+
+    pub fn scan_mark(&mut self, channel: u64, value: u64) {
+        self.add(&[player::SCAN_MARK, channel, value]);
+    }
+
+    pub fn pool(&mut self, field: u64, value: u64) {
+        self.add(&[player::POOL, field, value]);
+    }
+
+    pub fn print_room(&mut self) {
+        self.add(&[player::PRINT_ROOM]);
+    }
+
+    pub fn print_state(&mut self) {
+        self.add(&[player::PRINT_STATE]);
+    }
+
+    pub fn print_sound(&mut self) {
+        self.add(&[player::PRINT_SOUND]);
+    }
+
+    /// What the low or the high buffer of a file holds, by its kind; `side` is its first field.
+    pub fn slot(&mut self, file: u64, side: u64, kind: u64) {
+        self.file(file, side + SLOT_KIND, kind);
+    }
+
+    pub fn part_filled(&mut self, file: u64, side: u64, words: u64) {
+        self.slot(file, side, PART_FILLED);
+        self.file(file, side + WORDS, words);
+    }
+
+    pub fn full(&mut self, file: u64, side: u64, [words, at, error]: [u64; 3]) {
+        self.slot(file, side, FULL);
+        self.file(file, side + WORDS, words);
+        self.file(file, side + AT, at);
+        self.file(file, side + ERROR, error);
+    }
+
+    /// An ordinary request of a unit, with its turn and its attempt.
+    pub fn request(&mut self, channel: u64, unit: u64, turn: u64, operation: u64, attempt: u64) {
+        self.unit(channel, unit, TURN_KIND, turn);
+        self.unit(channel, unit, OPERATION, operation);
+        self.unit(channel, unit, PRIORITY, 0);
+        self.unit(channel, unit, ATTEMPTS, attempt);
+        self.unit(channel, unit, INCOMPLETE, 0);
+    }
+
+    /// Every place of the room gets a word of its own.
+    pub fn fill_room(&mut self) {
+        for place in 0..player::ROOM as u64 {
+            self.word(place, 900 + place);
+        }
+    }
+
+    /// The changes that make the state what it was.
+    pub fn set_state(&mut self, target: &State) {
+        for field in 0..POOL_FIELDS {
+            let value = pool_fields(target)[field as usize];
+            if pool_fields(&self.player.state)[field as usize] != value {
+                self.pool(field, value);
+            }
+        }
+        for channel in 0..CHANNELS {
+            self.set_channel(target, channel);
+        }
+        for file in 0..FILES {
+            for field in 0..FILE_FIELDS {
+                let value = file_fields(&target.files[file])[field as usize];
+                if file_fields(&self.player.state.files[file])[field as usize] != value {
+                    self.file(file as u64, field, value);
+                }
+            }
+        }
+    }
+
+    fn set_channel(&mut self, target: &State, channel: usize) {
+        let wanted = &target.channels[channel];
+        if self.player.state.channels[channel].mark != wanted.mark {
+            self.scan_mark(channel as u64, wanted.mark);
+        }
+        for unit in 0..UNITS {
+            for field in 0..UNIT_FIELDS {
+                let value = unit_fields(&wanted.units[unit])[field as usize];
+                let now = &self.player.state.channels[channel].units[unit];
+                if unit_fields(now)[field as usize] != value {
+                    self.unit(channel as u64, unit as u64, field, value);
+                }
+            }
+        }
+    }
+}

@@ -1,0 +1,182 @@
+//! States that break one clause of soundness. The last legal value of each number is asked for too.
+
+use super::script::{Script, READ};
+use super::unsound_bench::{Bench, CALLS, CLOSED, IDLE_INPUT, INPUT, OUTPUT_FILE, WRITING};
+use super::{unsound_files, unsound_requests};
+use crate::sound::is_sound;
+use crate::state_fields::*;
+
+/// The clauses about ranges, each tried on a bench of its own.
+const CLAUSES: [fn(&mut Bench); 8] = [
+    pool_sizes,
+    before_fresh,
+    scan_marks,
+    unit_numbers,
+    file_sizes,
+    chosen_sizes,
+    block_numbers,
+    check_errors,
+];
+
+pub fn add_cases(script: &mut Script) {
+    let mut bench = Bench::new(script);
+    let about_files_and_requests = unsound_files::CLAUSES.iter().chain(&unsound_requests::CLAUSES);
+    for clause in CLAUSES.iter().chain(about_files_and_requests) {
+        bench.build();
+        clause(&mut bench);
+    }
+    fresh_starts(&mut bench);
+    every_call_on_one_state(&mut bench);
+}
+
+/// "m from 1 to 32, W from 1 to 1,024".
+fn pool_sizes(bench: &mut Bench) {
+    for (field, wrong, right) in [(BUFFERS, [33, 255], 32), (WIDTH, [1_025, 65_535], 1_024)] {
+        for value in wrong {
+            bench.unsound(|script| script.pool(field, value));
+        }
+        bench.sound(|script| script.pool(field, right));
+    }
+    bench.script.start_over();
+    for field in [BUFFERS, WIDTH] {
+        bench.unsound(|script| script.pool(field, 1));
+    }
+    bench.sound(|script| {
+        script.pool(BUFFERS, 1);
+        script.pool(WIDTH, 1);
+    });
+    bench.script.fresh(9, 6, [31, 12, 1, 0, 0]);
+    for field in [BUFFERS, WIDTH] {
+        bench.unsound(|script| script.pool(field, 0));
+    }
+}
+
+/// "Before the first fresh start: no buffers (m and W are 0), no units; that state is sound too."
+fn before_fresh(bench: &mut Bench) {
+    bench.script.start_over();
+    bench.sound(|_| {});
+    for place in [[0, 0], [4, 9]] {
+        bench.unit(place, DECLARED, &[1], &[]);
+    }
+    bench.unsound(|script| script.file(0, OPENED, 1));
+    bench.unsound(|script| script.request(3, 0, WORKING, READ, 1));
+    bench.sound(|script| script.pool(FROZEN, 1));
+    bench.sound(|script| script.scan_mark(3, 9));
+    bench.unsound(|script| script.scan_mark(3, 10));
+}
+
+fn scan_marks(bench: &mut Bench) {
+    for channel in 0..5 {
+        bench.unsound(|script| script.scan_mark(channel, 10));
+        bench.sound(|script| script.scan_mark(channel, 9));
+    }
+    bench.unsound(|script| script.scan_mark(4, 255));
+}
+
+/// "Channels 0 to 4", "Units 0 to 9".
+fn unit_numbers(bench: &mut Bench) {
+    bench.file(IDLE_INPUT, CHANNEL, &[5, 255], &[]);
+    bench.file(IDLE_INPUT, UNIT, &[10, 255], &[]);
+    bench.sound(|script| {
+        script.unit(4, 9, DECLARED, 1);
+        script.file(IDLE_INPUT, CHANNEL, 4);
+        script.file(IDLE_INPUT, UNIT, 9);
+    });
+}
+
+/// "r is 1 to B and B + e is at most W."
+fn file_sizes(bench: &mut Bench) {
+    bench.file(IDLE_INPUT, RECORD_LENGTH, &[0, 7, 65_535], &[1, 6]);
+    bench.file(IDLE_INPUT, BLOCK_SIZE, &[7, 2, 0, 65_535], &[3]);
+    bench.file(OUTPUT_FILE, BLOCK_SIZE, &[6, 65_535], &[4]);
+    bench.file(INPUT, BLOCK_SIZE, &[7], &[6]);
+    bench.unsound(|script| {
+        script.file(IDLE_INPUT, BLOCK_SIZE, 65_535);
+        script.file(IDLE_INPUT, RECORD_LENGTH, 65_535);
+    });
+    bench.unsound(|script| script.pool(WIDTH, 5));
+}
+
+/// e is 1 if sequence or check sums are chosen, or both.
+fn chosen_sizes(bench: &mut Bench) {
+    bench.file(IDLE_INPUT, SEQUENCE, &[1], &[]);
+    bench.file(IDLE_INPUT, CHECK, &[1], &[]);
+    for chosen in [&[SEQUENCE][..], &[CHECK], &[SEQUENCE, CHECK]] {
+        bench.sound(|script| {
+            script.file(IDLE_INPUT, BLOCK_SIZE, 5);
+            for &field in chosen {
+                script.file(IDLE_INPUT, field, 1);
+            }
+        });
+    }
+}
+
+fn block_numbers(bench: &mut Bench) {
+    for file in [INPUT, OUTPUT_FILE] {
+        bench.file(file, NUMBER, &[32_768, 65_535], &[32_767, 0]);
+    }
+}
+
+fn check_errors(bench: &mut Bench) {
+    bench.file(INPUT, LOW + ERROR, &[4, 255], &[3]);
+    for (error, sound) in [(4, false), (3, true)] {
+        let change = |script: &mut Script| script.full(INPUT, HIGH, [1, 0, error]);
+        if sound {
+            bench.sound(change);
+        } else {
+            bench.unsound(change);
+        }
+    }
+}
+
+/// A fresh start judges no state; a refused one leaves it as it was.
+fn fresh_starts(bench: &mut Bench) {
+    let changes: [fn(&mut Script); 6] = [
+        |script| script.scan_mark(4, 10),
+        |script| script.pool(BUFFERS, 255),
+        |script| script.file(INPUT, LOW + AT, 65_535),
+        |script| script.unit(2, 0, ATTEMPTS, 102),
+        |script| script.slot(WRITING, LOW, EMPTY),
+        |script| script.file(CLOSED, RECORD_LENGTH, 65_535),
+    ];
+    for change in changes {
+        bench.build();
+        bench.script.freeze();
+        change(bench.script);
+        assert!(!is_sound(&bench.script.player.state));
+        bench.script.print_sound();
+        bench.script.fresh(8, 9, [1, 0, 0, 0, 0]);
+        bench.script.print_state();
+        bench.script.fresh(2, 3, [1, 0, 0, 0, 512]);
+        bench.script.print_state();
+        bench.script.print_sound();
+        bench.script.open(0, 0, 3, 1);
+        bench.script.read(0, &[7]);
+        bench.script.print_room();
+    }
+}
+
+/// Every kind of call on one unsound state, with a short area and with numbers out of range too.
+fn every_call_on_one_state(bench: &mut Bench) {
+    bench.build();
+    bench.script.file(CLOSED, HIGH + BUFFER_NUMBER, 1);
+    for length in [64, 53] {
+        bench.script.length(length);
+        for call in CALLS {
+            bench.script.add(call);
+        }
+    }
+    bench.script.length(64);
+    bench.script.get(16);
+    bench.script.put(CLOSED, &[1 << 36]);
+    bench.script.ask(IDLE_INPUT, 3);
+    bench.script.deliver(0, &[1, 2]);
+    bench.script.print_state();
+    bench.script.print_room();
+    bench.script.file(CLOSED, HIGH + BUFFER_NUMBER, 0);
+    bench.script.print_sound();
+    for call in CALLS {
+        bench.script.add(call);
+    }
+    bench.script.print_state();
+}

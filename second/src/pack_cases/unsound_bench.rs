@@ -1,0 +1,107 @@
+//! The bench: a pack with a file of each sort on which unsound states are tried. Each is asked for, met
+//! by calls that would else be accepted, and taken back.
+
+use super::script::{Script, READ, WRITE};
+use crate::pack::{CHECK, DOUBLE, OUTPUT, SEQUENCE};
+use crate::sound::is_sound;
+
+/// The files of the bench.
+pub const INPUT: u64 = 0;
+pub const OUTPUT_FILE: u64 = 1;
+pub const WRITING: u64 = 2;
+pub const IDLE_INPUT: u64 = 3;
+pub const READING: u64 = 4;
+pub const CLOSED: u64 = 5;
+
+/// Calls that the bench accepts, one after the other: one of each kind but a fresh start. They go round.
+pub const CALLS: [&[u64]; 10] = [
+    &[1, CLOSED, 0, 4, 0, 6, 2],
+    &[2, IDLE_INPUT],
+    &[3, INPUT, READ, 0],
+    &[4, 1, 2, 1, 0],
+    &[5, INPUT],
+    &[7, OUTPUT_FILE],
+    &[6, OUTPUT_FILE, 2, 33, 34],
+    &[8, INPUT],
+    &[9],
+    &[10],
+];
+
+/// Every so many unsound states, what the refused calls left is printed.
+const PRINTED: usize = 12;
+
+/// A pack with a file of each sort, all of its calls open to it.
+pub struct Bench<'a> {
+    pub script: &'a mut Script,
+    /// The unsound states so far.
+    states: usize,
+}
+
+impl<'a> Bench<'a> {
+    pub fn new(script: &'a mut Script) -> Bench<'a> {
+        Bench { script, states: 0 }
+    }
+
+    /// Nine buffers of six words. File 0: double input with a block. 1: double output, part-filled.
+    /// 2: output at work on a write. 3: input, idle. 4: double input at work on a read. 8 is free.
+    pub fn build(&mut self) {
+        let script = &mut *self.script;
+        script.start_over();
+        script.fresh(9, 6, [31, 12, 1, 0, 0]);
+        script.open(INPUT, DOUBLE, 5, 2);
+        script.open(OUTPUT_FILE, OUTPUT + DOUBLE + SEQUENCE + CHECK, 5, 2);
+        script.open_on(WRITING, 1, 2, OUTPUT, 4, 4);
+        script.open(IDLE_INPUT, 0, 6, 3);
+        script.open_on(READING, 2, 0, DOUBLE, 6, 1);
+        script.read(INPUT, &[1, 2, 3, 4, 5]);
+        script.put(OUTPUT_FILE, &[11, 12]);
+        script.put(WRITING, &[21, 22, 23, 24]);
+        script.ask(WRITING, WRITE);
+        script.ask(READING, READ);
+    }
+
+    /// A change that makes the state unsound: asked for, met by two calls, taken back.
+    pub fn unsound(&mut self, change: impl FnOnce(&mut Script)) {
+        let before = self.script.player.state.clone();
+        change(self.script);
+        assert!(!is_sound(&self.script.player.state));
+        self.script.print_sound();
+        for step in 0..2 {
+            self.script.add(CALLS[(2 * self.states + step) % CALLS.len()]);
+        }
+        if self.states.is_multiple_of(PRINTED) {
+            self.script.print_state();
+        }
+        self.states += 1;
+        self.script.set_state(&before);
+    }
+
+    /// A change that leaves the state sound.
+    pub fn sound(&mut self, change: impl FnOnce(&mut Script)) {
+        let before = self.script.player.state.clone();
+        change(self.script);
+        assert!(is_sound(&self.script.player.state));
+        self.script.print_sound();
+        self.script.set_state(&before);
+    }
+
+    /// A field of a file: values that break a clause, and values that do not.
+    pub fn file(&mut self, file: u64, field: u64, unsound: &[u64], sound: &[u64]) {
+        for &value in unsound {
+            self.unsound(|script| script.file(file, field, value));
+        }
+        for &value in sound {
+            self.sound(|script| script.file(file, field, value));
+        }
+    }
+
+    /// The same of a field of a unit.
+    pub fn unit(&mut self, [channel, unit]: [u64; 2], field: u64, unsound: &[u64], sound: &[u64]) {
+        for &value in unsound {
+            self.unsound(|script| script.unit(channel, unit, field, value));
+        }
+        for &value in sound {
+            self.sound(|script| script.unit(channel, unit, field, value));
+        }
+    }
+}

@@ -1,0 +1,354 @@
+//! The subcommand `pack`: plays a script of calls on a state and a lent area, and of changes to both
+//! that a caller could make between the calls.
+
+use crate::channel::UNITS;
+use crate::pack::{Opening, CHANNELS, FILES};
+use crate::sound::is_sound;
+use crate::state::State;
+use crate::state_calls::{self as calls, Shown};
+use crate::state_fields::{
+    set_file_field, set_pool_field, set_unit_field, state_numbers, AT, BLOCK_SIZE, FILE_FIELDS, HIGH, LOW,
+    NUMBER, POOL_FIELDS, RECORD_LENGTH, UNIT_FIELDS, WIDTH, WORDS,
+};
+use crate::text::{line_of, numbers_of};
+
+/// The commands: the calls, then the changes, then what prints.
+pub const FRESH: u64 = 0;
+pub const OPEN: u64 = 1;
+pub const CLOSE: u64 = 2;
+pub const ASK: u64 = 3;
+pub const REPORT: u64 = 4;
+pub const GET: u64 = 5;
+pub const PUT: u64 = 6;
+pub const SEAL: u64 = 7;
+pub const SKIP: u64 = 8;
+pub const FREEZE: u64 = 9;
+pub const THAW: u64 = 10;
+pub const LENGTH: u64 = 11;
+pub const WORD: u64 = 12;
+pub const FILE: u64 = 13;
+pub const UNIT: u64 = 14;
+pub const SCAN_MARK: u64 = 15;
+pub const POOL: u64 = 16;
+pub const START_OVER: u64 = 17;
+pub const PRINT_ROOM: u64 = 18;
+pub const PRINT_STATE: u64 = 19;
+pub const PRINT_SOUND: u64 = 20;
+
+/// The numbers of the room, of which the area is the first part.
+pub const ROOM: usize = 64;
+/// The most words that come with a call.
+const MOST_WORDS: u64 = 64;
+/// The working unit if there is none.
+pub const NO_UNIT: u64 = 255;
+
+/// One byte and two bytes.
+const BYTE: u64 = 255;
+const TWO_BYTES: u64 = 65_535;
+
+/// What the player keeps between commands.
+#[derive(Clone, Debug, PartialEq, Eq)]
+pub struct Player {
+    pub state: State,
+    pub room: [u64; ROOM],
+    /// The length of the area.
+    pub length: usize,
+}
+
+/// Plays every command of `script`, one a line; complains of the first that is malformed.
+pub fn answer_script(script: &str) -> Result<String, String> {
+    let mut player = Player::new();
+    let mut output = String::new();
+    for (index, line) in script.lines().enumerate() {
+        let played = numbers_of(line)
+            .ok_or("something that is no number of 64 bits".to_string())
+            .and_then(|command| player.play(&command));
+        let answer = played.map_err(|complaint| format!("line {}: {complaint}", index + 1))?;
+        output += &answer.map(|numbers| line_of(&numbers)).unwrap_or_default();
+    }
+    Ok(output)
+}
+
+impl Default for Player {
+    fn default() -> Player {
+        Player { state: State::default(), room: [0; ROOM], length: ROOM }
+    }
+}
+
+impl Player {
+    pub fn new() -> Player {
+        Player::default()
+    }
+
+    /// Plays one command; a call and a print have an answer. A malformed command changes nothing.
+    pub fn play(&mut self, command: &[u64]) -> Result<Option<Vec<u64>>, String> {
+        check_form(command)?;
+        Ok(match command[0] {
+            FRESH..=THAW => Some(self.call(command)),
+            PRINT_ROOM => Some(self.room.to_vec()),
+            PRINT_STATE => Some(state_numbers(&self.state)),
+            PRINT_SOUND => Some(vec![u64::from(is_sound(&self.state))]),
+            _ => {
+                self.change(command);
+                None
+            }
+        })
+    }
+
+    /// Makes a call; a refused one is answered by the number alone.
+    fn call(&mut self, command: &[u64]) -> Vec<u64> {
+        match self.accepted_call(command) {
+            Ok(numbers) => [&[0], &numbers[..]].concat(),
+            Err(refusal) => vec![refusal],
+        }
+    }
+
+    /// The numbers that follow the 0 of an accepted call.
+    fn accepted_call(&mut self, command: &[u64]) -> Result<Vec<u64>, u64> {
+        let (state, area) = (&mut self.state, &mut self.room[..self.length]);
+        let nothing = |()| vec![];
+        match *command {
+            [FRESH, buffers, width, a, b, c, d, e] => {
+                calls::fresh(state, area, buffers, width, [a, b, c, d, e]).map(nothing)
+            }
+            [OPEN, file, channel, unit, flags, block_size, record_length] => {
+                let opening = Opening { file, channel, unit, flags, block_size, record_length };
+                calls::open(state, &opening).map(nothing)
+            }
+            [CLOSE, file] => calls::close(state, file).map(nothing),
+            [ASK, file, operation, priority] => {
+                calls::ask(state, file, operation, priority).map(|working| vec![working.unwrap_or(NO_UNIT)])
+            }
+            [REPORT, channel, unit, outcome, _, ref words @ ..] => {
+                let answer = calls::report(state, area, channel, unit, outcome, words)?;
+                let working = answer.working_unit.unwrap_or(NO_UNIT);
+                Ok(with_words(&[answer.result, answer.check_error, working], &answer.block))
+            }
+            [GET, file] => {
+                let answer = calls::get(state, area, file)?;
+                Ok(with_words(&[answer.kind, answer.check_error], &answer.words))
+            }
+            [PUT, file, _, ref words @ ..] => calls::put(state, area, file, words).map(nothing),
+            [SEAL, file] => calls::seal(state, area, file).map(nothing),
+            [SKIP, file] => calls::skip(state, file).map(nothing),
+            [FREEZE] => calls::freeze(state).map(nothing),
+            _ => calls::thaw(state).map(nothing),
+        }
+    }
+
+    /// Makes a change of the room, the length or the state.
+    fn change(&mut self, command: &[u64]) {
+        match *command {
+            [LENGTH, length] => self.length = length as usize,
+            [WORD, place, value] => self.room[place as usize] = value,
+            [FILE, file, field, value] => set_file_field(&mut self.state.files[file as usize], field, value),
+            [UNIT, channel, unit, field, value] => {
+                let units = &mut self.state.channels[channel as usize].units;
+                set_unit_field(&mut units[unit as usize], field, value);
+            }
+            [SCAN_MARK, channel, value] => self.state.channels[channel as usize].mark = value,
+            [POOL, field, value] => set_pool_field(&mut self.state, field, value),
+            _ => *self = Player::new(),
+        }
+    }
+}
+
+/// Numbers, then a part of the area: its start, its count and its words.
+fn with_words(numbers: &[u64], shown: &Shown) -> Vec<u64> {
+    [numbers, &[shown.start, shown.words.len() as u64], &shown.words].concat()
+}
+
+/// Complains of a command that is not of the form of a script.
+fn check_form(command: &[u64]) -> Result<(), String> {
+    let &kind = command.first().ok_or("no command")?;
+    let limits = limits_of(command).ok_or(format!("no command {kind}"))?;
+    let given = command.len() - 1;
+    let words = words_of(command, limits.len())?;
+    if given != limits.len() + words {
+        return Err(format!("command {kind} takes {} numbers and not {given}", limits.len() + words));
+    }
+    for (place, (&number, &limit)) in command[1..].iter().zip(&limits).enumerate() {
+        if number > limit {
+            return Err(format!("number {} of command {kind} is over {limit}: {number}", place + 1));
+        }
+    }
+    Ok(())
+}
+
+/// How many words a report or a put says that it brings; the count is the last number before them.
+fn words_of(command: &[u64], fixed: usize) -> Result<usize, String> {
+    if ![REPORT, PUT].contains(&command[0]) {
+        return Ok(0);
+    }
+    match command.get(fixed) {
+        Some(&count) if count > MOST_WORDS => Err(format!("more than {MOST_WORDS} words: {count}")),
+        count => Ok(count.map_or(0, |&count| count as usize)),
+    }
+}
+
+/// The largest that each number of a command can be, words apart. Calls take bytes, and two bytes
+/// for W, B, r and masks.
+fn limits_of(command: &[u64]) -> Option<Vec<u64>> {
+    let (files, channels, units) = (FILES as u64 - 1, CHANNELS as u64 - 1, UNITS as u64 - 1);
+    Some(match command[0] {
+        FRESH => [&[BYTE][..], &[TWO_BYTES; 6]].concat(),
+        OPEN => [&[BYTE; 4][..], &[TWO_BYTES; 2]].concat(),
+        ASK => vec![BYTE; 3],
+        REPORT => vec![BYTE, BYTE, BYTE, MOST_WORDS],
+        PUT => vec![BYTE, MOST_WORDS],
+        CLOSE | GET | SEAL | SKIP => vec![BYTE],
+        FREEZE | THAW | START_OVER | PRINT_ROOM | PRINT_STATE | PRINT_SOUND => vec![],
+        LENGTH => vec![ROOM as u64],
+        WORD => vec![ROOM as u64 - 1, u64::MAX],
+        FILE => vec![files, FILE_FIELDS - 1, file_limit(command.get(2).copied())],
+        UNIT => vec![channels, units, UNIT_FIELDS - 1, BYTE],
+        SCAN_MARK => vec![channels, BYTE],
+        POOL => vec![POOL_FIELDS - 1, if command.get(1) == Some(&WIDTH) { TWO_BYTES } else { BYTE }],
+        _ => return None,
+    })
+}
+
+/// The largest number that a field of a file can take.
+fn file_limit(field: Option<u64>) -> u64 {
+    const WIDE: [u64; 7] =
+        [BLOCK_SIZE, RECORD_LENGTH, NUMBER, LOW + WORDS, LOW + AT, HIGH + WORDS, HIGH + AT];
+    if field.is_some_and(|field| WIDE.contains(&field)) {
+        TWO_BYTES
+    } else {
+        BYTE
+    }
+}
+
+#[cfg(test)]
+mod tests {
+    use super::*;
+    use crate::state_fields::BUFFERS;
+
+    /// Plays commands written with semicolons between them, and compares the answers.
+    fn answers(commands: &str, expected: &[&str]) {
+        let given = answer_script(&commands.replace("; ", "\n")).expect("a script");
+        assert_eq!(given.lines().collect::<Vec<&str>>(), expected, "{commands}");
+    }
+
+    /// The whole session of document 01: a read, a get, a get of nothing, and its report again.
+    #[test]
+    fn the_whole_session() {
+        answers(
+            "0 1 4 1 0 0 0 0; 1 0 0 0 0 2 1; 3 0 0 0; 4 0 0 0 1 5; 5 0; 5 0; 4 0 0 0 1 5",
+            &["0", "0", "0 0", "0 1 0 255 0 0", "0 0 0 0 1 5", "0 1 0 0 0", "11"],
+        );
+    }
+
+    #[test]
+    fn what_a_write_and_a_get_show() {
+        answers(
+            "0 2 4 3 0 0 0 0; 1 1 0 1 0 1 1; 1 0 0 0 13 3 1; 6 0 1 1; 6 0 1 2; 7 0; 3 0 1 1; 4 0 0 4 0",
+            &["0", "0", "0", "0", "0", "0", "0 0", "0 4 0 255 4 3 1 2 786433"],
+        );
+        answers(
+            "0 2 4 3 0 0 0 0; 1 1 0 1 0 1 1; 1 0 0 0 4 3 2; 3 0 0 0; 4 0 0 0 4 7 8 9 2; 5 0; 5 0; 5 0; 8 0; 8 0; 2 0",
+            &["0", "0", "0", "0 0", "0 1 1 255 0 0", "0 3 1 0 0", "0 0 0 4 2 7 8", "0 4 0 6 1 9", "0", "9", "0"],
+        );
+    }
+
+    /// Changes have no answer; the area is the first part of the room.
+    #[test]
+    fn changes_between_calls() {
+        answers("9; 16 2 0; 15 4 9; 20; 15 4 10; 20; 10; 17; 20", &["0", "1", "0", "1", "1"]);
+        answers(
+            "11 3; 0 2 2 1 0 0 0 0; 11 4; 0 2 2 1 0 0 0 0; 1 0 0 0 1 2 2; 6 0 2 3 4; 11 3; 3 0 1 0; 4 0 0 0 0",
+            &["1", "0", "0", "0", "0 0", "1"],
+        );
+        answers(
+            "0 1 2 1 0 0 0 0; 14 0 0 1 3; 14 0 0 4 1; 20; 13 0 0 1; 13 0 7 2; 13 0 8 1; 20; 13 0 13 1; 20",
+            &["0", "0", "0", "1"],
+        );
+    }
+
+    #[test]
+    fn rooms_and_states_as_they_are_printed() {
+        let zeros = |count: usize| vec!["0"; count].join(" ");
+        let room = |first: &str, between: usize, last: &str| format!("{first} {} {last}", zeros(between));
+        answers(
+            "12 0 18446744073709551615; 12 63 7; 18; 19",
+            &[&room("18446744073709551615", 62, "7"), "0 0 0 0 10 0 10 0 10 0 10 0 10 16"],
+        );
+    }
+
+    /// The last line of a script is malformed, and the complaint says how.
+    fn complains(script: &str, complaint: &str) {
+        let lines = script.split("; ").count();
+        let expected = Err(format!("line {lines}: {complaint}"));
+        assert_eq!(answer_script(&script.replace("; ", "\n")), expected, "{script}");
+    }
+
+    #[test]
+    fn malformed_scripts() {
+        complains("17; 20 x", "something that is no number of 64 bits");
+        complains("17; 12 0 18446744073709551616", "something that is no number of 64 bits");
+        assert_eq!(answer_script("17\n\n17\n"), Err("line 2: no command".to_string()));
+        complains("17; 21", "no command 21");
+        for (command, takes, given) in [
+            ("0 1 1 1 0 0 0", 7, 6),
+            ("1 0 0 0 0 3", 6, 5),
+            ("2", 1, 0),
+            ("3 0 0 0 0", 3, 4),
+            ("4 0 0 0", 4, 3),
+            ("4 0 0 0 2 1", 6, 5),
+            ("6", 2, 0),
+            ("6 0 1", 3, 2),
+            ("6 0 0 1", 2, 3),
+            ("9 1", 0, 1),
+            ("13 0 0", 3, 2),
+            ("14 0 0 0", 4, 3),
+            ("20 0", 0, 1),
+        ] {
+            let kind = command.split(' ').next().expect("a command");
+            complains(command, &format!("command {kind} takes {takes} numbers and not {given}"));
+        }
+    }
+
+    /// Numbers that the places of a call or of a state cannot hold.
+    #[test]
+    fn numbers_that_are_too_large() {
+        for (command, place, limit, number) in [
+            ("0 256 1 0 0 0 0 0", 1, 255, 256),
+            ("0 1 65536 0 0 0 0 0", 2, 65_535, 65_536),
+            ("0 1 1 0 0 0 0 65536", 7, 65_535, 65_536),
+            ("1 0 0 0 256 1 1", 4, 255, 256),
+            ("4 0 0 256 0", 3, 255, 256),
+            ("11 65", 1, 64, 65),
+            ("12 64 0", 1, 63, 64),
+            ("13 16 0 0", 1, 15, 16),
+            ("13 0 22 0", 2, 21, 22),
+            ("13 0 1 256", 3, 255, 256),
+            ("13 0 10 65536", 3, 65_535, 65_536),
+            ("13 0 21 256", 3, 255, 256),
+            ("14 5 0 0 0", 1, 4, 5),
+            ("14 0 10 0 0", 2, 9, 10),
+            ("14 0 0 6 0", 3, 5, 6),
+            ("14 0 0 4 256", 4, 255, 256),
+            ("15 0 256", 2, 255, 256),
+            ("16 3 0", 1, 2, 3),
+            ("16 0 256", 2, 255, 256),
+            ("16 1 65536", 2, 65_535, 65_536),
+        ] {
+            let kind = command.split(' ').next().expect("a command");
+            complains(command, &format!("number {place} of command {kind} is over {limit}: {number}"));
+        }
+        complains("6 0 65", "more than 64 words: 65");
+        complains("4 0 0 0 18446744073709551615", "more than 64 words: 18446744073709551615");
+    }
+
+    /// Complaints come before anything changes.
+    #[test]
+    fn a_malformed_command_changes_nothing() {
+        let mut player = Player::new();
+        player.play(&[POOL, BUFFERS, 3]).expect("a change");
+        let before = player.clone();
+        for command in [&[WORD, 64, 1][..], &[FILE, 0, 22, 1], &[START_OVER, 0], &[99], &[]] {
+            assert!(player.play(command).is_err());
+            assert_eq!(player, before);
+        }
+    }
+}

@@ -1,0 +1,299 @@
+//! The fields of a state by number: how a script changes one, and how a state is printed.
+
+use crate::channel::{Operation, Request, Turn, UNITS};
+use crate::pack::FILES;
+use crate::state::{Buffer, ChannelState, FileState, Slot, State, UnitState};
+
+/// The fields of a file.
+pub const OPENED: u64 = 0;
+pub const CHANNEL: u64 = 1;
+pub const UNIT: u64 = 2;
+pub const OUTPUT: u64 = 3;
+pub const DOUBLE: u64 = 4;
+pub const SEQUENCE: u64 = 5;
+pub const CHECK: u64 = 6;
+pub const BLOCK_SIZE: u64 = 7;
+pub const RECORD_LENGTH: u64 = 8;
+pub const TURNED: u64 = 9;
+pub const NUMBER: u64 = 10;
+pub const MARKED: u64 = 11;
+/// The first of the five fields of each buffer.
+pub const LOW: u64 = 12;
+pub const HIGH: u64 = 17;
+pub const FILE_FIELDS: u64 = 22;
+
+/// The fields of a buffer, counted from its first.
+pub const BUFFER_NUMBER: u64 = 0;
+pub const SLOT_KIND: u64 = 1;
+pub const WORDS: u64 = 2;
+pub const AT: u64 = 3;
+pub const ERROR: u64 = 4;
+
+/// The kinds of slots.
+pub const EMPTY: u64 = 0;
+pub const TAKEN: u64 = 1;
+pub const PART_FILLED: u64 = 2;
+pub const FULL: u64 = 3;
+
+/// The fields of a unit.
+pub const DECLARED: u64 = 0;
+pub const TURN_KIND: u64 = 1;
+pub const OPERATION: u64 = 2;
+pub const PRIORITY: u64 = 3;
+pub const ATTEMPTS: u64 = 4;
+pub const INCOMPLETE: u64 = 5;
+pub const UNIT_FIELDS: u64 = 6;
+
+/// The kinds of turns.
+pub const IDLE: u64 = 0;
+pub const WAITING: u64 = 1;
+pub const DISPLACED: u64 = 2;
+pub const WORKING: u64 = 3;
+
+/// The fields of the pool.
+pub const BUFFERS: u64 = 0;
+pub const WIDTH: u64 = 1;
+pub const FROZEN: u64 = 2;
+pub const POOL_FIELDS: u64 = 3;
+
+/// What ends the units of a channel, and what ends a printed state.
+const NO_MORE_UNITS: u64 = UNITS as u64;
+const NO_MORE_FILES: u64 = FILES as u64;
+
+/// Sets a field of a file. A number that the slot's kind has not is not set.
+pub fn set_file_field(file: &mut FileState, field: u64, value: u64) {
+    let flag = value != 0;
+    match field {
+        OPENED => file.opened = flag,
+        CHANNEL => file.channel = value,
+        UNIT => file.unit = value,
+        OUTPUT => file.output = flag,
+        DOUBLE => file.double = flag,
+        SEQUENCE => file.sequence = flag,
+        CHECK => file.check = flag,
+        BLOCK_SIZE => file.block_size = value,
+        RECORD_LENGTH => file.record_length = value,
+        TURNED => file.turned = flag,
+        NUMBER => file.number = value,
+        MARKED => file.marked = flag,
+        LOW..HIGH => set_buffer_field(&mut file.low, field - LOW, value),
+        _ => set_buffer_field(&mut file.high, field - HIGH, value),
+    }
+}
+
+/// Setting the kind makes a slot of that kind with zeros.
+fn set_buffer_field(buffer: &mut Buffer, field: u64, value: u64) {
+    match (field, &mut buffer.slot) {
+        (BUFFER_NUMBER, _) => buffer.number = value,
+        (SLOT_KIND, slot) => *slot = slot_of_kind(value),
+        (WORDS, Slot::PartFilled { words } | Slot::Full { words, .. }) => *words = value,
+        (AT, Slot::Full { at, .. }) => *at = value,
+        (ERROR, Slot::Full { error, .. }) => *error = value,
+        _ => {}
+    }
+}
+
+fn slot_of_kind(kind: u64) -> Slot {
+    match kind {
+        TAKEN => Slot::Taken,
+        PART_FILLED => Slot::PartFilled { words: 0 },
+        FULL => Slot::Full { words: 0, at: 0, error: 0 },
+        _ => Slot::Empty,
+    }
+}
+
+/// Sets a field of a unit. An idle one has no request that could change.
+pub fn set_unit_field(unit: &mut UnitState, field: u64, value: u64) {
+    match (field, &mut unit.request) {
+        (DECLARED, _) => unit.declared = value != 0,
+        (TURN_KIND, _) => set_turn(unit, value),
+        (OPERATION, Some(request)) => request.operation = Operation::of(value).unwrap_or(Operation::Mark),
+        (PRIORITY, Some(request)) => request.priority = value != 0,
+        (ATTEMPTS, Some(request)) => request.attempt = value,
+        (INCOMPLETE, Some(request)) => request.incomplete_words = value,
+        _ => {}
+    }
+}
+
+/// The request stays if there is one; else it is an ordinary read with zeros.
+fn set_turn(unit: &mut UnitState, kind: u64) {
+    let turn = match kind {
+        WAITING => Turn::Waiting,
+        DISPLACED => Turn::Displaced,
+        WORKING => Turn::Working,
+        _ => {
+            unit.request = None;
+            return;
+        }
+    };
+    let zeros =
+        Request { operation: Operation::Read, priority: false, turn, attempt: 0, incomplete_words: 0 };
+    unit.request.get_or_insert(zeros).turn = turn;
+}
+
+/// Sets a field of the pool.
+pub fn set_pool_field(state: &mut State, field: u64, value: u64) {
+    match field {
+        BUFFERS => state.buffers = value,
+        WIDTH => state.width = value,
+        _ => state.frozen = value != 0,
+    }
+}
+
+/// The fields of a file in their order; what a slot's kind has not is 0.
+pub fn file_fields(file: &FileState) -> Vec<u64> {
+    let [opened, output, double] = [file.opened, file.output, file.double].map(u64::from);
+    let [sequence, check] = [file.sequence, file.check].map(u64::from);
+    let [turned, marked] = [file.turned, file.marked].map(u64::from);
+    let mut fields = vec![opened, file.channel, file.unit, output, double, sequence, check];
+    fields.extend([file.block_size, file.record_length, turned, file.number, marked]);
+    fields.extend(buffer_fields(&file.low));
+    fields.extend(buffer_fields(&file.high));
+    fields
+}
+
+fn buffer_fields(buffer: &Buffer) -> [u64; 5] {
+    match buffer.slot {
+        Slot::Empty => [buffer.number, EMPTY, 0, 0, 0],
+        Slot::Taken => [buffer.number, TAKEN, 0, 0, 0],
+        Slot::PartFilled { words } => [buffer.number, PART_FILLED, words, 0, 0],
+        Slot::Full { words, at, error } => [buffer.number, FULL, words, at, error],
+    }
+}
+
+/// The fields of a unit in their order; an idle one has zeros.
+pub fn unit_fields(unit: &UnitState) -> [u64; 6] {
+    let declared = u64::from(unit.declared);
+    let Some(request) = &unit.request else {
+        return [declared, IDLE, 0, 0, 0, 0];
+    };
+    let kind = match request.turn {
+        Turn::Waiting => WAITING,
+        Turn::Displaced => DISPLACED,
+        Turn::Working => WORKING,
+    };
+    let priority = u64::from(request.priority);
+    [declared, kind, request.operation.number(), priority, request.attempt, request.incomplete_words]
+}
+
+/// The fields of the pool in their order.
+pub fn pool_fields(state: &State) -> [u64; 3] {
+    [state.buffers, state.width, u64::from(state.frozen)]
+}
+
+/// A state as it is printed: what is all zero is left out.
+pub fn state_numbers(state: &State) -> Vec<u64> {
+    let mut numbers = pool_fields(state).to_vec();
+    for channel in &state.channels {
+        numbers.extend(channel_numbers(channel));
+    }
+    for (number, file) in state.files.iter().enumerate() {
+        if *file != FileState::default() {
+            numbers.push(number as u64);
+            numbers.extend(file_fields(file));
+        }
+    }
+    numbers.push(NO_MORE_FILES);
+    numbers
+}
+
+fn channel_numbers(channel: &ChannelState) -> Vec<u64> {
+    let mut numbers = vec![channel.mark];
+    for (number, unit) in channel.units.iter().enumerate() {
+        if *unit != UnitState::default() {
+            numbers.push(number as u64);
+            numbers.extend(unit_fields(unit));
+        }
+    }
+    numbers.push(NO_MORE_UNITS);
+    numbers
+}
+
+#[cfg(test)]
+mod tests {
+    use super::*;
+
+    /// Each field is set and found where it belongs; no other one changes.
+    #[test]
+    fn fields_of_a_file() {
+        for field in 0..FILE_FIELDS {
+            let mut file = FileState::default();
+            for side in [LOW, HIGH] {
+                set_file_field(&mut file, side + SLOT_KIND, FULL);
+            }
+            let mut expected = file_fields(&file);
+            assert_eq!(expected.len() as u64, FILE_FIELDS);
+            set_file_field(&mut file, field, 1);
+            expected[field as usize] = 1;
+            assert_eq!(file_fields(&file), expected, "{field}");
+        }
+    }
+
+    /// Any number but 0 is a flag that is set.
+    #[test]
+    fn flags_are_0_or_1() {
+        for field in [OPENED, OUTPUT, DOUBLE, SEQUENCE, CHECK, TURNED, MARKED] {
+            let mut file = FileState::default();
+            set_file_field(&mut file, field, 200);
+            assert_eq!(file_fields(&file)[field as usize], 1);
+        }
+        let mut state = State::default();
+        set_pool_field(&mut state, FROZEN, 2);
+        assert_eq!(pool_fields(&state), [0, 0, 1]);
+    }
+
+    /// Setting a kind makes a slot with zeros; a number that the kind has not is not set.
+    #[test]
+    fn slots_and_their_numbers() {
+        let mut buffer = Buffer::default();
+        let mut set = |kind: u64| {
+            for (field, value) in [(BUFFER_NUMBER, 6), (SLOT_KIND, kind), (WORDS, 7), (AT, 8), (ERROR, 9)] {
+                set_buffer_field(&mut buffer, field, value);
+            }
+            buffer_fields(&buffer)
+        };
+        assert_eq!(set(FULL), [6, FULL, 7, 8, 9]);
+        assert_eq!(set(PART_FILLED), [6, PART_FILLED, 7, 0, 0]);
+        assert_eq!(set(TAKEN), [6, TAKEN, 0, 0, 0]);
+        assert_eq!(set(4), [6, EMPTY, 0, 0, 0]);
+        set_buffer_field(&mut buffer, SLOT_KIND, FULL);
+        assert_eq!(buffer_fields(&buffer), [6, FULL, 0, 0, 0]);
+    }
+
+    /// A kind keeps the request that is there; an idle unit has none.
+    #[test]
+    fn units_and_their_requests() {
+        let mut unit = UnitState::default();
+        let set = |unit: &mut UnitState, fields: &[(u64, u64)]| {
+            for &(field, value) in fields {
+                set_unit_field(unit, field, value);
+            }
+            unit_fields(unit)
+        };
+        let counts = [(OPERATION, 1), (PRIORITY, 1), (ATTEMPTS, 50), (INCOMPLETE, 2)];
+        assert_eq!(set(&mut unit, &counts), [0; 6]);
+        assert_eq!(set(&mut unit, &[(TURN_KIND, WAITING)]), [0, WAITING, 0, 0, 0, 0]);
+        assert_eq!(set(&mut unit, &counts), [0, WAITING, 1, 1, 50, 2]);
+        assert_eq!(set(&mut unit, &[(TURN_KIND, WORKING), (DECLARED, 1)]), [1, WORKING, 1, 1, 50, 2]);
+        assert_eq!(set(&mut unit, &[(TURN_KIND, DISPLACED), (OPERATION, 7)]), [1, DISPLACED, 2, 1, 50, 2]);
+        assert_eq!(set(&mut unit, &[(TURN_KIND, 4)]), [1, IDLE, 0, 0, 0, 0]);
+        assert_eq!(set(&mut unit, &[(TURN_KIND, WORKING)]), [1, WORKING, 0, 0, 0, 0]);
+    }
+
+    /// What is all zero is left out.
+    #[test]
+    fn states_as_they_are_printed() {
+        let mut state = State::default();
+        assert_eq!(state_numbers(&state), [0, 0, 0, 0, 10, 0, 10, 0, 10, 0, 10, 0, 10, 16]);
+        set_pool_field(&mut state, BUFFERS, 3);
+        set_pool_field(&mut state, WIDTH, 5);
+        state.channels[1].mark = 7;
+        set_unit_field(&mut state.channels[1].units[9], DECLARED, 1);
+        set_unit_field(&mut state.channels[4].units[0], TURN_KIND, WORKING);
+        set_file_field(&mut state.files[15], NUMBER, 2);
+        let mut expected = vec![3, 5, 0, 0, 10, 7, 9, 1, 0, 0, 0, 0, 0, 10, 0, 10, 0, 10];
+        expected.extend([0, 0, 0, 3, 0, 0, 0, 0, 10, 15]);
+        expected.extend([0, 0, 0, 0, 0, 0, 0, 0, 0, 0, 2, 0, 0, 0, 0, 0, 0, 0, 0, 0, 0, 0, 16]);
+        assert_eq!(state_numbers(&state), expected);
+    }
+}
