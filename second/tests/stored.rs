@@ -7,6 +7,8 @@ use second::channel_events::channel_events;
 use second::channel_player::answer_events;
 use second::file_player::answer_walks;
 use second::file_walks::file_walks;
+use second::pack_cases::pack_cases;
+use second::pack_player::answer_script;
 use second::text::lines_of;
 use second::word_cases::word_cases;
 use second::words::answer_cases;
@@ -56,4 +58,15 @@ fn file_walks_are_stored() {
 fn answers_to_file_walks_are_stored() {
     let events = stored("file_walks", "stdin");
     assert_same_lines(&stored("file_walks", "stdout"), &answer_walks(&events).expect("events"));
+}
+
+#[test]
+fn pack_cases_are_stored() {
+    assert_same_lines(&stored("pack_cases", "stdin"), &lines_of(&pack_cases()));
+}
+
+#[test]
+fn answers_to_pack_cases_are_stored() {
+    let script = stored("pack_cases", "stdin");
+    assert_same_lines(&stored("pack_cases", "stdout"), &answer_script(&script).expect("script"));
 }
