@@ -1,0 +1,4 @@
+pub mod Refused
+pub mod Kept
+pub mod Seen
+pub mod Turns
