@@ -1,0 +1,4 @@
+pub mod Refusals
+pub mod Buffers
+pub mod Turns
+pub mod Demands
