@@ -18,4 +18,4 @@ pub mod Demand
 pub mod Limits
 pub mod Lift
 pub mod Machine
-pub mod Examples
+pub mod Bound

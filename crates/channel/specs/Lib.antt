@@ -5,4 +5,4 @@ pub mod Turns
 pub mod Sound
 pub mod History
 pub mod Lifted
-pub mod Examples
+pub mod Bound

@@ -2,3 +2,4 @@ pub mod Refusals
 pub mod Buffers
 pub mod Turns
 pub mod Demands
+pub mod Examples
