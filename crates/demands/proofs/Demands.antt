@@ -1,24 +1,43 @@
 -- The demands, each proved by one citation. Assumes nothing.
 use mathlib.Core.Path.{_≡_}
-use mathlib.Core.Bool.{false}
-use mathlib.Core.List.{List}
-use Prim.Native.Nat.{ℕ}
+use mathlib.Core.Logic.{_≢_}
+use mathlib.Core.Bool.{Bool, true, false}
+use mathlib.Core.List.{List, []}
+use Prim.Native.Nat.{ℕ, _+_, _%_}
+use lib.ListN.{length}
+use Rattle.word.specs.CheckWords.{checkWord, IsCheckWord}
+use Rattle.word.specs.Blocks.{judged}
+use Rattle.word.proofs.Laws.CheckWord.{check-word-is, check-word-only}
+use Rattle.files.specs.declared.File.{File}
+use Rattle.files.specs.Sides.{blockNumbers}
 use Rattle.state.specs.declared.State.{State}
 use Rattle.state.specs.Places.{fileAt}
 use Rattle.opening.specs.declared.Masks.{Masks}
 use Rattle.requests.specs.Ask.{isPriority}
+use Rattle.requests.specs.Report.{fileOf}
 use Rattle.histories.specs.Calls.{Call, fresh, opening, close, ask, report, answerOf}
 use Rattle.histories.specs.Histories.{Lent, after, count, freshStart, declaredOn}
 use Rattle.histories.proofs.Kept.{good-start, history-kept}
-use Rattle.demands.specs.Demands.{Refuses, Holds, Frees, Takes, Books, Answers}
+use Rattle.ledger.specs.Ledgers.{Ledger, blankLedger, errorOf, stateAfter, areaAfter, ledgerAfter}
+use Rattle.ledger.specs.Blocks.{joined}
+use Rattle.ledger.proofs.Always.{always, started as begun}
+use Rattle.demands.specs.Demands.{Refuses, Holds, Frees, Takes, Books, dataIn, Writes, Reads, Answers}
 use Rattle.demands.proofs.Refusals.{refuses}
 use Rattle.demands.proofs.Buffers.{good-holds, closed-frees, opened-takes, reported-books}
+use Rattle.demands.proofs.Blocks.{ledger-writes, ledger-closed, ledger-reads, ledger-judged}
 use Rattle.demands.proofs.Turns.{answered}
 
 -- "Any call, with any numbers, words and lengths, gets an answer. A refusal carries one number of document 01's table, is given exactly
 -- when the table says, and changes nothing. No caller need check first.": of every state value, every area and every call
 pub demand1 : (s : State) (area : List ℕ) (call : Call) → Refuses s area call
 demand1 s area call = refuses s area call
+
+-- "the one right check word": the word that is checked against document 01's sentence is that of `checked`, and no other
+pub demand2-one : (sequence check : Bool) (sum number w : ℕ) → IsCheckWord sequence check sum number w → w ≡ checkWord sequence check sum number
+demand2-one = check-word-only
+
+pub demand2-right : (sequence check : Bool) (sum number : ℕ) → IsCheckWord sequence check sum number (checkWord sequence check sum number)
+demand2-right = check-word-is
 
 -- From here on: a fresh start that is accepted, from any state value; then any calls, each given the state that the last one left.
 module _ (s₀ : State) (area₀ : List ℕ) (m w : ℕ) (masks : Masks) (started : answerOf s₀ area₀ (fresh m w masks) .refusal ≡ 0) where
@@ -47,6 +66,37 @@ module _ (s₀ : State) (area₀ : List ℕ) (m w : ℕ) (masks : Masks) (starte
       → Books (after start calls) channel unit (answerOf (after start calls) area (report channel unit outcome words) .state)
   demand2-booked calls area channel unit outcome words =
       reported-books (after start calls) area channel unit outcome words (history-kept start calls (good-start s₀ area₀ m w masks started))
+
+  -- "While only the pack writes the lent area": each call is given the area too that the last one left. The ledger of file i:
+  abbrev pub account : List Call → ℕ → Ledger
+  account calls i = ledgerAfter i start area₀ blankLedger calls
+
+  abbrev pub fileThen : List Call → ℕ → File
+  fileThen calls i = fileAt (stateAfter start area₀ calls) i
+
+  -- "blocks we write carry the one right check word;"
+  pub demand2-writes : (calls : List Call) (i : ℕ) → fileThen calls i .opened ≡ true → fileThen calls i .output ≡ true
+      → Writes (stateAfter start area₀ calls .w) (fileThen calls i) (areaAfter start area₀ calls) (account calls i)
+  demand2-writes calls i = ledger-writes (stateAfter start area₀ calls) (areaAfter start area₀ calls) (account calls) (always start area₀ (λ j. blankLedger) (begun s₀ area₀ m w masks started) calls) i
+
+  -- when an output file is closed, all that was put was handed out
+  pub demand2-closed : (calls : List Call) (i : ℕ) → fileThen calls i .opened ≡ true → fileThen calls i .output ≡ true
+      → answerOf (stateAfter start area₀ calls) (areaAfter start area₀ calls) (close i) .refusal ≡ 0
+      → joined (dataIn (fileThen calls i) (account calls i .sent)) ≡ account calls i .puts
+  demand2-closed calls i = ledger-closed (stateAfter start area₀ calls) (areaAfter start area₀ calls) (account calls) (always start area₀ (λ j. blankLedger) (begun s₀ area₀ m w masks started) calls) i
+
+  -- "blocks we read are judged by it as delivered."
+  pub demand2-reads : (calls : List Call) (i : ℕ) → fileThen calls i .opened ≡ true → fileThen calls i .output ≡ false
+      → Reads (stateAfter start area₀ calls .w) (fileThen calls i) (areaAfter start area₀ calls) (account calls i)
+  demand2-reads calls i = ledger-reads (stateAfter start area₀ calls) (areaAfter start area₀ calls) (account calls) (always start area₀ (λ j. blankLedger) (begun s₀ area₀ m w masks started) calls) i
+
+  -- the report of a delivered block answers that judgement, with the number that follows those of the blocks delivered before
+  pub demand2-judged : (calls : List Call) (channel unit outcome : ℕ) (words : List ℕ) → words ≢ []
+      → answerOf (stateAfter start area₀ calls) (areaAfter start area₀ calls) (report channel unit outcome words) .refusal ≡ 0
+      → let i = fileOf (stateAfter start area₀ calls) channel unit in
+      errorOf (answerOf (stateAfter start area₀ calls) (areaAfter start area₀ calls) (report channel unit outcome words) .added)
+      ≡ judged words (fileThen calls i .sequence) (fileThen calls i .check) ((1 + length (account calls i .came)) % blockNumbers) .error
+  demand2-judged calls = ledger-judged (stateAfter start area₀ calls) (areaAfter start area₀ calls) (account calls) (always start area₀ (λ j. blankLedger) (begun s₀ area₀ m w masks started) calls)
 
   -- "From a fresh start (and no second), each call given the state that the last one left: an accepted ordinary request on a channel of U
   -- declared units is answered at most once; until then its channel is working or frozen; its answer comes by the time 101 x (U + P)

@@ -3,9 +3,10 @@
 use mathlib.Core.Path.{_≡_}
 use mathlib.Core.Logic.{_≢_}
 use mathlib.Core.Bool.{Bool, true, false, cond, _||_}
-use mathlib.Core.List.{List}
+use mathlib.Core.List.{List, _++_, map}
 use Prim.Native.Nat.{ℕ, _+_, _*_, _≤_, _<_}
 use Rattle.area.proofs.Exactly.{Given, NoneApplies}
+use Rattle.files.specs.declared.File.{File}
 use Rattle.channel.specs.Rules.{mostReports}
 use Rattle.channel.specs.Scans.{workingIn, isFound}
 use Rattle.channel.specs.Units.{operationAt}
@@ -18,6 +19,8 @@ use Rattle.opening.proofs.Frees.{Lowest}
 use Rattle.requests.specs.Report.{isIdleFor}
 use Rattle.histories.specs.Calls.{Call, answerOf, numberAlone}
 use Rattle.histories.specs.Tables.{isTableNumber, rowsOf}
+use Rattle.ledger.specs.Ledgers.{Ledger, dataOf}
+use Rattle.ledger.specs.Blocks.{blocksIn, unreadOf, partIn, allChecked, joined, contents}
 use Rattle.histories.specs.Histories.{Lent, after, count, reportOn, answerFor, priorityOn, requestOf}
 
 -- ---- Demand 1: "Any call, with any numbers, words and lengths, gets an answer." `answerOf` is one answer for every state, area and call.
@@ -61,6 +64,30 @@ pub record Books (s : State) (channel unit : ℕ) (t : State) : Type 0 where
   pub only : (k : ℕ) → serves channel unit (fileAt s k) ≡ true → k ≡ file
   pub files : (k : ℕ) → k ≢ file → fileAt t k ≡ fileAt s k
   pub channels : (k : ℕ) → k ≢ channel → channelAt t k ≡ channelAt s k
+
+-- ---- Demand 2: "While only the pack writes the lent area, blocks we write carry the one right check word; blocks we read are judged by it
+-- as delivered." The ledger g of a file is noted from its calls and their answers.
+
+-- the data words of blocks, each without its check word
+abbrev pub dataIn : File → List (List ℕ) → List (List ℕ)
+dataIn f = map (dataOf (f .sequence) (f .check))
+
+-- of an output file f
+pub record Writes (w : ℕ) (f : File) (area : List ℕ) (g : Ledger) : Type 0 where
+  -- each block that a write's answer showed is its data words and, if a field is chosen, the check word of its number: 1, 2, 3 .. in the
+  -- order sealed, 0 after 32,767
+  pub checks : g .sent ≡ allChecked (f .sequence) (f .check) 1 (dataIn f (g .sent))
+  -- their data words, then those of the blocks that lie full in the area, then those of the part-filled one, are the words put: in order,
+  -- each once
+  pub words : joined (dataIn f (g .sent)) ++ (joined (dataIn f (blocksIn w f area)) ++ partIn w f area) ≡ g .puts
+
+-- of an input file f
+pub record Reads (w : ℕ) (f : File) (area : List ℕ) (g : Ledger) : Type 0 where
+  -- what get gave and skip dropped, then what is owed still, is for each delivered block the error that it is judged to have, as delivered
+  -- and with the number that it is due, and then its data words: in order, each once
+  pub items : g .gone ++ joined (g .owed) ≡ contents (f .sequence) (f .check) 1 (g .came)
+  -- and what is owed lies unread in the area
+  pub lies : g .owed ≡ unreadOf w f area
 
 -- ---- Demand 3: "an accepted ordinary request on a channel of U declared units", of unit u on channel c
 

@@ -1,0 +1,255 @@
+-- An accepted report, by what it means for its file, keeps what holds of every open file and its ledger. Assumes nothing.
+use mathlib.Core.Path.{_≡_, refl, sym, ap, ap₂, subst, _∙_}
+use mathlib.Core.Logic.{_≢_}
+use mathlib.Core.Bool.{Bool, true, false, not, cond, _&&_, _||_}
+use mathlib.Core.List.{List, [], _∷_, _++_}
+use Prim.Native.Nat.{ℕ, zero, suc, _+_, _-_, _*_, _≤_, _<_}
+use native.Mathlib.Omega.{arith}
+use lib.Dec.{eqb, ltb}
+use lib.ListN.{length}
+use borrow.Author.Tests.{eq-eqb, ltb-false, lt-ltb}
+use Rattle.area.specs.Lists.{anyOf}
+use Rattle.area.specs.Parts.{partOf, pastedIn}
+use Rattle.area.specs.Refusals.{lowest}
+use Rattle.area.proofs.Walks.{true-not-false, and-left, or-left, or-right}
+use Rattle.area.proofs.Marks.{cond-true, cond-false}
+use Rattle.area.proofs.Exactly.{here}
+use Rattle.word.specs.Blocks.{judged}
+use Rattle.channel.specs.declared.Op.{Op}
+use Rattle.channel.specs.declared.Op.the-variants.{Read, Write, Mark}
+use Rattle.channel.specs.declared.Request.{Request}
+use Rattle.channel.specs.declared.Turn.{Turn}
+use Rattle.channel.specs.declared.Turn.the-variants.{Idle, Waiting, Displaced, Working}
+use Rattle.channel.specs.declared.Channel.{Channel}
+use Rattle.channel.specs.declared.Work.{Work}
+use Rattle.channel.specs.declared.Work.the-variants as work
+use Rattle.channel.specs.declared.Verdict.{Verdict}
+use Rattle.channel.specs.declared.Verdict.the-variants.{Ends, Repeats}
+use Rattle.channel.specs.declared.Ending.the-variants.{Good, Opposite}
+use Rattle.channel.specs.Rules.{rowOf, isAllowed, nextAttempt, endingOf, verdictOf, resultNumber}
+use Rattle.channel.specs.Scans.{workingIn, unitNumber}
+use Rattle.channel.specs.Units.{turnAt, workOf, operationAt}
+use Rattle.channel.specs.Turns.{judgeTurn, judgeOf, bookOf}
+use Rattle.files.specs.declared.Side.{Side}
+use Rattle.files.specs.declared.File.{File}
+use Rattle.files.specs.Sides.{bufferAt, startAt, takenSide, withoutOldest}
+use Rattle.files.specs.Input.{hasFull, gaveBack, metMark}
+use Rattle.files.specs.Output.{sendStart, sendWords, afterWrite}
+use Rattle.pool.proofs.Facts.{Sound}
+use Rattle.pool.proofs.Kept.{owns}
+use Rattle.pool.proofs.Changes.{taken-input}
+use Rattle.state.specs.declared.State.{State}
+use Rattle.state.specs.Places.{fileAt, channelAt, areaShort}
+use Rattle.state.specs.Requests.{requested, isWrite, isWriteOp}
+use Rattle.state.specs.Soundness.{sound}
+use Rattle.state.specs.Judged.{fileReady}
+use Rattle.state.proofs.Facts.{sound-facts}
+use Rattle.state.proofs.Kept.{place-of}
+use Rattle.requests.specs.declared.Effect.{Effect}
+use Rattle.requests.specs.declared.Effect.the-variants.{Delivers, MeetsMark, GivesBack, Sends, Keeps}
+use Rattle.requests.specs.declared.ReportChange.{ReportChange}
+use Rattle.requests.specs.Effects.{effectOf, isDelivery}
+use Rattle.requests.specs.Report.{isIdleFor, takesNoWords, effectAt, shownStart, shownCount, reportRefusal, deliveryError, reportedFile, reportedArea, reportOn, reportOnArea, fileOf, reportWrong, reportChange, reportBy, reportByArea}
+use Rattle.requests.proofs.Ready.{ready-facts}
+use Rattle.requests.proofs.Changed.{here-file}
+use Rattle.requests.proofs.ReportTheorems.{ReportReady, report-ready, report-exactly, report-frame, isOpen, requested-ready}
+use Rattle.requests.proofs.ReportWords.{isSending, sends-exactly, Delivered, report-delivers}
+use Rattle.output.specs.Only.{Only}
+use Rattle.output.proofs.Written.{only-wider, pasted-only}
+use Rattle.area.proofs.Pastes.{paste-fitting}
+use Rattle.histories.specs.Calls.{report, answerOf}
+use Rattle.histories.proofs.Kept.{call-kept}
+use Rattle.ledger.specs.Ledgers.{Item, Ledger, asBlock, owedFor, withReport}
+use Rattle.ledger.specs.Blocks.{numberAfter}
+use Rattle.ledger.specs.Told.{Told}
+use Rattle.ledger.proofs.Frames.{Kept, others-same, kept-file}
+use Rattle.ledger.proofs.Moves.{entering, entering-other, entering-here}
+use Rattle.ledger.proofs.Booked.{plus, plus-none, told-back, told-mark, told-sent, told-came}
+
+-- ---- words come with a block that is delivered, and with nothing else
+
+good-read : (a : ℕ) → isDelivery (effectOf (work.At Read) (Ends (endingOf Read a 0))) ≡ true
+unfolding endingOf
+good-read a = go (eqb a 4)
+  where
+    go : (t : Bool) → isDelivery (effectOf (work.At Read) (Ends (cond t Opposite Good))) ≡ true
+    go true = refl
+    go false = refl
+
+good-verdict : (q : Request) → q .op ≡ Read → verdictOf q 0 ≡ Ends (endingOf (q .op) (q .attempts) 0)
+unfolding verdictOf isAllowed rowOf anyOf
+good-verdict q e = cond-true (Ends (endingOf (q .op) (q .attempts) 0)) _ (ap (λ (o : Op). isAllowed o 0) e)
+
+good-delivers : (q : Request) (op : Op) → q .op ≡ op → takesNoWords (work.At op) ≡ false → isDelivery (effectOf (work.At (q .op)) (verdictOf q 0)) ≡ true
+good-delivers q Read e t =
+    ap (λ (v : Verdict). isDelivery (effectOf (work.At (q .op)) v)) (good-verdict q e)
+    ∙ ap (λ (o : Op). isDelivery (effectOf (work.At o) (Ends (endingOf o (q .attempts) 0)))) e ∙ good-read (q .attempts)
+good-delivers q Write e t = true-not-false refl t
+good-delivers q Mark e t = true-not-false refl t
+
+turn-delivers : (t : Turn) → takesNoWords (workOf t) ≡ false → isIdleFor (workOf t) ≡ false → isDelivery (effectOf (workOf t) (judgeTurn t 0)) ≡ true
+turn-delivers Idle n i = true-not-false refl i
+turn-delivers (Waiting q) n i = true-not-false refl i
+turn-delivers (Displaced q) n i = true-not-false refl i
+turn-delivers (Working q) n i = good-delivers q (q .op) refl n
+
+words-delivered : (c : Channel) (u outcome : ℕ) (words : List ℕ) → (ltb 0 (length words) && (ltb 0 outcome || takesNoWords (operationAt c u))) ≡ false
+    → isIdleFor (operationAt c u) ≡ false → isDelivery (effectAt c u outcome) ≡ false → words ≡ []
+unfolding operationAt judgeOf
+words-delivered c u outcome [] r i d = refl
+words-delivered c u outcome (x ∷ words) r i d =
+    let some : ltb 0 (suc (length words)) ≡ true = lt-ltb 0 (suc (length words)) (omega arith) in
+    let both : (ltb 0 outcome || takesNoWords (workOf (turnAt c u))) ≡ false = sym (ap (λ (b : Bool). b && (ltb 0 outcome || takesNoWords (workOf (turnAt c u)))) some) ∙ r in
+    let least = ltb-false 0 outcome (or-left (ltb 0 outcome) _ both) in
+    let zero-is : 0 ≡ outcome = omega arith in
+    true-not-false (turn-delivers (turnAt c u) (or-right (ltb 0 outcome) _ both) i) (ap (λ (n : ℕ). isDelivery (effectOf (workOf (turnAt c u)) (judgeTurn (turnAt c u) n))) zero-is ∙ d)
+
+-- ---- a write's file is an output file with a full block
+
+write-ready : (t : Turn) (f : File) → isWrite (workOf t) ≡ true → fileReady (requested t) f ≡ true → (f .output ≡ true) × (hasFull f ≡ true)
+write-ready Idle f e r = true-not-false e refl
+write-ready (Waiting q) f e r = true-not-false e refl
+write-ready (Displaced q) f e r = true-not-false e refl
+write-ready (Working q) f e r = go (q .op) e r
+  where
+    go : (op : Op) → isWriteOp op ≡ true → fileReady (work.At op) f ≡ true → (f .output ≡ true) × (hasFull f ≡ true)
+    go Read e r = true-not-false e refl
+    go Write e r = let R = ready-facts (work.At Write) f r in (R .way, R .block)
+    go Mark e r = true-not-false e refl
+
+module _ (s : State) (area : List ℕ) (ledgers : ℕ → Ledger) (K : Kept s area ledgers) (channel unit outcome : ℕ) (words : List ℕ)
+    (z : reportBy s area channel unit outcome words .refusal ≡ 0) where
+  abbrev i : ℕ
+  i = fileOf s channel unit
+
+  abbrev f : File
+  f = fileAt s i
+
+  abbrev c : Channel
+  c = channelAt s channel
+
+  abbrev effect : Effect
+  effect = effectAt c unit outcome
+
+  abbrev L : Ledger
+  L = ledgers i
+
+  number : reportRefusal (reportWrong s (length area) channel) f c unit outcome (s .w) area words ≡ 0
+  unfolding reportRefusal
+  number = sym (report-exactly s area channel unit outcome words .number) ∙ z
+
+  ready : ReportReady (reportWrong s (length area) channel) f c unit outcome (s .w) area words
+  ready = report-ready (reportWrong s (length area) channel) f c unit outcome (s .w) area words number
+
+  long : s .m * s .w ≤ length area
+  long = ltb-false (length area) (s .m * s .w) (or-left (areaShort s (length area)) _ (or-right (not (sound s)) _ (ready .right)))
+
+  open-file : f .opened ≡ true
+  open-file = isOpen s area channel unit outcome words (K .good .sixteen) number
+
+  S : Sound (s .m) (s .w) f
+  S = sound-facts s (K .good .right) .files i open-file
+
+  no-words : isDelivery effect ≡ false → words ≡ []
+  no-words =
+      let x = report-exactly s area channel unit outcome words in
+      let row = x .table .none (sym (x .number) ∙ z) 1 _ here in
+      words-delivered c unit outcome words (or-right (ltb 9 unit || ltb 4 outcome) _ (or-right (reportWrong s (length area) channel) _ row)) (ready .works)
+
+  after-area : reportByArea s area channel unit outcome words ≡ reportedArea effect f (s .w) words area
+  unfolding reportByArea reportOnArea
+  after-area = cond-true (reportedArea effect f (s .w) words area) area (eq-eqb _ 0 number)
+
+  -- what the report makes of its file, of the area and of the file's ledger
+  abbrev madeLedger : Effect → Ledger
+  madeLedger x =
+      plus L (asBlock (partOf (shownStart x (s .w) f) (shownCount x f) (reportedArea x f (s .w) words area))) (asBlock words)
+      (owedFor (L .sequence) (L .check) (deliveryError x f words) words)
+
+  nothing-more : (g : File) → words ≡ [] → Told (s .w) g area L → Told (s .w) g area (plus L [] (asBlock words) (owedFor (L .sequence) (L .check) 0 words))
+  nothing-more g e T =
+      subst (λ (ws : List ℕ). Told (s .w) g area (plus L [] (asBlock ws) (owedFor (L .sequence) (L .check) 0 ws))) (sym e) (subst (Told (s .w) g area) (plus-none L) T)
+
+  sending : isWrite (operationAt c unit) ≡ true → (f .output ≡ true) × (hasFull f ≡ true)
+  unfolding operationAt
+  sending h = write-ready (turnAt c unit) f h (requested-ready s area channel unit outcome words (K .good .sixteen) number)
+
+  told-reported : (x : Effect) → effect ≡ x → Told (s .w) (reportedFile x f (length words) (deliveryError x f words)) (reportedArea x f (s .w) words area) (madeLedger x)
+  unfolding reportedFile reportedArea afterWrite
+  told-reported Delivers e =
+      let d : isDelivery effect ≡ true = ap isDelivery e in
+      let D = report-delivers s area channel unit outcome words (K .good .sixteen) number d in
+      told-came (s .m) (s .w) f S area long L words (D .side) (ready .fits d) (D .inside) (D .room) open-file (K .told i)
+  told-reported MeetsMark e = nothing-more (metMark f) (no-words (ap isDelivery e)) (told-mark (s .w) f area L (K .told i))
+  told-reported GivesBack e = nothing-more (gaveBack f) (no-words (ap isDelivery e)) (told-back (s .w) f area L (K .told i))
+  told-reported Sends e =
+      let writes : isWrite (operationAt c unit) ≡ true = and-left (isWrite (operationAt c unit)) _ (sym (sends-exactly (operationAt c unit) (judgeOf c unit outcome)) ∙ ap isSending e) in
+      let R = sending writes in
+      subst (λ (ws : List ℕ). Told (s .w) (withoutOldest f) area (plus L (asBlock (partOf (sendStart (s .w) f) (sendWords f) area)) (asBlock ws) (owedFor (L .sequence) (L .check) 0 ws)))
+      (sym (no-words (ap isDelivery e)))
+      (told-sent (s .m) (s .w) f S area long L open-file (R .0) (R .1) (K .told i))
+  told-reported Keeps e = nothing-more f (no-words (ap isDelivery e)) (K .told i)
+
+  change : reportChange s area channel unit outcome words ≡ record {
+    refusal = 0;
+    result = resultNumber (judgeOf c unit outcome);
+    error = deliveryError effect f words;
+    working = unitNumber (workingIn (bookOf c unit (judgeOf c unit outcome) (s .frozen)));
+    start = shownStart effect (s .w) f;
+    count = shownCount effect f;
+    file = reportedFile effect f (length words) (deliveryError effect f words);
+    channel = bookOf c unit (judgeOf c unit outcome) (s .frozen);
+  }
+  unfolding reportOn
+  change = rw (eq-eqb (reportRefusal (reportWrong s (length area) channel) f c unit outcome (s .w) area words) 0 number)
+
+  -- the file after it stands in its place
+  after-file : fileAt (reportBy s area channel unit outcome words .state) i ≡ reportChange s area channel unit outcome words .file
+  unfolding reportBy
+  after-file =
+      let x = reportChange s area channel unit outcome words in
+      here-file s i channel (x .refusal) (x .file) (x .channel) (ap (λ (y : ReportChange). y .refusal) change) (place-of s i open-file)
+
+  -- no word of another file's buffers changes
+  still : (j : ℕ) → j ≢ i → fileAt s j .opened ≡ true → (k : Side) → owns (fileAt s j) k ≡ true
+      → partOf (bufferAt (fileAt s j) k .number * s .w) (s .w) (reportByArea s area channel unit outcome words) ≡ partOf (bufferAt (fileAt s j) k .number * s .w) (s .w) area
+  unfolding reportedArea
+  still j ne o k p = go (isDelivery effect) refl
+    where
+      go : (t : Bool) → isDelivery effect ≡ t
+          → partOf (bufferAt (fileAt s j) k .number * s .w) (s .w) (reportByArea s area channel unit outcome words) ≡ partOf (bufferAt (fileAt s j) k .number * s .w) (s .w) area
+      go true d =
+          let D = report-delivers s area channel unit outcome words (K .good .sixteen) number d in
+          let at = startAt f (s .w) (takenSide f) in
+          let only = only-wider at (length words) at (s .w) area (pastedIn at words area) (pasted-only at words area (D .inside)) (omega arith) (omega (arith, D .room)) in
+          others-same s (K .good) i (bufferAt f (takenSide f) .number) (D .held) area (reportByArea s area channel unit outcome words)
+          (subst (Only at (s .w) area) (paste-fitting at words area (D .inside) ∙ sym (D .pasted)) only) j ne o k p
+      go false d = ap (partOf (bufferAt (fileAt s j) k .number * s .w) (s .w)) (after-area ∙ cond-false (pastedIn (startAt f (s .w) (takenSide f)) words area) area d)
+
+  pub report-kept : Kept (reportBy s area channel unit outcome words .state) (reportByArea s area channel unit outcome words)
+      (entering ledgers (withReport words (answerOf s area (report channel unit outcome words))) i)
+  unfolding answerOf reportBy
+  report-kept =
+      let t = reportBy s area channel unit outcome words .state in
+      let zs = reportByArea s area channel unit outcome words in
+      let F = report-frame s area channel unit outcome words in
+      kept-file s t area zs ledgers (entering ledgers (withReport words (answerOf s area (report channel unit outcome words))) i) K
+      (call-kept s area (K .good) (report channel unit outcome words)) i (F .words) (F .files) (entering-other ledgers (withReport words (answerOf s area (report channel unit outcome words))) i) still
+      (subst (λ (h : File). Told (s .w) h zs (entering ledgers (withReport words (answerOf s area (report channel unit outcome words))) i i)) (sym after-file)
+      (subst (Told (s .w) (reportChange s area channel unit outcome words .file) zs) (sym (entering-here ledgers (withReport words (answerOf s area (report channel unit outcome words))) i))
+      (subst (λ (x : ReportChange). Told (s .w) (x .file) zs (plus L (asBlock (partOf (x .start) (x .count) zs)) (asBlock words) (owedFor (L .sequence) (L .check) (x .error) words))) (sym change)
+      (subst (λ (ys : List ℕ). Told (s .w) (reportedFile effect f (length words) (deliveryError effect f words)) ys
+      (plus L (asBlock (partOf (shownStart effect (s .w) f) (shownCount effect f) ys)) (asBlock words) (owedFor (L .sequence) (L .check) (deliveryError effect f words) words))) (sym after-area)
+      (told-reported effect refl)))))
+
+  -- the error that it answers is the judgement of the words as delivered, with the number that the block is due
+  pub report-judged : words ≢ [] → reportBy s area channel unit outcome words .error ≡ judged words (f .sequence) (f .check) (numberAfter 1 (L .came)) .error
+  unfolding reportBy
+  report-judged some = go (isDelivery effect) refl
+    where
+      go : (t : Bool) → isDelivery effect ≡ t → reportChange s area channel unit outcome words .error ≡ judged words (f .sequence) (f .check) (numberAfter 1 (L .came)) .error
+      go true d =
+          let D = report-delivers s area channel unit outcome words (K .good .sixteen) number d in
+          ap (λ (x : ReportChange). x .error) change ∙ cond-true (judged words (f .sequence) (f .check) (f .block) .error) 0 d
+          ∙ ap (λ (n : ℕ). judged words (f .sequence) (f .check) n .error) (K .told i .brought open-file (taken-input (s .m) (s .w) f S (D .side)) .number)
+      go false d = absurd (some (no-words d))

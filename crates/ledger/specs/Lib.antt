@@ -1,0 +1,3 @@
+pub mod Ledgers
+pub mod Blocks
+pub mod Told
