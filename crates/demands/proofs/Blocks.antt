@@ -1,5 +1,5 @@
 -- Demand 2 on blocks and records, from what the ledgers keep. Assumes nothing.
-use mathlib.Core.Path.{_≡_, ap, _∙_}
+use mathlib.Core.Path.{_≡_, sym, ap, _∙_}
 use mathlib.Core.Logic.{_≢_}
 use mathlib.Core.Bool.{true, false}
 use mathlib.Core.List.{List, []}
@@ -8,9 +8,11 @@ use lib.ListN.{length}
 use Rattle.word.specs.Blocks.{judged}
 use Rattle.files.specs.declared.File.{File}
 use Rattle.files.specs.Sides.{blockNumbers}
+use Rattle.pool.specs.Free.{serves}
 use Rattle.state.specs.declared.State.{State}
 use Rattle.state.specs.Places.{fileAt}
 use Rattle.requests.specs.Report.{fileOf}
+use Rattle.requests.proofs.ReportTheorems.{report-books-own}
 use Rattle.histories.specs.Calls.{close, report, answerOf}
 use Rattle.ledger.specs.Ledgers.{Ledger, errorOf}
 use Rattle.ledger.specs.Blocks.{joined}
@@ -37,11 +39,14 @@ module _ (s : State) (area : List ℕ) (ledgers : ℕ → Ledger) (K : Kept s ar
     pub ledger-reads : fileAt s i .output ≡ false → Reads (s .w) (fileAt s i) area (ledgers i)
     ledger-reads u = let T = K .told i .brought o u in record { items = T .items; lies = T .lies }
 
-  pub ledger-judged : (channel unit outcome : ℕ) (words : List ℕ) → words ≢ [] → answerOf s area (report channel unit outcome words) .refusal ≡ 0
+  pub ledger-judged : (i channel unit outcome : ℕ) (words : List ℕ) → serves channel unit (fileAt s i) ≡ true → words ≢ []
+      → answerOf s area (report channel unit outcome words) .refusal ≡ 0
       → errorOf (answerOf s area (report channel unit outcome words) .added)
-      ≡ judged words (fileAt s (fileOf s channel unit) .sequence) (fileAt s (fileOf s channel unit) .check) ((1 + length (ledgers (fileOf s channel unit) .came)) % blockNumbers) .error
+      ≡ judged words (fileAt s i .sequence) (fileAt s i .check) ((1 + length (ledgers i .came)) % blockNumbers) .error
   unfolding answerOf
-  ledger-judged channel unit outcome words some z =
-      let f = fileAt s (fileOf s channel unit) in
+  ledger-judged i channel unit outcome words on some z =
+      let j = fileOf s channel unit in
       report-judged s area ledgers K channel unit outcome words z some
-      ∙ ap (λ (n : ℕ). judged words (f .sequence) (f .check) n .error) (numbers (ledgers (fileOf s channel unit) .came))
+      ∙ ap (λ (n : ℕ). judged words (fileAt s j .sequence) (fileAt s j .check) n .error) (numbers (ledgers j .came))
+      ∙ ap (λ (k : ℕ). judged words (fileAt s k .sequence) (fileAt s k .check) ((1 + length (ledgers k .came)) % blockNumbers) .error)
+      (sym (report-books-own s area channel unit outcome words (K .good .sixteen) z .only i on))

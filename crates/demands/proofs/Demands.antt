@@ -10,16 +10,17 @@ use Rattle.word.specs.Blocks.{judged}
 use Rattle.word.proofs.Laws.CheckWord.{check-word-is, check-word-only}
 use Rattle.files.specs.declared.File.{File}
 use Rattle.files.specs.Sides.{blockNumbers}
+use Rattle.pool.specs.Free.{serves}
 use Rattle.state.specs.declared.State.{State}
 use Rattle.state.specs.Places.{fileAt}
 use Rattle.opening.specs.declared.Masks.{Masks}
 use Rattle.requests.specs.Ask.{isPriority}
-use Rattle.requests.specs.Report.{fileOf}
 use Rattle.histories.specs.Calls.{Call, fresh, opening, close, ask, report, answerOf}
 use Rattle.histories.specs.Histories.{Lent, after, count, freshStart, declaredOn}
-use Rattle.histories.proofs.Kept.{good-start, history-kept}
+use Rattle.histories.proofs.Kept.{Good, good-start, history-kept}
 use Rattle.ledger.specs.Ledgers.{Ledger, blankLedger, errorOf, stateAfter, areaAfter, ledgerAfter}
 use Rattle.ledger.specs.Blocks.{joined}
+use Rattle.ledger.proofs.Frames.{Kept}
 use Rattle.ledger.proofs.Always.{always, started as begun}
 use Rattle.demands.specs.Demands.{Refuses, Holds, Frees, Takes, Books, dataIn, Writes, Reads, Answers}
 use Rattle.demands.proofs.Refusals.{refuses}
@@ -45,9 +46,12 @@ module _ (s₀ : State) (area₀ : List ℕ) (m w : ℕ) (masks : Masks) (starte
   abbrev pub start : State
   start = answerOf s₀ area₀ (fresh m w masks) .state
 
+  good : (calls : List Lent) → Good (after start calls)
+  good calls = history-kept start calls (good-start s₀ area₀ m w masks started)
+
   -- "Each buffer is free, or held by exactly one open file,"
   pub demand2-held : (calls : List Lent) → Holds (after start calls)
-  demand2-held calls = good-holds (after start calls) (history-kept start calls (good-start s₀ area₀ m w masks started))
+  demand2-held calls = good-holds (after start calls) (good calls)
 
   -- "and a freed one is used again."
   pub demand2-freed : (calls : List Lent) (area : List ℕ) (file : ℕ) → answerOf (after start calls) area (close file) .refusal ≡ 0
@@ -58,14 +62,14 @@ module _ (s₀ : State) (area₀ : List ℕ) (m w : ℕ) (masks : Masks) (starte
       → answerOf (after start calls) area (opening file channel unit flags size rlen) .refusal ≡ 0
       → Takes (after start calls) file (answerOf (after start calls) area (opening file channel unit flags size rlen) .state)
   demand2-taken calls area file channel unit flags size rlen =
-      opened-takes (after start calls) area file channel unit flags size rlen (history-kept start calls (good-start s₀ area₀ m w masks started))
+      opened-takes (after start calls) area file channel unit flags size rlen (good calls)
 
   -- a completion is booked to the one file of its unit
   pub demand2-booked : (calls : List Lent) (area : List ℕ) (channel unit outcome : ℕ) (words : List ℕ)
       → answerOf (after start calls) area (report channel unit outcome words) .refusal ≡ 0
       → Books (after start calls) channel unit (answerOf (after start calls) area (report channel unit outcome words) .state)
   demand2-booked calls area channel unit outcome words =
-      reported-books (after start calls) area channel unit outcome words (history-kept start calls (good-start s₀ area₀ m w masks started))
+      reported-books (after start calls) area channel unit outcome words (good calls)
 
   -- "While only the pack writes the lent area": each call is given the area too that the last one left. The ledger of file i:
   abbrev pub account : List Call → ℕ → Ledger
@@ -74,29 +78,31 @@ module _ (s₀ : State) (area₀ : List ℕ) (m w : ℕ) (masks : Masks) (starte
   abbrev pub fileThen : List Call → ℕ → File
   fileThen calls i = fileAt (stateAfter start area₀ calls) i
 
+  kept : (calls : List Call) → Kept (stateAfter start area₀ calls) (areaAfter start area₀ calls) (account calls)
+  kept = always start area₀ (λ i. blankLedger) (begun s₀ area₀ m w masks started)
+
   -- "blocks we write carry the one right check word;"
   pub demand2-writes : (calls : List Call) (i : ℕ) → fileThen calls i .opened ≡ true → fileThen calls i .output ≡ true
       → Writes (stateAfter start area₀ calls .w) (fileThen calls i) (areaAfter start area₀ calls) (account calls i)
-  demand2-writes calls i = ledger-writes (stateAfter start area₀ calls) (areaAfter start area₀ calls) (account calls) (always start area₀ (λ j. blankLedger) (begun s₀ area₀ m w masks started) calls) i
+  demand2-writes calls i = ledger-writes (stateAfter start area₀ calls) (areaAfter start area₀ calls) (account calls) (kept calls) i
 
   -- when an output file is closed, all that was put was handed out
   pub demand2-closed : (calls : List Call) (i : ℕ) → fileThen calls i .opened ≡ true → fileThen calls i .output ≡ true
       → answerOf (stateAfter start area₀ calls) (areaAfter start area₀ calls) (close i) .refusal ≡ 0
       → joined (dataIn (fileThen calls i) (account calls i .sent)) ≡ account calls i .puts
-  demand2-closed calls i = ledger-closed (stateAfter start area₀ calls) (areaAfter start area₀ calls) (account calls) (always start area₀ (λ j. blankLedger) (begun s₀ area₀ m w masks started) calls) i
+  demand2-closed calls i = ledger-closed (stateAfter start area₀ calls) (areaAfter start area₀ calls) (account calls) (kept calls) i
 
   -- "blocks we read are judged by it as delivered."
   pub demand2-reads : (calls : List Call) (i : ℕ) → fileThen calls i .opened ≡ true → fileThen calls i .output ≡ false
       → Reads (stateAfter start area₀ calls .w) (fileThen calls i) (areaAfter start area₀ calls) (account calls i)
-  demand2-reads calls i = ledger-reads (stateAfter start area₀ calls) (areaAfter start area₀ calls) (account calls) (always start area₀ (λ j. blankLedger) (begun s₀ area₀ m w masks started) calls) i
+  demand2-reads calls i = ledger-reads (stateAfter start area₀ calls) (areaAfter start area₀ calls) (account calls) (kept calls) i
 
-  -- the report of a delivered block answers that judgement, with the number that follows those of the blocks delivered before
-  pub demand2-judged : (calls : List Call) (channel unit outcome : ℕ) (words : List ℕ) → words ≢ []
+  -- the report of a delivered block, for the file i on its unit, answers that judgement, with the number after those of the blocks before it
+  pub demand2-judged : (calls : List Call) (i channel unit outcome : ℕ) (words : List ℕ) → serves channel unit (fileThen calls i) ≡ true → words ≢ []
       → answerOf (stateAfter start area₀ calls) (areaAfter start area₀ calls) (report channel unit outcome words) .refusal ≡ 0
-      → let i = fileOf (stateAfter start area₀ calls) channel unit in
-      errorOf (answerOf (stateAfter start area₀ calls) (areaAfter start area₀ calls) (report channel unit outcome words) .added)
+      → errorOf (answerOf (stateAfter start area₀ calls) (areaAfter start area₀ calls) (report channel unit outcome words) .added)
       ≡ judged words (fileThen calls i .sequence) (fileThen calls i .check) ((1 + length (account calls i .came)) % blockNumbers) .error
-  demand2-judged calls = ledger-judged (stateAfter start area₀ calls) (areaAfter start area₀ calls) (account calls) (always start area₀ (λ j. blankLedger) (begun s₀ area₀ m w masks started) calls)
+  demand2-judged calls = ledger-judged (stateAfter start area₀ calls) (areaAfter start area₀ calls) (account calls) (kept calls)
 
   -- "From a fresh start (and no second), each call given the state that the last one left: an accepted ordinary request on a channel of U
   -- declared units is answered at most once; until then its channel is working or frozen; its answer comes by the time 101 x (U + P)

@@ -20,7 +20,7 @@ use Rattle.ledger.proofs.Reported.{report-kept}
 
 module _ (s : State) (area : List ℕ) (ledgers : ℕ → Ledger) (K : Kept s area ledgers) where
   accepted-kept : (call : Call) → answerOf s area call .refusal ≡ 0
-      → Kept (answerOf s area call .state) (answerOf s area call .area) (λ i. entered i s call (answerOf s area call) (ledgers i))
+      → Kept (answerOf s area call .state) (answerOf s area call .area) (λ i. entered i call (answerOf s area call) (ledgers i))
   unfolding answerOf
   accepted-kept (fresh m w masks) z = fresh-kept s area m w masks (call-kept s area (K .good) (fresh m w masks)) z
   accepted-kept (opening file channel unit flags size rlen) z = open-kept s area ledgers K file channel unit flags size rlen z
@@ -35,14 +35,14 @@ module _ (s : State) (area : List ℕ) (ledgers : ℕ → Ledger) (K : Kept s ar
   accepted-kept thaw z = thaw-kept s area ledgers K
 
   -- a refused call enters no ledger and changes nothing
-  pub noted-kept : (call : Call) → Kept (answerOf s area call .state) (answerOf s area call .area) (λ i. noted i s call (answerOf s area call) (ledgers i))
+  pub noted-kept : (call : Call) → Kept (answerOf s area call .state) (answerOf s area call .area) (λ i. noted i call (answerOf s area call) (ledgers i))
   noted-kept call = go (ℕ-discrete (a .refusal) 0)
     where
       a : Answer
       a = answerOf s area call
 
       To : Bool → Type 0
-      To t = Kept (answerOf s area call .state) (answerOf s area call .area) (λ i. cond t (entered i s call (answerOf s area call) (ledgers i)) (ledgers i))
+      To t = Kept (answerOf s area call .state) (answerOf s area call .area) (λ i. cond t (entered i call (answerOf s area call) (ledgers i)) (ledgers i))
 
       go : Dec (answerOf s area call .refusal ≡ 0) → To (isAccepted (answerOf s area call))
       go (yes z) = subst To (sym (eq-eqb (answerOf s area call .refusal) 0 z)) (accepted-kept call z)
@@ -56,7 +56,7 @@ pub always : (s : State) (area : List ℕ) (ledgers : ℕ → Ledger) → Kept s
 unfolding stateAfter areaAfter ledgerAfter
 always s area ledgers K [] = K
 always s area ledgers K (call ∷ calls) =
-    always (answerOf s area call .state) (answerOf s area call .area) (λ i. noted i s call (answerOf s area call) (ledgers i)) (noted-kept s area ledgers K call) calls
+    always (answerOf s area call .state) (answerOf s area call .area) (λ i. noted i call (answerOf s area call) (ledgers i)) (noted-kept s area ledgers K call) calls
 
 -- from a fresh start
 pub started : (s : State) (area : List ℕ) (m w : ℕ) (masks : Masks) → answerOf s area (fresh m w masks) .refusal ≡ 0

@@ -77,6 +77,9 @@ use Rattle.ledger.proofs.Moves.{drop-same}
 
 abbrev pub plus : Ledger → List (List ℕ) → List (List ℕ) → List (List Item) → Ledger
 plus L sent came owed = record {
+  opened = L .opened;
+  channel = L .channel;
+  unit = L .unit;
   sequence = L .sequence;
   check = L .check;
   puts = L .puts;
@@ -120,7 +123,7 @@ told-back w f xs L T =
     (part-stays w f (takenSide f) Empty false (f .block) xs (taken-no f .0) refl) (block-stays f (takenSide f) Empty false) T
 
 mark-same : (f : File) → Same f (withMark f)
-mark-same f = record { opened = refl; output = refl; sequence = refl; check = refl }
+mark-same f = record { opened = refl; channel = refl; unit = refl; output = refl; sequence = refl; check = refl }
 
 mark-part : (w : ℕ) (f : File) (xs : List ℕ) → partIn w (withMark f) xs ≡ partIn w f xs
 unfolding partStart partLength partSide
@@ -155,7 +158,7 @@ module _ (m w : ℕ) (f : File) (S : Sound m w f) (xs : List ℕ) (long : m * w 
   told-sent o u full T =
       let inside = send-inside m w f S full in
       let long-block : length (partOf (sendStart w f) (sendWords f) xs) ≡ sendWords f = length-part (sendStart w f) (sendWords f) xs (omega arith) in
-      told-out w f (withoutOldest f) (drop-same f) xs (plus L (asBlock (partOf (sendStart w f) (sendWords f) xs)) [] []) u (T .fields o)
+      told-out w f (withoutOldest f) (drop-same f) xs (plus L (asBlock (partOf (sendStart w f) (sendWords f) xs)) [] []) u (T .opened) (T .chose o)
       (subst (λ (bs : List (List ℕ)). Wrote w (withoutOldest f) xs (L .puts) (L .sent ++ bs)) (sym (one-block (partOf (sendStart w f) (sendWords f) xs) (omega (arith, send-some full))))
       (send-wrote w f xs (L .puts) (L .sent) full (T .wrote o u)))
 
@@ -180,11 +183,11 @@ module _ (m w : ℕ) (f : File) (S : Sound m w f) (xs : List ℕ) (long : m * w 
         let some : 1 ≤ length words = omega (arith, bounds .0) in
         let input = taken-input m w f S side in
         let only = only-wider (startAt f w k) (length words) (startAt f w k) w xs zs (pasted-only (startAt f w k) words xs fit) (omega arith) (omega arith) in
-        let same = T .fields o in
-        told-in w f (delivered f size err) (slot-same f k (Full size 0 err) (turnedBy f k) (nextBlock (f .block))) zs (plus L [] (asBlock words) (owedFor (L .sequence) (L .check) err words)) input same
+        let same = T .chose o in
+        told-in w f (delivered f size err) (slot-same f k (Full size 0 err) (turnedBy f k) (nextBlock (f .block))) zs (plus L [] (asBlock words) (owedFor (L .sequence) (L .check) err words)) input (T .opened) same
         (subst (λ (bs : List (List ℕ)). Brought w (delivered f size err) zs (L .came ++ bs) (L .gone) (L .owed ++ owedFor (L .sequence) (L .check) err words)) (sym (one-block words some))
         (subst (λ (bs : List (List Item)). Brought w (delivered f size err) zs (L .came ++ (words ∷ [])) (L .gone) (L .owed ++ bs))
-        (sym (one-owed (L .sequence) (L .check) err words some ∙ ap₂ (λ (s c : Bool). contentsOf s c err words ∷ []) (same .0) (same .1)))
+        (sym (one-owed (L .sequence) (L .check) err words some ∙ ap₂ (λ (s c : Bool). contentsOf s c err words ∷ []) (same .sequences) (same .checks)))
         (brought-more w f (delivered f size err) xs zs (L .came) (L .gone) (L .owed) (slot-same f k (Full size 0 err) (turnedBy f k) (nextBlock (f .block))) (T .brought o input)
         words (bufferAt f k .number) size (unread-same m w f S xs zs (beside m w f S k xs zs (own-taken m w f S side) (taken-no f .1) only))
         (delivered-line f size err side) (slot-block f k (Full size 0 err) (turnedBy f k) (nextBlock (f .block)) side) (ap (λ (l : List ℕ). wrongs err ++ map word l) there))))

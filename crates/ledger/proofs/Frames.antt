@@ -26,7 +26,7 @@ use Rattle.output.proofs.Written.{other-buffer}
 use Rattle.histories.proofs.Kept.{Good}
 use Rattle.ledger.specs.Ledgers.{Ledger}
 use Rattle.ledger.specs.Blocks.{blocksIn, unreadOf, partIn}
-use Rattle.ledger.specs.Told.{Wrote, Brought, Told}
+use Rattle.ledger.specs.Told.{Wrote, Brought, Chose, Told}
 use Rattle.ledger.proofs.Lines.{unread-same}
 use Rattle.ledger.proofs.Sides.{Same, same-self}
 use Rattle.ledger.proofs.Writes.{wrote-still, frame-wrote}
@@ -35,38 +35,50 @@ use Rattle.ledger.proofs.Brings.{brought-still}
 -- ---- one file
 
 module _ (w : ℕ) (f g : File) (A : Same f g) (xs : List ℕ) (L : Ledger) where
-  abbrev Fields : Type 0
-  Fields = (L .sequence ≡ f .sequence) × (L .check ≡ f .check)
+  abbrev Chosen : File → Type 0
+  Chosen h = Chose h (L .channel) (L .unit) (L .sequence) (L .check)
 
-  fields-of : Fields → (L .sequence ≡ g .sequence) × (L .check ≡ g .check)
-  fields-of e = (e .0 ∙ sym (A .sequence), e .1 ∙ sym (A .check))
+  chose-of : Chosen f → Chosen g
+  chose-of e = record {
+    onChannel = e .onChannel ∙ sym (A .channel);
+    onUnit = e .onUnit ∙ sym (A .unit);
+    sequences = e .sequences ∙ sym (A .sequence);
+    checks = e .checks ∙ sym (A .check);
+  }
 
-  pub told-out : f .output ≡ true → Fields → Wrote w g xs (L .puts) (L .sent) → Told w g xs L
-  told-out o e T = record { wrote = λ p q. T; brought = λ p q. true-not-false (A .output ∙ o) q; fields = λ p. fields-of e }
+  pub told-out : f .output ≡ true → L .opened ≡ f .opened → Chosen f → Wrote w g xs (L .puts) (L .sent) → Told w g xs L
+  told-out o e h T = record { opened = e ∙ sym (A .opened); chose = λ p. chose-of h; wrote = λ p q. T; brought = λ p q. true-not-false (A .output ∙ o) q }
 
-  pub told-in : f .output ≡ false → Fields → Brought w g xs (L .came) (L .gone) (L .owed) → Told w g xs L
-  told-in o e T = record { wrote = λ p q. true-not-false q (A .output ∙ o); brought = λ p q. T; fields = λ p. fields-of e }
+  pub told-in : f .output ≡ false → L .opened ≡ f .opened → Chosen f → Brought w g xs (L .came) (L .gone) (L .owed) → Told w g xs L
+  told-in o e h T = record { opened = e ∙ sym (A .opened); chose = λ p. chose-of h; wrote = λ p q. true-not-false q (A .output ∙ o); brought = λ p q. T }
 
   -- nothing that a ledger speaks of changes
   pub told-still : line g ≡ line f → partIn w g xs ≡ partIn w f xs → g .block ≡ f .block → Told w f xs L → Told w g xs L
   told-still l p n T = record {
+    opened = T .opened ∙ sym (A .opened);
+    chose = λ o. chose-of (T .chose (sym (A .opened) ∙ o));
     wrote = λ o q. wrote-still w f g xs xs (L .puts) (L .sent) A (T .wrote (sym (A .opened) ∙ o) (sym (A .output) ∙ q)) refl l p n;
     brought = λ o q. brought-still w f g xs xs (L .came) (L .gone) (L .owed) A (T .brought (sym (A .opened) ∙ o) (sym (A .output) ∙ q)) refl l n;
-    fields = λ o. fields-of (T .fields (sym (A .opened) ∙ o));
   }
 
 -- a file that is not open
-pub told-closed : (w : ℕ) (f : File) (xs : List ℕ) (L : Ledger) → f .opened ≡ false → Told w f xs L
-told-closed w f xs L c = record { wrote = λ o q. true-not-false o c; brought = λ o q. true-not-false o c; fields = λ o. true-not-false o c }
+pub told-closed : (w : ℕ) (f : File) (xs : List ℕ) (L : Ledger) → f .opened ≡ false → L .opened ≡ false → Told w f xs L
+told-closed w f xs L c e = record {
+  opened = e ∙ sym c;
+  chose = λ o. true-not-false o c;
+  wrote = λ o q. true-not-false o c;
+  brought = λ o q. true-not-false o c;
+}
 
 -- words beside its buffers change
 told-frame : (m w : ℕ) (f : File) (xs zs : List ℕ) (L : Ledger) → (f .opened ≡ true → Sound m w f)
     → (f .opened ≡ true → (k : Side) → owns f k ≡ true → partOf (bufferAt f k .number * w) w zs ≡ partOf (bufferAt f k .number * w) w xs) → Told w f xs L → Told w f zs L
 told-frame m w f xs zs L S same T = record {
+  opened = T .opened;
+  chose = T .chose;
   wrote = λ o q. frame-wrote m w f (S o) xs zs (L .puts) (L .sent) (same o) (T .wrote o q);
   brought = λ o q.
       brought-still w f f xs zs (L .came) (L .gone) (L .owed) (same-self f) (T .brought o q) (unread-same m w f (S o) xs zs (λ k p full. same o k p)) refl refl;
-  fields = T .fields;
 }
 
 -- ---- the whole pack

@@ -109,7 +109,7 @@ module _ (s : State) (area : List ℕ) (ledgers : ℕ → Ledger) (K : Kept s ar
       (others-same s (K .good) file (bufferAt f (putSide f) .number) (held-own f (putSide f) o (put-at (s .m) (s .w) f (S file o) room .own)) area (putByArea s area file words) only)
       (subst (λ (h : File). Told (s .w) h (putByArea s area file words) (entering ledgers (withPut words) file file)) (sym (put-file s area file words z))
       (subst (Told (s .w) (afterPut f) (putByArea s area file words)) (sym (entering-here ledgers (withPut words) file))
-      (told-out (s .w) f (afterPut f) (put-same (s .m) (s .w) f (S file o) room) (putByArea s area file words) (withPut words (ledgers file)) (put-output s area file words z) (K .told file .fields o)
+      (told-out (s .w) f (afterPut f) (put-same (s .m) (s .w) f (S file o) room) (putByArea s area file words) (withPut words (ledgers file)) (put-output s area file words z) (K .told file .opened) (K .told file .chose o)
       (put-wrote (s .m) (s .w) f (S file o) room area (putByArea s area file words) words (ledgers file .puts) (ledgers file .sent) (K .told file .wrote o (put-output s area file words z)) only
       (put-adds s area file words z) (put-seals s area file words z)))))
 
@@ -124,7 +124,7 @@ module _ (s : State) (area : List ℕ) (ledgers : ℕ → Ledger) (K : Kept s ar
       kept-file s (sealBy s area file .state) area (sealByArea s area file) ledgers ledgers K (call-kept s area (K .good) (seal file)) file (F .3) (F .0) (λ i ne. refl)
       (others-same s (K .good) file (bufferAt f (partSide f) .number) (held-own f (partSide f) o (own-part (s .m) (s .w) f (S file o) part)) area (sealByArea s area file) only)
       (subst (λ (h : File). Told (s .w) h (sealByArea s area file) (ledgers file)) (sym (seal-file s area file z))
-      (told-out (s .w) f (sealed f) (seal-same f) (sealByArea s area file) (ledgers file) (seal-output s area file z) (K .told file .fields o)
+      (told-out (s .w) f (sealed f) (seal-same f) (sealByArea s area file) (ledgers file) (seal-output s area file z) (K .told file .opened) (K .told file .chose o)
       (seal-wrote (s .m) (s .w) f (S file o) part area (sealByArea s area file) (ledgers file .puts) (ledgers file .sent) (K .told file .wrote o (seal-output s area file z)) only
       (seal-seals s area file z))))
 
@@ -141,7 +141,7 @@ module _ (s : State) (area : List ℕ) (ledgers : ℕ → Ledger) (K : Kept s ar
       (entering-other ledgers (withGet (answerOf s area (get file))) file) (λ i ne p k q. refl)
       (subst (λ (h : File). Told (s .w) h area (entering ledgers (withGet (answerOf s area (get file))) file file)) (sym (get-file s area file z))
       (subst (Told (s .w) (getFrom (s .w) f .file) area) (sym (entering-here ledgers (withGet (answerOf s area (get file))) file))
-      (told-in (s .w) f (getFrom (s .w) f .file) (get-same (s .w) f) area (withGet (answerOf s area (get file)) L) (get-input s area file z) (K .told file .fields o)
+      (told-in (s .w) f (getFrom (s .w) f .file) (get-same (s .w) f) area (withGet (answerOf s area (get file)) L) (get-input s area file z) (K .told file .opened) (K .told file .chose o)
       (subst (λ (now : List Item). Brought (s .w) (getFrom (s .w) f .file) area (L .came) (L .gone ++ now) (without (length now) (pastUsed (pastUsed (L .owed))))) (sym same)
       (get-brought (s .m) (s .w) f (S file o) area (get-area-long s area file z) (L .came) (L .gone) (L .owed) (K .told file .brought o (get-input s area file z)))))))
 
@@ -156,5 +156,5 @@ module _ (s : State) (area : List ℕ) (ledgers : ℕ → Ledger) (K : Kept s ar
       (entering-other ledgers withSkip file) (λ i ne p k q. refl)
       (subst (λ (h : File). Told (s .w) h area (entering ledgers withSkip file file)) (sym (skip-drops s file z .0))
       (subst (Told (s .w) (withoutOldest f) area) (sym (entering-here ledgers withSkip file))
-      (told-in (s .w) f (withoutOldest f) (drop-same f) area (withSkip L) (skip-input s file z) (K .told file .fields o)
+      (told-in (s .w) f (withoutOldest f) (drop-same f) area (withSkip L) (skip-input s file z) (K .told file .opened) (K .told file .chose o)
       (skip-brought (s .w) f area (L .came) (L .gone) (L .owed) (skip-full s file z) (K .told file .brought o (skip-input s file z))))))

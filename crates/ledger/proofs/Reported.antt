@@ -35,6 +35,7 @@ use Rattle.files.specs.declared.File.{File}
 use Rattle.files.specs.Sides.{bufferAt, startAt, takenSide, withoutOldest}
 use Rattle.files.specs.Input.{hasFull, gaveBack, metMark}
 use Rattle.files.specs.Output.{sendStart, sendWords, afterWrite}
+use Rattle.pool.specs.Free.{serves}
 use Rattle.pool.proofs.Facts.{Sound}
 use Rattle.pool.proofs.Kept.{owns}
 use Rattle.pool.proofs.Changes.{taken-input}
@@ -52,18 +53,17 @@ use Rattle.requests.specs.Effects.{effectOf, isDelivery}
 use Rattle.requests.specs.Report.{isIdleFor, takesNoWords, effectAt, shownStart, shownCount, reportRefusal, deliveryError, reportedFile, reportedArea, reportOn, reportOnArea, fileOf, reportWrong, reportChange, reportBy, reportByArea}
 use Rattle.requests.proofs.Ready.{ready-facts}
 use Rattle.requests.proofs.Changed.{here-file}
-use Rattle.requests.proofs.ReportTheorems.{ReportReady, report-ready, report-exactly, report-frame, isOpen, requested-ready}
+use Rattle.requests.proofs.ReportTheorems.{ReportReady, report-ready, report-exactly, report-frame, isOpen, requested-ready, report-books-own}
 use Rattle.requests.proofs.ReportWords.{isSending, sends-exactly, Delivered, report-delivers}
 use Rattle.output.specs.Only.{Only}
 use Rattle.output.proofs.Written.{only-wider, pasted-only}
 use Rattle.area.proofs.Pastes.{paste-fitting}
 use Rattle.histories.specs.Calls.{report, answerOf}
 use Rattle.histories.proofs.Kept.{call-kept}
-use Rattle.ledger.specs.Ledgers.{Item, Ledger, asBlock, owedFor, withReport}
+use Rattle.ledger.specs.Ledgers.{Item, Ledger, asBlock, owedFor, withReport, isOn}
 use Rattle.ledger.specs.Blocks.{numberAfter}
 use Rattle.ledger.specs.Told.{Told}
 use Rattle.ledger.proofs.Frames.{Kept, others-same, kept-file}
-use Rattle.ledger.proofs.Moves.{entering, entering-other, entering-here}
 use Rattle.ledger.proofs.Booked.{plus, plus-none, told-back, told-mark, told-sent, told-came}
 
 -- ---- words come with a block that is delivered, and with nothing else
@@ -226,17 +226,42 @@ module _ (s : State) (area : List ℕ) (ledgers : ℕ → Ledger) (K : Kept s ar
           (subst (Only at (s .w) area) (paste-fitting at words area (D .inside) ∙ sym (D .pasted)) only) j ne o k p
       go false d = ap (partOf (bufferAt (fileAt s j) k .number * s .w) (s .w)) (after-area ∙ cond-false (pastedIn (startAt f (s .w) (takenSide f)) words area) area d)
 
-  pub report-kept : Kept (reportBy s area channel unit outcome words .state) (reportByArea s area channel unit outcome words)
-      (entering ledgers (withReport words (answerOf s area (report channel unit outcome words))) i)
+  -- ---- the ledger that it enters is the one of its file
+
+  on-same : (j : ℕ) → isOn channel unit (ledgers j) ≡ serves channel unit (fileAt s j)
+  on-same j = go (fileAt s j .opened) refl
+    where
+      go : (t : Bool) → fileAt s j .opened ≡ t → isOn channel unit (ledgers j) ≡ serves channel unit (fileAt s j)
+      go true o =
+          let C = K .told j .chose o in
+          ap (λ (b : Bool). b && (eqb (ledgers j .channel) channel && eqb (ledgers j .unit) unit)) (K .told j .opened)
+          ∙ ap₂ (λ (a b : ℕ). fileAt s j .opened && (eqb a channel && eqb b unit)) (C .onChannel) (C .onUnit)
+      go false o =
+          ap (λ (b : Bool). b && (eqb (ledgers j .channel) channel && eqb (ledgers j .unit) unit)) (K .told j .opened ∙ o)
+          ∙ sym (ap (λ (b : Bool). b && (eqb (fileAt s j .channel) channel && eqb (fileAt s j .unit) unit)) o)
+
+  abbrev pub noting : ℕ → Ledger
+  noting j = cond (isOn channel unit (ledgers j)) (withReport words (answerOf s area (report channel unit outcome words)) (ledgers j)) (ledgers j)
+
+  noting-here : noting i ≡ withReport words (answerOf s area (report channel unit outcome words)) (ledgers i)
+  noting-here = cond-true _ (ledgers i) (on-same i ∙ report-books-own s area channel unit outcome words (K .good .sixteen) z .bound)
+
+  noting-other : (j : ℕ) → j ≢ i → noting j ≡ ledgers j
+  noting-other j ne = cond-false (withReport words (answerOf s area (report channel unit outcome words)) (ledgers j)) (ledgers j) (go (serves channel unit (fileAt s j)) refl)
+    where
+      go : (t : Bool) → serves channel unit (fileAt s j) ≡ t → isOn channel unit (ledgers j) ≡ false
+      go true e = absurd (ne (report-books-own s area channel unit outcome words (K .good .sixteen) z .only j e))
+      go false e = on-same j ∙ e
+
+  pub report-kept : Kept (reportBy s area channel unit outcome words .state) (reportByArea s area channel unit outcome words) noting
   unfolding answerOf reportBy
   report-kept =
       let t = reportBy s area channel unit outcome words .state in
       let zs = reportByArea s area channel unit outcome words in
       let F = report-frame s area channel unit outcome words in
-      kept-file s t area zs ledgers (entering ledgers (withReport words (answerOf s area (report channel unit outcome words))) i) K
-      (call-kept s area (K .good) (report channel unit outcome words)) i (F .words) (F .files) (entering-other ledgers (withReport words (answerOf s area (report channel unit outcome words))) i) still
-      (subst (λ (h : File). Told (s .w) h zs (entering ledgers (withReport words (answerOf s area (report channel unit outcome words))) i i)) (sym after-file)
-      (subst (Told (s .w) (reportChange s area channel unit outcome words .file) zs) (sym (entering-here ledgers (withReport words (answerOf s area (report channel unit outcome words))) i))
+      kept-file s t area zs ledgers noting K (call-kept s area (K .good) (report channel unit outcome words)) i (F .words) (F .files) noting-other still
+      (subst (λ (h : File). Told (s .w) h zs (noting i)) (sym after-file)
+      (subst (Told (s .w) (reportChange s area channel unit outcome words .file) zs) (sym noting-here)
       (subst (λ (x : ReportChange). Told (s .w) (x .file) zs (plus L (asBlock (partOf (x .start) (x .count) zs)) (asBlock words) (owedFor (L .sequence) (L .check) (x .error) words))) (sym change)
       (subst (λ (ys : List ℕ). Told (s .w) (reportedFile effect f (length words) (deliveryError effect f words)) ys
       (plus L (asBlock (partOf (shownStart effect (s .w) f) (shownCount effect f) ys)) (asBlock words) (owedFor (L .sequence) (L .check) (deliveryError effect f words) words))) (sym after-area)

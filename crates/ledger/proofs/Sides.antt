@@ -29,24 +29,28 @@ use Rattle.ledger.proofs.Lines.{same-first}
 
 pub record Same (f g : File) : Type 0 where
   pub opened : g .opened ≡ f .opened
+  pub channel : g .channel ≡ f .channel
+  pub unit : g .unit ≡ f .unit
   pub output : g .output ≡ f .output
   pub sequence : g .sequence ≡ f .sequence
   pub check : g .check ≡ f .check
 
 pub same-self : (f : File) → Same f f
-same-self f = record { opened = refl; output = refl; sequence = refl; check = refl }
+same-self f = record { opened = refl; channel = refl; unit = refl; output = refl; sequence = refl; check = refl }
 
 pub same-then : (f g h : File) → Same f g → Same g h → Same f h
 same-then f g h A B = record {
   opened = B .opened ∙ A .opened;
+  channel = B .channel ∙ A .channel;
+  unit = B .unit ∙ A .unit;
   output = B .output ∙ A .output;
   sequence = B .sequence ∙ A .sequence;
   check = B .check ∙ A .check;
 }
 
 pub slot-same : (f : File) (k : Side) (x : Slot) (t : Bool) (b : ℕ) → Same f (withSlot f k x t b)
-slot-same f Low x t b = record { opened = refl; output = refl; sequence = refl; check = refl }
-slot-same f High x t b = record { opened = refl; output = refl; sequence = refl; check = refl }
+slot-same f Low x t b = record { opened = refl; channel = refl; unit = refl; output = refl; sequence = refl; check = refl }
+slot-same f High x t b = record { opened = refl; channel = refl; unit = refl; output = refl; sequence = refl; check = refl }
 slot-same f Neither x t b = same-self f
 
 pub slot-block : (f : File) (k : Side) (x : Slot) (t : Bool) (b : ℕ) → isSide k ≡ true → withSlot f k x t b .block ≡ b

@@ -43,7 +43,7 @@ use Rattle.requests.proofs.Changed.{here-file}
 use Rattle.requests.proofs.AskTheorems.{AskReady, ask-ready, ask-exactly, ask-frame}
 use Rattle.histories.specs.Calls.{fresh, opening, close, ask, freeze, thaw, answerOf}
 use Rattle.histories.proofs.Kept.{Good, call-kept}
-use Rattle.ledger.specs.Ledgers.{Ledger, newLedger, blankLedger}
+use Rattle.ledger.specs.Ledgers.{Ledger, newLedger, blankLedger, withClose}
 use Rattle.ledger.specs.Blocks.{partIn, allChecked, joined, contents, numberAfter}
 use Rattle.ledger.specs.Told.{none, Told}
 use Rattle.ledger.proofs.Sides.{Same, same-self, slot-same, block-stays, part-stays}
@@ -51,12 +51,13 @@ use Rattle.ledger.proofs.Frames.{told-still, told-closed, Kept, kept-fi
 use Rattle.ledger.proofs.Moves.{entering, entering-other, entering-here}
 
 -- a file as it is opened
-told-opened : (w : ℕ) (q : Wish) (low high : ℕ) (area : List ℕ) → Told w (openedFile q low high) area (newLedger (q .sequence) (q .check))
+told-opened : (w : ℕ) (q : Wish) (low high : ℕ) (area : List ℕ) → Told w (openedFile q low high) area (newLedger (q .channel) (q .unit) (q .sequence) (q .check))
 unfolding openedFile line partStart partLength partSide joined allChecked contents numberAfter
 told-opened w q low high area = record {
+  opened = refl;
+  chose = λ o. record { onChannel = refl; onUnit = refl; sequences = refl; checks = refl };
   wrote = λ o p. record { data-words = []; words = refl; blocks = refl; number = refl };
   brought = λ o p. record { lies = refl; items = refl; number = refl; untold = none };
-  fields = λ o. (refl, refl);
 }
 
 -- every file after a fresh start is closed
@@ -101,28 +102,30 @@ unfolding freshState
 fresh-kept s area m w masks g z = record {
   good = g;
   told = λ i.
-      told-closed _ _ area blankLedger (ap (λ (t : State). fileAt t i .opened) (fresh-accepted s (length area) m w masks z) ∙ all-closed fileCount i);
+      told-closed _ _ area blankLedger (ap (λ (t : State). fileAt t i .opened) (fresh-accepted s (length area) m w masks z) ∙ all-closed fileCount i) refl;
 }
 
 module _ (s : State) (area : List ℕ) (ledgers : ℕ → Ledger) (K : Kept s area ledgers) where
   pub open-kept : (file channel unit flags size rlen : ℕ) → openBy s file channel unit flags size rlen .refusal ≡ 0
-      → Kept (openBy s file channel unit flags size rlen .state) area (entering ledgers (λ g. newLedger (isSet flags 4) (isSet flags 8)) file)
+      → Kept (openBy s file channel unit flags size rlen .state) area (entering ledgers (λ g. newLedger channel unit (isSet flags 4) (isSet flags 8)) file)
   unfolding answerOf
   open-kept file channel unit flags size rlen z =
       let t = openBy s file channel unit flags size rlen .state in
       let F = open-frame s file channel unit flags size rlen in
-      kept-file s t area area ledgers (entering ledgers (λ g. newLedger (isSet flags 4) (isSet flags 8)) file) K (call-kept s area (K .good) (opening file channel unit flags size rlen)) file (F .w) (F .files)
-      (entering-other ledgers (λ g. newLedger (isSet flags 4) (isSet flags 8)) file) (λ i ne p k q. refl)
-      (subst (λ (h : File). Told (s .w) h area (entering ledgers (λ g. newLedger (isSet flags 4) (isSet flags 8)) file file)) (sym (open-file s file channel unit flags size rlen z (K .good .sixteen)))
-      (subst (Told (s .w) (openedFile (wishOf channel unit flags size rlen) (lowOf s) (highOf s)) area) (sym (entering-here ledgers (λ g. newLedger (isSet flags 4) (isSet flags 8)) file))
+      kept-file s t area area ledgers (entering ledgers (λ g. newLedger channel unit (isSet flags 4) (isSet flags 8)) file) K (call-kept s area (K .good) (opening file channel unit flags size rlen)) file (F .w) (F .files)
+      (entering-other ledgers (λ g. newLedger channel unit (isSet flags 4) (isSet flags 8)) file) (λ i ne p k q. refl)
+      (subst (λ (h : File). Told (s .w) h area (entering ledgers (λ g. newLedger channel unit (isSet flags 4) (isSet flags 8)) file file)) (sym (open-file s file channel unit flags size rlen z (K .good .sixteen)))
+      (subst (Told (s .w) (openedFile (wishOf channel unit flags size rlen) (lowOf s) (highOf s)) area) (sym (entering-here ledgers (λ g. newLedger channel unit (isSet flags 4) (isSet flags 8)) file))
       (told-opened (s .w) (wishOf channel unit flags size rlen) (lowOf s) (highOf s) area)))
 
-  pub close-kept : (file : ℕ) → closeBy s file .refusal ≡ 0 → Kept (closeBy s file .state) area ledgers
+  pub close-kept : (file : ℕ) → closeBy s file .refusal ≡ 0 → Kept (closeBy s file .state) area (entering ledgers withClose file)
   unfolding answerOf
   close-kept file z =
       let F = close-frame s file in
-      kept-file s (closeBy s file .state) area area ledgers ledgers K (call-kept s area (K .good) (close file)) file (F .w) (F .files) (λ i ne. refl) (λ i ne p k q. refl)
-      (told-closed (s .w) (fileAt (closeBy s file .state) file) area (ledgers file) (ap (λ (f : File). f .opened) (close-file s file z)))
+      kept-file s (closeBy s file .state) area area ledgers (entering ledgers withClose file) K (call-kept s area (K .good) (close file)) file (F .w) (F .files)
+      (entering-other ledgers withClose file) (λ i ne p k q. refl)
+      (told-closed (s .w) (fileAt (closeBy s file .state) file) area (entering ledgers withClose file file) (ap (λ (f : File). f .opened) (close-file s file z))
+      (ap (λ (g : Ledger). g .opened) (entering-here ledgers withClose file)))
 
   asked-number : (file op priority : ℕ) → askBy s file op priority .refusal ≡ 0
       → askRefusal (askWrong s file) (fileAt s file) (channelAt s (fileAt s file .channel)) op priority ≡ 0

@@ -1,6 +1,6 @@
--- The ledger of a file, noted from call to call, and histories in which the pack alone writes the lent area. Assumes nothing.
+-- The ledger of a file, noted from calls and their answers alone, and histories in which the pack alone writes the lent area. Assumes nothing.
 use Prim.Native.Nat.{ℕ, zero, suc, _-_}
-use mathlib.Core.Bool.{Bool, false, cond}
+use mathlib.Core.Bool.{Bool, true, false, cond, _&&_}
 use mathlib.Core.List.{List, [], _∷_, _++_, map}
 use lib.Dec.{eqb}
 use lib.ListN.{length, take, drop}
@@ -9,7 +9,6 @@ use Rattle.gets.specs.declared.Got.{Got}
 use Rattle.gets.specs.declared.Got.the-variants.{Record, Leftover, Error, End, Nothing}
 use Rattle.state.specs.declared.State.{State}
 use Rattle.opening.specs.Open.{isSet}
-use Rattle.requests.specs.Report.{fileOf}
 use Rattle.histories.specs.Calls.{Call, fresh, opening, close, ask, report, get, put, seal, skip, freeze, thaw, Added, nothing, working, reported, got, Answer, answerOf}
 use Rattle.histories.specs.Histories.{isAccepted}
 
@@ -17,9 +16,12 @@ use Rattle.histories.specs.Histories.{isAccepted}
 pub data Item : Type 0 where
   word wrong : ℕ → Item
 
--- Since the open of the file: the fields chosen; the words put; the blocks that writes' answers showed; the blocks delivered; what get gave
+-- Of a file: whether it is open, and on which unit. Since its open: the fields chosen; the words put; the blocks that writes' answers showed; the blocks delivered; what get gave
 -- or skip dropped; and what is owed still, one list for each block that is not done with.
 pub record Ledger : Type 0 where
+  pub opened : Bool
+  pub channel : ℕ
+  pub unit : ℕ
   pub sequence : Bool
   pub check : Bool
   pub puts : List ℕ
@@ -28,11 +30,26 @@ pub record Ledger : Type 0 where
   pub gone : List Item
   pub owed : List (List Item)
 
-abbrev pub newLedger : Bool → Bool → Ledger
-newLedger sequence check = record { sequence = sequence; check = check; puts = []; sent = []; came = []; gone = []; owed = [] }
+abbrev pub emptyLedger : Bool → ℕ → ℕ → Bool → Bool → Ledger
+emptyLedger opened channel unit sequence check = record {
+  opened = opened;
+  channel = channel;
+  unit = unit;
+  sequence = sequence;
+  check = check;
+  puts = [];
+  sent = [];
+  came = [];
+  gone = [];
+  owed = [];
+}
+
+-- as an open and as a fresh start leave it
+abbrev pub newLedger : ℕ → ℕ → Bool → Bool → Ledger
+newLedger channel unit sequence check = emptyLedger true channel unit sequence check
 
 abbrev pub blankLedger : Ledger
-blankLedger = newLedger false false
+blankLedger = emptyLedger false 0 0 false false
 
 -- ---- what an accepted call for the file adds
 
@@ -67,6 +84,9 @@ errorOf (got g) = 0
 -- a report: the block delivered with it, and the block that its answer shows
 abbrev pub withReport : List ℕ → Answer → Ledger → Ledger
 withReport words a g = record {
+  opened = g .opened;
+  channel = g .channel;
+  unit = g .unit;
   sequence = g .sequence;
   check = g .check;
   puts = g .puts;
@@ -102,6 +122,9 @@ without n (items ∷ blocks) = drop n items ∷ blocks
 
 abbrev pub withGet : Answer → Ledger → Ledger
 withGet a g = record {
+  opened = g .opened;
+  channel = g .channel;
+  unit = g .unit;
   sequence = g .sequence;
   check = g .check;
   puts = g .puts;
@@ -113,6 +136,9 @@ withGet a g = record {
 
 abbrev pub withPut : List ℕ → Ledger → Ledger
 withPut words g = record {
+  opened = g .opened;
+  channel = g .channel;
+  unit = g .unit;
   sequence = g .sequence;
   check = g .check;
   puts = g .puts ++ words;
@@ -133,6 +159,9 @@ restOf (items ∷ blocks) = blocks
 
 abbrev pub withSkip : Ledger → Ledger
 withSkip g = record {
+  opened = g .opened;
+  channel = g .channel;
+  unit = g .unit;
   sequence = g .sequence;
   check = g .check;
   puts = g .puts;
@@ -142,23 +171,42 @@ withSkip g = record {
   owed = restOf (g .owed);
 }
 
--- the ledger of file i after an accepted call; a report is for the file that is open on its unit
-abbrev pub entered : ℕ → State → Call → Answer → Ledger → Ledger
-entered i s (fresh m w masks) a g = blankLedger
-entered i s (opening file channel unit flags size rlen) a g = cond (eqb file i) (newLedger (isSet flags 4) (isSet flags 8)) g
-entered i s (close file) a g = g
-entered i s (ask file op priority) a g = g
-entered i s (report channel unit outcome words) a g = cond (eqb (fileOf s channel unit) i) (withReport words a g) g
-entered i s (get file) a g = cond (eqb file i) (withGet a g) g
-entered i s (put file words) a g = cond (eqb file i) (withPut words g) g
-entered i s (seal file) a g = g
-entered i s (skip file) a g = cond (eqb file i) (withSkip g) g
-entered i s freeze a g = g
-entered i s thaw a g = g
+-- a close ends the file's part in reports
+abbrev pub withClose : Ledger → Ledger
+withClose g = record {
+  opened = false;
+  channel = g .channel;
+  unit = g .unit;
+  sequence = g .sequence;
+  check = g .check;
+  puts = g .puts;
+  sent = g .sent;
+  came = g .came;
+  gone = g .gone;
+  owed = g .owed;
+}
+
+-- "An open file is bound to one unit": a report is for the file that is open on its unit
+abbrev pub isOn : ℕ → ℕ → Ledger → Bool
+isOn channel unit g = g .opened && (eqb (g .channel) channel && eqb (g .unit) unit)
+
+-- the ledger of file i after an accepted call
+abbrev pub entered : ℕ → Call → Answer → Ledger → Ledger
+entered i (fresh m w masks) a g = blankLedger
+entered i (opening file channel unit flags size rlen) a g = cond (eqb file i) (newLedger channel unit (isSet flags 4) (isSet flags 8)) g
+entered i (close file) a g = cond (eqb file i) (withClose g) g
+entered i (ask file op priority) a g = g
+entered i (report channel unit outcome words) a g = cond (isOn channel unit g) (withReport words a g) g
+entered i (get file) a g = cond (eqb file i) (withGet a g) g
+entered i (put file words) a g = cond (eqb file i) (withPut words g) g
+entered i (seal file) a g = g
+entered i (skip file) a g = cond (eqb file i) (withSkip g) g
+entered i freeze a g = g
+entered i thaw a g = g
 
 -- a refused call enters no ledger
-abbrev pub noted : ℕ → State → Call → Answer → Ledger → Ledger
-noted i s call a g = cond (isAccepted a) (entered i s call a g) g
+abbrev pub noted : ℕ → Call → Answer → Ledger → Ledger
+noted i call a g = cond (isAccepted a) (entered i call a g) g
 
 -- ---- "While only the pack writes the lent area": each call is given the state and the area that the last one left
 
@@ -174,4 +222,4 @@ areaAfter s area (call ∷ calls) = areaAfter (answerOf s area call .state) (ans
 unfoldable pub ledgerAfter : ℕ → State → List ℕ → Ledger → List Call → Ledger
 ledgerAfter i s area g [] = g
 ledgerAfter i s area g (call ∷ calls) =
-    ledgerAfter i (answerOf s area call .state) (answerOf s area call .area) (noted i s call (answerOf s area call) g) calls
+    ledgerAfter i (answerOf s area call .state) (answerOf s area call .area) (noted i call (answerOf s area call) g) calls

@@ -1,7 +1,7 @@
 -- What holds of an open file and its ledger. Assumes nothing.
 use mathlib.Core.Path.{_≡_}
 use mathlib.Core.Logic.{_⊎_}
-use mathlib.Core.Bool.{true, false}
+use mathlib.Core.Bool.{Bool, true, false}
 use mathlib.Core.List.{List, [], _∷_, _++_}
 use Prim.Native.Nat.{ℕ}
 use Rattle.files.specs.declared.File.{File}
@@ -33,7 +33,15 @@ pub record Brought (w : ℕ) (f : File) (area : List ℕ) (came : List (List ℕ
   pub number : f .block ≡ numberAfter 1 came
   pub untold : All UntoldFirst (line f)
 
+-- what the open of the file chose
+pub record Chose (f : File) (channel unit : ℕ) (sequence check : Bool) : Type 0 where
+  pub onChannel : channel ≡ f .channel
+  pub onUnit : unit ≡ f .unit
+  pub sequences : sequence ≡ f .sequence
+  pub checks : check ≡ f .check
+
 pub record Told (w : ℕ) (f : File) (area : List ℕ) (g : Ledger) : Type 0 where
+  pub opened : g .opened ≡ f .opened
+  pub chose : f .opened ≡ true → Chose f (g .channel) (g .unit) (g .sequence) (g .check)
   pub wrote : f .opened ≡ true → f .output ≡ true → Wrote w f area (g .puts) (g .sent)
   pub brought : f .opened ≡ true → f .output ≡ false → Brought w f area (g .came) (g .gone) (g .owed)
-  pub fields : f .opened ≡ true → (g .sequence ≡ f .sequence) × (g .check ≡ f .check)
