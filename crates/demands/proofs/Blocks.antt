@@ -6,7 +6,6 @@ use mathlib.Core.List.{List, []}
 use Prim.Native.Nat.{ℕ, _+_, _%_}
 use lib.ListN.{length}
 use Rattle.word.specs.Blocks.{judged}
-use Rattle.files.specs.declared.File.{File}
 use Rattle.files.specs.Sides.{blockNumbers}
 use Rattle.pool.specs.Free.{serves}
 use Rattle.state.specs.declared.State.{State}

@@ -1,8 +1,7 @@
 -- Demand 2 on buffers: a close frees what its file held, an open takes the lowest free ones, a report is booked to its own file.
 -- Assumes nothing.
-use mathlib.Core.Path.{_≡_, refl, sym, ap, subst, _∙_}
-use mathlib.Core.Logic.{_≢_}
-use mathlib.Core.Bool.{Bool, true, false, cond}
+use mathlib.Core.Path.{_≡_, sym, subst}
+use mathlib.Core.Bool.{true}
 use mathlib.Core.List.{List}
 use Prim.Native.Nat.{ℕ, _+_}
 use native.Mathlib.Decide.{ℕ-discrete}
@@ -17,8 +16,8 @@ use Rattle.state.specs.Places.{fileAt}
 use Rattle.state.specs.Soundness.{sound}
 use Rattle.state.proofs.Facts.{sound-facts}
 use Rattle.state.proofs.Buffers.{held-once, free-and-held}
-use Rattle.opening.specs.Open.{isSet, openBy}
-use Rattle.opening.proofs.OpenTheorems.{lowOf, highOf, made, open-lowest, open-next, open-file, open-sound}
+use Rattle.opening.specs.Open.{openBy}
+use Rattle.opening.proofs.OpenTheorems.{lowOf, highOf, open-lowest, open-next, open-file, open-sound}
 use Rattle.opening.proofs.CloseTheorems.{close-frees}
 use Rattle.opening.proofs.Frees.{Lowest}
 use Rattle.requests.specs.Report.{fileOf}

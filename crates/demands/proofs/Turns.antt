@@ -1,28 +1,29 @@
 -- Demand 3 from what the system around a channel keeps: the same counts, in the pack's own words. Assumes nothing.
 use mathlib.Core.Path.{_≡_, refl, sym, ap, subst, _∙_}
-use mathlib.Core.Bool.{Bool, true, false}
-use mathlib.Core.Option.{Option, some}
+use mathlib.Core.Bool.{true, false}
+use mathlib.Core.Option.{some}
 use mathlib.Core.List.{List}
 use Prim.Native.Nat.{ℕ, _+_, _*_, _<_}
 use native.Mathlib.Omega.{arith}
-use lib.Dec.{eqb}
 use borrow.Author.Tests.{eq-eqb}
 use Rattle.channel.specs.declared.Op.{Op}
 use Rattle.channel.specs.Rules.{mostReports}
 use Rattle.channel.specs.History as history
 use Rattle.channel.specs.History.{accepted, aReport, aPriority, aRequestOf, anAnswerTo, urgentIn, isAlive}
-use Rattle.channel.specs.Lifted.{Shown, runIn, countIn, KeptIn}
+use Rattle.channel.specs.Lifted.{runIn, KeptIn}
 use Rattle.state.specs.declared.State.{State}
 use Rattle.state.specs.Places.{fileAt, channelAt}
 use Rattle.opening.specs.declared.Masks.{Masks}
 use Rattle.opening.specs.Fresh.{freshState}
 use Rattle.opening.proofs.FreshTheorems.{fresh-accepted}
 use Rattle.requests.specs.Ask.{opOf, isPriority}
-use Rattle.histories.specs.Calls.{fresh, ask, Answer, answerOf}
+use Rattle.histories.specs.Calls.{fresh, ask, answerOf}
 use Rattle.histories.specs.Histories.{Lent, after, count, freshStart, reportOn, answerFor, priorityOn, requestOf, declaredOn}
 use Rattle.histories.proofs.Kept.{Good, good-start, history-kept, call-kept}
 use Rattle.histories.proofs.Seen.{stationAt, seen, nextOf}
-use Rattle.histories.proofs.Turns.{packAround, run-same, count-same, report-matches, answer-matches, priority-matches, request-matches, fresh-declared, bitsOf, turns-kept}
+use Rattle.histories.proofs.Around.{packAround, run-same, count-same}
+use Rattle.histories.proofs.Counted.{report-matches, answer-matches, priority-matches, request-matches}
+use Rattle.histories.proofs.Turns.{fresh-declared, turns-kept}
 use Rattle.demands.specs.Demands.{Answers}
 
 -- in the pack's words

@@ -16,7 +16,6 @@ use Rattle.opening.specs.declared.Masks.{Masks}
 use Rattle.opening.specs.Fresh.{freshState, freshBy}
 use Rattle.opening.specs.Open.{openChange, openBy}
 use Rattle.opening.specs.Close.{closeChange, closeBy}
-use Rattle.opening.specs.Freeze.{freezeBy, thawBy}
 use Rattle.input.specs.Get.{getChange, getBy}
 use Rattle.input.specs.Skip.{skipChange, skipBy}
 use Rattle.output.specs.Put.{putChange, putBy}

@@ -5,7 +5,7 @@ use mathlib.Core.Bool.{Bool}
 use mathlib.Core.List.{List, [], _∷_}
 use lib.Dec.{eqb}
 use lib.ListN.{length}
-use Rattle.area.specs.Lists.{anyOf, allOf}
+use Rattle.area.specs.Lists.{anyOf}
 use Rattle.area.specs.Refusals.{Rows}
 use Rattle.gets.specs.Gets.{getFrom}
 use Rattle.pool.specs.Free.{isBound}

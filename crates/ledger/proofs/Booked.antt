@@ -1,37 +1,16 @@
 -- An accepted report keeps what holds of every open file and its ledger. Assumes nothing.
 use mathlib.Core.Path.{_≡_, refl, sym, ap, ap₂, subst, _∙_}
-use mathlib.Core.Logic.{_≢_}
-use mathlib.Core.Bool.{Bool, true, false, not, cond, _&&_, _||_}
+use mathlib.Core.Bool.{Bool, true, false}
 use mathlib.Core.List.{List, [], _∷_, _++_, map, append-nil}
-use Prim.Native.Nat.{ℕ, zero, suc, _+_, _-_, _*_, _≤_, _<_}
+use Prim.Native.Nat.{ℕ, _+_, _-_, _*_, _≤_}
 use native.Mathlib.Nat.{add-zero}
 use native.Mathlib.Omega.{arith}
-use lib.Dec.{eqb, ltb}
 use lib.ListN.{length, take, drop}
 use lib.Seq.{take-take}
-use borrow.Author.Tests.{eq-eqb, ltb-false, lt-ltb}
-use Rattle.area.specs.Lists.{anyOf}
 use Rattle.area.specs.Parts.{partOf, pastedIn}
-use Rattle.area.specs.Refusals.{lowest}
-use Rattle.area.proofs.Walks.{true-not-false, and-left, or-left, or-right}
-use Rattle.area.proofs.Marks.{cond-true, cond-false}
+use Rattle.area.proofs.Walks.{true-not-false}
 use Rattle.area.proofs.Pastes.{length-part}
-use Rattle.area.proofs.Exactly.{here}
 use Rattle.word.specs.Blocks.{judged}
-use Rattle.channel.specs.declared.Op.{Op}
-use Rattle.channel.specs.declared.Op.the-variants.{Read, Write, Mark}
-use Rattle.channel.specs.declared.Request.{Request}
-use Rattle.channel.specs.declared.Turn.{Turn}
-use Rattle.channel.specs.declared.Turn.the-variants.{Idle, Waiting, Displaced, Working}
-use Rattle.channel.specs.declared.Channel.{Channel}
-use Rattle.channel.specs.declared.Work.{Work}
-use Rattle.channel.specs.declared.Work.the-variants as work
-use Rattle.channel.specs.declared.Verdict.{Verdict}
-use Rattle.channel.specs.declared.Verdict.the-variants.{Refused, Repeats, Ends}
-use Rattle.channel.specs.declared.Ending.the-variants.{Good, Opposite}
-use Rattle.channel.specs.Rules.{rowOf, isAllowed, isFailure, isPermanent, nextAttempt, endingOf, verdictOf}
-use Rattle.channel.specs.Units.{turnAt, workOf, operationAt}
-use Rattle.channel.specs.Turns.{judgeTurn, judgeOf}
 use Rattle.files.specs.declared.Slot.{Slot}
 use Rattle.files.specs.declared.Slot.the-variants.{Empty, Taken, Part, Full}
 use Rattle.files.specs.declared.Side.{Side}
@@ -40,34 +19,21 @@ use Rattle.files.specs.declared.File.{File}
 use Rattle.files.specs.Slots.{isTaken, isPart, isFull, partWords, fullWords}
 use Rattle.files.specs.Sides.{bufferAt, slotAt, startAt, isSide, lower, takenSide, partSide, oldest, withSlot, turnedBy, nextBlock, filledAt, emptiedAt, withoutOldest}
 use Rattle.files.specs.Opening.{extra}
-use Rattle.files.specs.Input.{hasFull, blockFits, delivered, gaveBack, withMark, metMark}
-use Rattle.files.specs.Output.{partStart, partLength, sendStart, sendWords, afterWrite}
+use Rattle.files.specs.Input.{blockFits, delivered, gaveBack, withMark, metMark}
+use Rattle.files.specs.Output.{partStart, partLength, sendStart, sendWords}
 use Rattle.files.specs.Blocks.{line}
-use Rattle.files.proofs.Ages.{block, Aged, noBlock, old, aged, delivered-line, back-line, met-line}
+use Rattle.files.proofs.Ages.{block, Aged, noBlock, old, aged, delivered-line, back-line}
 use Rattle.files.proofs.Which.{taken-there}
 use Rattle.pool.proofs.Facts.{Sound}
-use Rattle.pool.proofs.Kept.{owns}
 use Rattle.pool.proofs.Changes.{numbers, own-taken, taken-input}
 use Rattle.pool.proofs.Inside.{send-inside}
-use Rattle.state.specs.declared.State.{State}
-use Rattle.state.specs.Places.{fileAt, channelAt, areaShort}
-use Rattle.state.specs.Requests.{requested, isRead, isWrite, isWriteOp}
-use Rattle.state.specs.Soundness.{sound}
-use Rattle.state.specs.Judged.{fileReady}
-use Rattle.state.proofs.Facts.{sound-facts}
-use Rattle.requests.specs.declared.Effect.{Effect}
-use Rattle.requests.specs.declared.Effect.the-variants.{Delivers, MeetsMark, GivesBack, Sends, Keeps}
-use Rattle.requests.specs.Effects.{effectOf, isDelivery}
-use Rattle.requests.specs.Report.{isIdleFor, takesNoWords, effectAt, shownStart, shownCount, deliveryError, reportedFile, reportedArea}
 use Rattle.requests.proofs.Found.{fits-bounds}
-use Rattle.requests.proofs.Ready.{ready-facts}
-use Rattle.output.specs.Only.{Only}
 use Rattle.output.proofs.Written.{only-wider, pasted-only, pasted-part}
-use Rattle.ledger.specs.Ledgers.{Item, word, wrongs, Ledger, asBlock, dataOf, contentsOf, owedFor}
-use Rattle.ledger.specs.Blocks.{unreadIn, partIn}
+use Rattle.ledger.specs.Ledgers.{Item, word, wrongs, Ledger, asBlock, contentsOf, owedFor}
+use Rattle.ledger.specs.Blocks.{partIn}
 use Rattle.ledger.specs.Told.{Wrote, Brought, Told}
 use Rattle.ledger.proofs.Lines.{unread-same, beside}
-use Rattle.ledger.proofs.Sides.{Same, same-self, same-then, slot-same, slot-block, block-stays, part-stays}
+use Rattle.ledger.proofs.Sides.{Same, slot-same, slot-block, block-stays, part-stays}
 use Rattle.ledger.proofs.Writes.{send-wrote}
 use Rattle.ledger.proofs.Brings.{brought-more}
 use Rattle.ledger.proofs.Frames.{told-out, told-in, told-still}

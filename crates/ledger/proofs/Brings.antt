@@ -1,46 +1,38 @@
 -- The ledger of an input file: a block delivered, a block dropped, what get gives. Assumes nothing.
 use mathlib.Core.Path.{_≡_, refl, sym, ap, ap₂, subst, _∙_}
-use mathlib.Core.Logic.{_⊎_, inl, inr}
+use mathlib.Core.Logic.{inl, inr}
 use mathlib.Core.Bool.{Bool, true, false, cond, _&&_}
 use mathlib.Core.List.{List, [], _∷_, _++_, map, append-assoc, append-nil}
 use Prim.Native.Nat.{ℕ, zero, suc, _+_, _-_, _*_, _≤_, _<_}
-use native.Mathlib.Nat.{add-zero}
 use native.Mathlib.Omega.{arith}
-use borrow.Author.Tests.{leb-true, leb-false, ltb-true, lt-ltb}
+use borrow.Author.Tests.{leb-true, leb-false, ltb-true}
 use lib.Dec.{leb, ltb}
-use lib.ListN.{length, take, drop, length-map}
+use lib.ListN.{length, length-map}
 use lib.Seq.{drop-append-seam}
 use Rattle.area.specs.Parts.{partOf}
 use Rattle.area.proofs.Walks.{true-not-false, and-right}
-use Rattle.area.proofs.Marks.{cond-true, cond-false}
+use Rattle.area.proofs.Marks.{cond-true}
 use Rattle.area.proofs.Pastes.{length-part}
 use Rattle.word.specs.Blocks.{judged}
-use Rattle.files.specs.declared.Slot.{Slot}
 use Rattle.files.specs.declared.Slot.the-variants.{Empty, Full}
 use Rattle.files.specs.declared.Side.{Side}
 use Rattle.files.specs.declared.Side.the-variants.{Low, High, Neither}
 use Rattle.files.specs.declared.File.{File}
 use Rattle.files.specs.Slots.{isEmpty}
-use Rattle.files.specs.Sides.{bufferAt, slotAt, startAt, isSide, oldest, withSlot, nextBlock, emptiedAt, withoutOldest}
+use Rattle.files.specs.Sides.{bufferAt, slotAt, isSide, oldest, withSlot, nextBlock, emptiedAt, withoutOldest}
 use Rattle.files.specs.Blocks.{Block, line}
 use Rattle.files.proofs.Ages.{block, Aged, noBlock, old, aged}
-use Rattle.gets.specs.declared.Got.{Got}
-use Rattle.gets.specs.declared.Got.the-variants.{Record, Leftover, Error, End, Nothing}
-use Rattle.gets.specs.Gets.{isUsedUp, passed, lookedAt, wordsGiven, slotAfter, foundIn, foundNone, found, afterFound, getFrom}
-use Rattle.gets.specs.Histories.{shown}
-use Rattle.gets.proofs.Lines.{looked-fresh}
+use Rattle.gets.specs.Gets.{isUsedUp, passed}
 use Rattle.pool.specs.Soundness.{isNoBuffer}
 use Rattle.pool.proofs.Facts.{Sound}
 use Rattle.pool.proofs.Kept.{owns, owns-used}
-use Rattle.pool.proofs.Changes.{numbers, passed-sound}
+use Rattle.pool.proofs.Changes.{numbers}
 use Rattle.pool.proofs.Inside.{size-fits, buffer-inside}
-use Rattle.output.proofs.Written.{part-join}
-use Rattle.ledger.specs.Ledgers.{Item, word, wrong, wrongs, contentsOf, givenBy, pastUsed, without, firstOf, restOf}
-use Rattle.ledger.specs.Blocks.{unreadIn, unreadOf, joined, contents, numberAfter}
+use Rattle.ledger.specs.Ledgers.{Item, word, wrongs, contentsOf, pastUsed, without, firstOf, restOf}
+use Rattle.ledger.specs.Blocks.{unreadIn, unreadOf, joined, contents}
 use Rattle.ledger.specs.Told.{All, none, more, UntoldFirst, Brought}
 use Rattle.ledger.proofs.Lists.{joined-last, contents-last, number-last, map-append, all-append}
-use Rattle.ledger.proofs.Lines.{unread-same}
-use Rattle.ledger.proofs.Sides.{Same, same-self, slot-same, block-stays}
+use Rattle.ledger.proofs.Sides.{Same, slot-same, block-stays}
 
 tail-all : {A : Type 0} (P : A → Type 0) (x : A) (xs : List A) → All P (x ∷ xs) → All P xs
 tail-all P x xs (more h p) = p

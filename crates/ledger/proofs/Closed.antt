@@ -5,22 +5,20 @@ use mathlib.Core.List.{List, [], _++_, map, append-nil}
 use Prim.Native.Nat.{ℕ}
 use Rattle.area.proofs.Walks.{or-left, or-right}
 use Rattle.area.proofs.Exactly.{here, later}
-use Rattle.files.specs.declared.Slot.{Slot}
-use Rattle.files.specs.declared.Side.{Side}
 use Rattle.files.specs.declared.Side.the-variants.{Low, High}
 use Rattle.files.specs.declared.File.{File}
 use Rattle.files.specs.Slots.{isPart, isFull, partWords}
 use Rattle.files.specs.Sides.{slotAt, startAt, lower, partSide}
 use Rattle.files.specs.Opening.{extra}
 use Rattle.files.specs.Output.{partStart, partLength, hasUnsent}
-use Rattle.files.specs.Blocks.{Block, fullAt, inOrder, line}
+use Rattle.files.specs.Blocks.{Block, inOrder, line}
 use Rattle.area.specs.Parts.{partOf}
 use Rattle.state.specs.declared.State.{State}
 use Rattle.state.specs.Places.{fileAt}
 use Rattle.opening.specs.Close.{closeRows, closeBy}
 use Rattle.opening.proofs.CloseTheorems.{close-exactly}
 use Rattle.ledger.specs.Ledgers.{dataOf}
-use Rattle.ledger.specs.Blocks.{blockIn, blocksIn, partIn, joined}
+use Rattle.ledger.specs.Blocks.{blockIn, partIn, joined}
 use Rattle.ledger.specs.Told.{Wrote}
 use Rattle.ledger.proofs.Sides.{no-full}
 use Rattle.ledger.proofs.Shown.{wrote-words}

@@ -1,12 +1,12 @@
 -- What holds of every open file and its ledger, where a call changes one file, its buffers, or neither. Assumes nothing.
-use mathlib.Core.Path.{_≡_, refl, sym, ap, ap₂, subst, _∙_}
+use mathlib.Core.Path.{_≡_, refl, sym, subst, _∙_}
 use mathlib.Core.Logic.{_≢_}
-use mathlib.Core.Bool.{Bool, true, false, cond, _&&_}
-use mathlib.Core.List.{List, [], _∷_, _++_}
+use mathlib.Core.Bool.{true, false}
+use mathlib.Core.List.{List}
 use Prim.Native.Nat.{ℕ, _*_}
 use native.Mathlib.Decide.{ℕ-discrete}
 use lib.Dec.{eqb}
-use borrow.Author.Tests.{eq-eqb, ne-eqb}
+use borrow.Author.Tests.{eq-eqb}
 use Rattle.area.specs.Parts.{partOf}
 use Rattle.area.proofs.Walks.{true-not-false, and-both, or-first, or-second}
 use Rattle.files.specs.declared.Side.{Side}
@@ -25,7 +25,7 @@ use Rattle.output.specs.Only.{Only}
 use Rattle.output.proofs.Written.{other-buffer}
 use Rattle.histories.proofs.Kept.{Good}
 use Rattle.ledger.specs.Ledgers.{Ledger}
-use Rattle.ledger.specs.Blocks.{blocksIn, unreadOf, partIn}
+use Rattle.ledger.specs.Blocks.{partIn}
 use Rattle.ledger.specs.Told.{Wrote, Brought, Chose, Told}
 use Rattle.ledger.proofs.Lines.{unread-same}
 use Rattle.ledger.proofs.Sides.{Same, same-self}

@@ -1,5 +1,5 @@
 -- The ledger of an input file at a get: it gives the check error of the oldest block, or its next words. Assumes nothing.
-use mathlib.Core.Path.{_≡_, refl, sym, ap, ap₂, subst, _∙_}
+use mathlib.Core.Path.{_≡_, refl, sym, ap, subst, _∙_}
 use mathlib.Core.Logic.{inl}
 use mathlib.Core.Bool.{Bool, true, false, cond}
 use mathlib.Core.List.{List, [], _∷_, _++_, map, append-nil}
@@ -17,16 +17,15 @@ use Rattle.files.specs.declared.Side.{Side}
 use Rattle.files.specs.declared.Side.the-variants.{Neither}
 use Rattle.files.specs.declared.File.{File}
 use Rattle.files.specs.Sides.{bufferAt, slotAt, startAt, isSide, oldest, withSlot}
-use Rattle.files.specs.Blocks.{line}
 use Rattle.files.proofs.Ages.{block, Aged, noBlock, old, aged}
 use Rattle.gets.specs.declared.Got.{Got}
 use Rattle.gets.specs.declared.Got.the-variants.{Record, Leftover, Error}
-use Rattle.gets.specs.Gets.{isUsedUp, passed, lookedAt, wordsGiven, slotAfter, foundIn, foundNone, found, afterFound, getFrom}
+use Rattle.gets.specs.Gets.{passed, lookedAt, wordsGiven, slotAfter, foundIn, foundNone, found, afterFound, getFrom}
 use Rattle.gets.specs.Histories.{shown}
 use Rattle.pool.proofs.Facts.{Sound}
 use Rattle.pool.proofs.Changes.{numbers, passed-sound}
 use Rattle.output.proofs.Written.{part-join}
-use Rattle.ledger.specs.Ledgers.{Item, word, wrong, wrongs, givenBy, pastUsed, without}
+use Rattle.ledger.specs.Ledgers.{Item, word, wrong, givenBy, pastUsed, without}
 use Rattle.ledger.specs.Blocks.{unreadIn}
 use Rattle.ledger.specs.Told.{Brought}
 use Rattle.ledger.proofs.Lists.{map-append}

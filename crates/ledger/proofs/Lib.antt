@@ -8,6 +8,7 @@ pub mod Frames
 pub mod Moves
 pub mod Starts
 pub mod Booked
+pub mod Deliveries
 pub mod Reported
 pub mod Always
 pub mod Shown

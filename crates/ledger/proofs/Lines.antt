@@ -1,9 +1,9 @@
 -- The full blocks of a sound file where the area changes beside them: they lie as they did. Assumes nothing.
-use mathlib.Core.Path.{_≡_, refl, sym, ap, ap₂, _∙_}
+use mathlib.Core.Path.{_≡_, refl, sym, ap, _∙_}
 use mathlib.Core.Logic.{_≢_}
 use mathlib.Core.Bool.{Bool, true, false, _&&_}
 use mathlib.Core.List.{List, [], _∷_, _++_, map}
-use Prim.Native.Nat.{ℕ, zero, suc, _+_, _-_, _*_, _≤_, _<_}
+use Prim.Native.Nat.{ℕ, zero, suc, _+_, _-_, _*_, _≤_}
 use native.Mathlib.Omega.{arith}
 use borrow.Author.Tests.{ltb-true}
 use lib.Dec.{ltb}
@@ -29,7 +29,7 @@ use Rattle.pool.proofs.Changes.{numbers}
 use Rattle.pool.proofs.Inside.{size-fits}
 use Rattle.output.specs.Only.{Only}
 use Rattle.output.proofs.Written.{other-buffer}
-use Rattle.ledger.specs.Ledgers.{Item, word, wrongs}
+use Rattle.ledger.specs.Ledgers.{word, wrongs}
 use Rattle.ledger.specs.Blocks.{blockIn, unreadIn, blocksIn, unreadOf}
 use Rattle.ledger.specs.Told.{All, none, more}
 use Rattle.ledger.proofs.Lists.{all-append, map-same}

@@ -1,29 +1,20 @@
 -- Each accepted call but report keeps what holds of every open file and its ledger. Assumes nothing.
-use mathlib.Core.Path.{_≡_, refl, sym, ap, ap₂, subst, _∙_}
+use mathlib.Core.Path.{_≡_, refl, sym, ap₂, subst}
 use mathlib.Core.Logic.{_≢_}
 use mathlib.Core.Bool.{Bool, true, false, cond}
-use mathlib.Core.List.{List, [], _∷_, _++_}
-use Prim.Native.Nat.{ℕ, zero, suc, _+_, _*_}
+use mathlib.Core.List.{List, _++_}
+use Prim.Native.Nat.{ℕ, _+_}
 use lib.Dec.{eqb, ltb}
-use lib.ListN.{length, getD, replicate}
+use lib.ListN.{length}
 use borrow.Author.Tests.{eq-eqb, ne-eqb}
-use Rattle.area.proofs.Walks.{true-not-false}
 use Rattle.area.proofs.Marks.{cond-true, cond-false}
-use Rattle.files.specs.declared.Slot.{Slot}
-use Rattle.files.specs.declared.Slot.the-variants.{Empty, Taken, Part, Full}
-use Rattle.files.specs.declared.Side.{Side}
+use Rattle.files.specs.declared.Slot.the-variants.{Empty, Part, Full}
 use Rattle.files.specs.declared.File.{File}
-use Rattle.files.specs.Slots.{isEmpty, isPart}
-use Rattle.files.specs.Sides.{bufferAt, slotAt, isSide, emptySide, partSide, oldest, withSlot, turnedBy, nextBlock, filledAt, emptiedAt, withoutOldest}
-use Rattle.files.specs.Opening.{openedFile, closedFile}
-use Rattle.files.specs.Input.{tookBuffer}
+use Rattle.files.specs.Sides.{bufferAt, slotAt, isSide, partSide, oldest, withSlot, turnedBy, nextBlock, filledAt, emptiedAt, withoutOldest}
 use Rattle.files.specs.Output.{putSide, wordsAfter, partStart, partLength, sealed, afterPut}
-use Rattle.files.specs.Blocks.{line}
-use Rattle.files.proofs.Ages.{took-line}
-use Rattle.files.proofs.Which.{empty-there}
 use Rattle.gets.specs.Gets.{isUsedUp, passed, lookedAt, slotAfter, afterFound, getFrom}
 use Rattle.pool.proofs.Facts.{Sound}
-use Rattle.pool.proofs.Puts.{PutAt, put-at, put-is}
+use Rattle.pool.proofs.Puts.{put-at, put-is}
 use Rattle.pool.proofs.Changes.{own-part}
 use Rattle.state.specs.declared.State.{State}
 use Rattle.state.specs.Places.{fileAt}
@@ -37,9 +28,9 @@ use Rattle.input.proofs.SkipTheorems.{skip-open, skip-input, skip-full, skip-dr
 use Rattle.output.proofs.PutTheorems.{put-open, put-output, put-room, put-file, put-own-buffer, put-adds, put-seals, put-frame}
 use Rattle.output.proofs.SealTheorems.{seal-open, seal-output, seal-part, seal-file, seal-own-buffer, seal-seals, seal-frame}
 use Rattle.histories.specs.Calls.{get, put, seal, skip, answerOf}
-use Rattle.histories.proofs.Kept.{Good, call-kept}
-use Rattle.ledger.specs.Ledgers.{Item, Ledger, given, givenBy, pastUsed, without, withGet, withPut, withSkip}
-use Rattle.ledger.specs.Told.{Wrote, Brought, Told}
+use Rattle.histories.proofs.Kept.{call-kept}
+use Rattle.ledger.specs.Ledgers.{Item, Ledger, givenBy, pastUsed, without, withGet, withPut, withSkip}
+use Rattle.ledger.specs.Told.{Brought, Told}
 use Rattle.ledger.proofs.Sides.{Same, same-self, same-then, slot-same}
 use Rattle.ledger.proofs.Writes.{put-wrote, seal-wrote}
 use Rattle.ledger.proofs.Brings.{skip-brought}

@@ -1,8 +1,8 @@
 -- What a ledger says of blocks as a reader meets them: those shown, those that lie in the area, their data words and their numbers.
 -- Assumes nothing.
-use mathlib.Core.Path.{_≡_, refl, sym, ap, ap₂, subst, _∙_}
+use mathlib.Core.Path.{_≡_, refl, sym, ap, ap₂, _∙_}
 use mathlib.Core.Bool.{Bool, true, false, cond, _||_}
-use mathlib.Core.List.{List, [], _∷_, _++_, map, append-assoc, append-nil}
+use mathlib.Core.List.{List, [], _∷_, _++_, map, append-assoc}
 use Prim.Native.Nat.{ℕ, suc, _+_, _-_, _%_, _<_}
 use native.Mathlib.Nat.{mod-add-mod, mod-lt, mod-eq-of-lt}
 use native.Mathlib.Omega.{arith}
@@ -12,7 +12,6 @@ use Rattle.word.specs.Sums.{logicalSum}
 use Rattle.word.specs.CheckWords.{checkWord}
 use Rattle.files.specs.declared.File.{File}
 use Rattle.files.specs.Sides.{blockNumbers, nextBlock}
-use Rattle.files.specs.Opening.{extra}
 use Rattle.ledger.specs.Ledgers.{dataOf}
 use Rattle.ledger.specs.Blocks.{blocksIn, partIn, checked, allChecked, joined, numberAfter}
 use Rattle.ledger.specs.Told.{Wrote}

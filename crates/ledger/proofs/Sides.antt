@@ -7,7 +7,6 @@ use native.Mathlib.Omega.{arith}
 use lib.Dec.{ltb}
 use Rattle.area.specs.Parts.{partOf}
 use Rattle.area.proofs.Walks.{true-not-false}
-use Rattle.area.proofs.Marks.{cond-true, cond-false}
 use Rattle.files.specs.declared.Slot.{Slot}
 use Rattle.files.specs.declared.Slot.the-variants.{Empty, Taken, Part, Full}
 use Rattle.files.specs.declared.Side.{Side}
@@ -15,7 +14,7 @@ use Rattle.files.specs.declared.Side.the-variants.{Low, High, Neither}
 use Rattle.files.specs.declared.File.{File}
 use Rattle.files.specs.Slots.{isEmpty, isPart, isFull, partWords}
 use Rattle.files.specs.Sides.{bufferAt, slotAt, startAt, isSide, lower, emptySide, partSide, withSlot}
-use Rattle.files.specs.Output.{putSide, wordsAfter, added, partStart, partLength, isComplete}
+use Rattle.files.specs.Output.{putSide, partStart, partLength, isComplete}
 use Rattle.files.specs.Blocks.{fullIn, fullAt}
 use Rattle.files.proofs.Which.{empty-there, part-there}
 use Rattle.pool.proofs.Facts.{Sound}

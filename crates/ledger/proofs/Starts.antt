@@ -1,13 +1,9 @@
 -- Fresh start, open, close, ask, freeze and thaw keep what holds of every open file and its ledger. Assumes nothing.
 use mathlib.Core.Path.{_≡_, refl, sym, ap, subst, _∙_}
-use mathlib.Core.Logic.{_≢_}
 use mathlib.Core.Bool.{Bool, true, false, cond}
-use mathlib.Core.List.{List, [], _∷_}
+use mathlib.Core.List.{List, []}
 use Prim.Native.Nat.{ℕ, zero, suc}
-use native.Mathlib.Omega.{arith}
-use lib.Dec.{eqb}
 use lib.ListN.{length, getD, replicate}
-use Rattle.area.specs.Refusals.{lowest}
 use Rattle.area.proofs.Walks.{true-not-false}
 use Rattle.files.specs.declared.Slot.{Slot}
 use Rattle.files.specs.declared.Slot.the-variants.{Empty, Taken, Part, Full}
@@ -37,16 +33,16 @@ use Rattle.opening.proofs.OpenTheorems.{lowOf, highOf, open-file, open-frame}
 use Rattle.opening.proofs.CloseTheorems.{close-file, close-frame}
 use Rattle.opening.proofs.FreezeTheorems.{OnlyTurns, freeze-frame, thaw-frame}
 use Rattle.requests.specs.declared.AskChange.{AskChange}
-use Rattle.requests.specs.Ask.{isReading, askRefusal, askedFile, askedChannel, askOn, askWrong, askChange, askBy}
+use Rattle.requests.specs.Ask.{isReading, askRefusal, askedFile, askWrong, askChange, askBy}
 use Rattle.requests.proofs.Found.{ask-taken}
 use Rattle.requests.proofs.Changed.{here-file}
-use Rattle.requests.proofs.AskTheorems.{AskReady, ask-ready, ask-exactly, ask-frame}
-use Rattle.histories.specs.Calls.{fresh, opening, close, ask, freeze, thaw, answerOf}
+use Rattle.requests.proofs.AskTheorems.{ask-ready, ask-exactly, ask-frame}
+use Rattle.histories.specs.Calls.{opening, close, ask, freeze, thaw, answerOf}
 use Rattle.histories.proofs.Kept.{Good, call-kept}
 use Rattle.ledger.specs.Ledgers.{Ledger, newLedger, blankLedger, withClose}
-use Rattle.ledger.specs.Blocks.{partIn, allChecked, joined, contents, numberAfter}
+use Rattle.ledger.specs.Blocks.{allChecked, joined, contents, numberAfter}
 use Rattle.ledger.specs.Told.{none, Told}
-use Rattle.ledger.proofs.Sides.{Same, same-self, slot-same, block-stays, part-stays}
+use Rattle.ledger.proofs.Sides.{slot-same, block-stays, part-stays}
 use Rattle.ledger.proofs.Frames.{told-still, told-closed, Kept, kept-file}
 use Rattle.ledger.proofs.Moves.{entering, entering-other, entering-here}
 

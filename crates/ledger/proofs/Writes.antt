@@ -7,7 +7,7 @@ use borrow.Author.Tests.{le-leb}
 use lib.Dec.{ltb}
 use Rattle.area.specs.Parts.{partOf}
 use Rattle.area.proofs.Walks.{true-not-false}
-use Rattle.area.proofs.Marks.{cond-true, cond-false}
+use Rattle.area.proofs.Marks.{cond-true}
 use Rattle.files.specs.declared.Slot.the-variants.{Empty, Part, Full}
 use Rattle.files.specs.declared.Side.{Side}
 use Rattle.files.specs.declared.Side.the-variants.{Neither}
@@ -19,12 +19,12 @@ use Rattle.files.specs.Output.{putSide, wordsAfter, added, partStart, partLengt
 use Rattle.files.specs.Blocks.{Block, line}
 use Rattle.files.proofs.Ages.{block, young, Aged, noBlock, old, aged, added-line}
 use Rattle.pool.proofs.Facts.{Sound}
-use Rattle.pool.proofs.Kept.{other, owns}
+use Rattle.pool.proofs.Kept.{owns}
 use Rattle.pool.proofs.Puts.{PutAt, put-at, put-is}
 use Rattle.output.specs.Only.{Only}
 use Rattle.output.proofs.Buffers.{part-first, room-too}
 use Rattle.output.proofs.Fillings.{withCheck}
-use Rattle.ledger.specs.Blocks.{blockIn, blocksIn, partIn, checked, allChecked, joined, numberAfter}
+use Rattle.ledger.specs.Blocks.{blockIn, blocksIn, partIn, checked, allChecked, joined}
 use Rattle.ledger.specs.Told.{Wrote}
 use Rattle.ledger.proofs.Lists.{joined-last, checked-last, number-last, map-append}
 use Rattle.ledger.proofs.Lines.{blocks-same, beside}
