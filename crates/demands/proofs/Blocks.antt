@@ -31,7 +31,8 @@ module _ (s : State) (area : List ℕ) (ledgers : ℕ → Ledger) (K : Kept s ar
           words = wrote-words (s .w) (fileAt s i) area (ledgers i .puts) (ledgers i .sent) T;
         }
 
-    pub ledger-closed : fileAt s i .output ≡ true → answerOf s area (close i) .refusal ≡ 0 → joined (dataIn (fileAt s i) (ledgers i .sent)) ≡ ledgers i .puts
+    pub ledger-closed : fileAt s i .output ≡ true → answerOf s area (close i) .refusal ≡ 0
+        → joined (dataIn (fileAt s i) (ledgers i .sent)) ≡ ledgers i .puts
     unfolding answerOf
     ledger-closed u z = sent-all (fileAt s i) u (close-unsent s i z) (s .w) area (ledgers i .puts) (ledgers i .sent) (K .told i .wrote o u)
 

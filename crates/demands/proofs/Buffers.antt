@@ -29,7 +29,8 @@ use Rattle.demands.specs.Demands.{Holds, Frees, Takes, Books}
 pub good-holds : (s : State) → Good s → Holds s
 good-holds s g = record { right = g .right; once = held-once s (g .right); all = free-and-held s (g .right) }
 
-pub closed-frees : (s : State) (area : List ℕ) (file : ℕ) → answerOf s area (close file) .refusal ≡ 0 → Frees s file (answerOf s area (close file) .state)
+pub closed-frees : (s : State) (area : List ℕ) (file : ℕ) → answerOf s area (close file) .refusal ≡ 0
+    → Frees s file (answerOf s area (close file) .state)
 unfolding answerOf
 closed-frees s area file e = record { free = close-frees s file e }
 
@@ -41,7 +42,8 @@ held-alone s h b i j p q = go (ℕ-discrete i j)
     go (yes e) = e
     go (no ne) = true-not-false q (apart-holds b (fileAt s j) (fileAt s i) (sound-facts s h .apart j i (λ e. ne (sym e))) p)
 
-pub opened-takes : (s : State) (area : List ℕ) (file channel unit flags size rlen : ℕ) → Good s → answerOf s area (opening file channel unit flags size rlen) .refusal ≡ 0
+pub opened-takes : (s : State) (area : List ℕ) (file channel unit flags size rlen : ℕ) → Good s
+    → answerOf s area (opening file channel unit flags size rlen) .refusal ≡ 0
     → Takes s file (answerOf s area (opening file channel unit flags size rlen) .state)
 unfolding answerOf openedFile
 opened-takes s area file channel unit flags size rlen g e =
@@ -51,12 +53,23 @@ opened-takes s area file channel unit flags size rlen g e =
       high =
           subst (λ (x : File). x .double ≡ true → Lowest (s .m) (s .files) (x .low .number + 1) (x .high .number)) (sym f)
           (λ d. subst (Lowest (s .m) (s .files) (lowOf s + 1)) (sym (cond-true (highOf s) 0 d)) (open-next s file channel unit flags size rlen e d));
-      alone = λ b i. held-alone (openBy s file channel unit flags size rlen .state) (open-sound s file channel unit flags size rlen e (g .sixteen)) b i file;
+      alone =
+          λ b i. held-alone (openBy s file channel unit flags size rlen .state) (open-sound s file channel unit flags size rlen e (g .sixteen)) b i
+          file;
     }
 
-pub reported-books : (s : State) (area : List ℕ) (channel unit outcome : ℕ) (words : List ℕ) → Good s → answerOf s area (report channel unit outcome words) .refusal ≡ 0
+pub reported-books : (s : State) (area : List ℕ) (channel unit outcome : ℕ) (words : List ℕ) → Good s
+    → answerOf s area (report channel unit outcome words) .refusal ≡ 0
     → Books s channel unit (answerOf s area (report channel unit outcome words) .state)
 unfolding answerOf
 reported-books s area channel unit outcome words g e =
     let B = report-books-own s area channel unit outcome words (g .sixteen) e in
-    record { file = fileOf s channel unit; works = B .works; bound = B .bound; only = B .only; files = B .others .files; channels = B .others .channels }
+    record {
+      file = fileOf s channel unit;
+      works = B .works;
+      bound = B .bound;
+      only = B .only;
+      files = B .others .files;
+      channels = B .others
+          .channels;
+    }

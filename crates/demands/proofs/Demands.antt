@@ -111,6 +111,7 @@ module _ (s₀ : State) (area₀ : List ℕ) (m w : ℕ) (masks : Masks) (starte
   pub demand3 : (before : List Lent) → count freshStart start before ≡ 0
       → (file op priority : ℕ) (area : List ℕ) → isPriority priority ≡ false → answerOf (after start before) area (ask file op priority) .refusal ≡ 0
       → (later : List Lent) → count freshStart (answerOf (after start before) area (ask file op priority) .state) later ≡ 0
-      → Answers (declaredOn start (fileAt (after start before) file .channel)) (fileAt (after start before) file .channel) (fileAt (after start before) file .unit)
+      → Answers (declaredOn start (fileAt (after start before) file .channel)) (fileAt (after start before) file .channel)
+      (fileAt (after start before) file .unit)
       (after start before) (answerOf (after start before) area (ask file op priority) .state) later
   demand3 = answered s₀ area₀ m w masks started

@@ -27,7 +27,8 @@ use Rattle.histories.proofs.Turns.{fresh-declared, turns-kept}
 use Rattle.demands.specs.Demands.{Answers}
 
 -- in the pack's words
-in-words : (U c u : ℕ) (s d : State) (later : List Lent) → Good d → count freshStart d later ≡ 0 → KeptIn (packAround c) U u s d later → Answers U c u s d later
+in-words : (U c u : ℕ) (s d : State) (later : List Lent) → Good d → count freshStart d later ≡ 0 → KeptIn (packAround c) U u s d later
+    → Answers U c u s d later
 in-words U c u s d later g z K =
     let a = count-same c (answerFor c u) (anAnswerTo u) (answer-matches c u) d later g z in
     let r = count-same c (requestOf c u) (aRequestOf u) (request-matches c u) d later g z in
@@ -37,7 +38,9 @@ in-words U c u s d later g z K =
       once = let k = K .once in omega arith;
       alive = λ e. subst (λ (t : State). isAlive (stationAt c t) ≡ true) (run-same c d later z) (K .alive (a ∙ e));
       sole = λ e. let k = K .sole (a ∙ e) in omega arith;
-      soon = λ e. let k = K .soon (a ∙ e) in subst (λ (i : ℕ). count (reportOn c) d later < mostReports * (U + (urgentIn (channelAt s c) + i))) p (omega arith);
+      soon =
+          λ e. let k = K .soon (a ∙ e) in subst (λ (i : ℕ). count (reportOn c) d later < mostReports * (U + (urgentIn (channelAt s c) + i))) p
+          (omega arith);
     }
 
 -- in the states that the calls lead to
@@ -58,28 +61,34 @@ module _ (c m w : ℕ) (masks : Masks) (u : ℕ) (op : Op) (x : Lent) (before la
   from-start : (start : State) → start ≡ freshState m w masks → Good start → count freshStart start before ≡ 0 → Kept start
   from-start start e = subst (λ (t : State). Good t → count freshStart t before ≡ 0 → Kept t) (sym e) from-fresh
 
-module _ (s₀ : State) (area₀ : List ℕ) (m w : ℕ) (masks : Masks) (started : answerOf s₀ area₀ (fresh m w masks) .refusal ≡ 0) (before : List Lent) where
-  -- what the fresh start leaves, and the state in which the request is made
-  abbrev pub start : State
-  start = answerOf s₀ area₀ (fresh m w masks) .state
+module _ (s₀ : State) (area₀ : List ℕ) (m w : ℕ) (masks : Masks) (started : answerOf s₀ area₀ (fresh m w masks) .refusal ≡ 0) (before : List Lent)
+  where
+    -- what the fresh start leaves, and the state in which the request is made
+    abbrev pub start : State
+    start = answerOf s₀ area₀ (fresh m w masks) .state
 
-  abbrev pub s : State
-  s = after start before
+    abbrev pub s : State
+    s = after start before
 
-  start-is : start ≡ freshState m w masks
-  unfolding answerOf
-  start-is = fresh-accepted s₀ _ m w masks started
+    start-is : start ≡ freshState m w masks
+    unfolding answerOf
+    start-is = fresh-accepted s₀ _ m w masks started
 
-  module _ (noSecond : count freshStart start before ≡ 0) (file op priority : ℕ) (area : List ℕ) (ordinary : isPriority priority ≡ false)
-      (asked : answerOf s area (ask file op priority) .refusal ≡ 0) (later : List Lent)
-      (noLater : count freshStart (answerOf s area (ask file op priority) .state) later ≡ 0) where
-    seen-ask : seen (fileAt s file .channel) s area (ask file op priority) ≡ some (record { event = history.ask (fileAt s file .unit) (opOf op) false; answer = accepted })
-    seen-ask = rw (eq-eqb (answerOf s area (ask file op priority) .refusal) 0 asked, eq-eqb (fileAt s file .channel) (fileAt s file .channel) refl, ordinary)
+    module _ (noSecond : count freshStart start before ≡ 0) (file op priority : ℕ) (area : List ℕ) (ordinary : isPriority priority ≡ false)
+        (asked : answerOf s area (ask file op priority) .refusal ≡ 0) (later : List Lent)
+        (noLater : count freshStart (answerOf s area (ask file op priority) .state) later ≡ 0) where
+      seen-ask : seen (fileAt s file .channel) s area (ask file op priority)
+          ≡ some (record { event = history.ask (fileAt s file .unit) (opOf op) false; answer = accepted })
+      seen-ask =
+          rw (eq-eqb (answerOf s area (ask file op priority) .refusal) 0 asked, eq-eqb (fileAt s file .channel) (fileAt s file .channel) refl, ordinary)
 
-    pub answered : Answers (declaredOn start (fileAt s file .channel)) (fileAt s file .channel) (fileAt s file .unit) s (answerOf s area (ask file op priority) .state) later
-    unfolding Kept
-    answered =
-        let g = good-start s₀ area₀ m w masks started in
-        in-words (declaredOn start (fileAt s file .channel)) (fileAt s file .channel) (fileAt s file .unit) s (answerOf s area (ask file op priority) .state) later
-        (call-kept s area (history-kept start before g) (ask file op priority)) noLater
-        (from-start (fileAt s file .channel) m w masks (fileAt s file .unit) (opOf op) (record { call = ask file op priority; area = area }) before later start start-is g noSecond seen-ask)
+      pub answered : Answers (declaredOn start (fileAt s file .channel)) (fileAt s file .channel) (fileAt s file .unit) s
+          (answerOf s area (ask file op priority) .state) later
+      unfolding Kept
+      answered =
+          let g = good-start s₀ area₀ m w masks started in
+          in-words (declaredOn start (fileAt s file .channel)) (fileAt s file .channel) (fileAt s file .unit) s
+          (answerOf s area (ask file op priority) .state) later
+          (call-kept s area (history-kept start before g) (ask file op priority)) noLater
+          (from-start (fileAt s file .channel) m w masks (fileAt s file .unit) (opOf op) (record { call = ask file op priority; area = area }) before
+          later start start-is g noSecond seen-ask)

@@ -80,7 +80,8 @@ module _ (c : ℕ) where
   Matches kind event = (s : State) (area : List ℕ) → kept.Good s → (call : Call)
       → countShown event (seen c s area call) ≡ oneIf (isAccepted (answerOf s area call) && kind s call (answerOf s area call))
 
-  pub count-same : (kind : State → Call → Answer → Bool) (event : history.Event → history.Answer → Bool) → Matches kind event → (s : State) (h : List Lent)
+  pub count-same : (kind : State → Call → Answer → Bool) (event : history.Event → history.Answer → Bool) → Matches kind event
+      → (s : State) (h : List Lent)
       → kept.Good s → count freshStart s h ≡ 0 → countIn (packAround c) event s h ≡ count kind s h
   unfolding countIn count Matches
   count-same kind event m s [] g z = refl

@@ -30,7 +30,8 @@ use Rattle.histories.proofs.Around.{Matches}
 module _ (c : ℕ) where
   -- ---- what an event counts for
 
-  shown-if : (event : history.Event → history.Answer → Bool) (b : Bool) (e : history.Event) (a : history.Answer) → countShown event (eventIf b e a) ≡ oneIf (b && event e a)
+  shown-if : (event : history.Event → history.Answer → Bool) (b : Bool) (e : history.Event) (a : history.Answer)
+      → countShown event (eventIf b e a) ≡ oneIf (b && event e a)
   shown-if event true e a = go (event e a)
     where
       go : (b : Bool) → history.oneIf b ≡ oneIf b
@@ -60,27 +61,36 @@ module _ (c : ℕ) where
     report-seen : (event : history.Event → history.Answer → Bool) (channel unit outcome : ℕ) (words : List ℕ) (kind : Bool)
         → (reportBy s area channel unit outcome words .refusal ≡ 0
         → (eqb channel c && event (history.report unit outcome) (reportAnswer (judgeOf (channelAt s channel) unit outcome))) ≡ kind)
-        → countShown event (seen c s area (report channel unit outcome words)) ≡ oneIf (isAccepted (answerOf s area (report channel unit outcome words)) && kind)
+        → countShown event (seen c s area (report channel unit outcome words))
+        ≡ oneIf (isAccepted (answerOf s area (report channel unit outcome words)) && kind)
     unfolding answerOf
     report-seen event channel unit outcome words kind e =
         shown-if event (isAccepted (answerOf s area (report channel unit outcome words)) && eqb channel c) _ _
-        ∙ split (isAccepted (answerOf s area (report channel unit outcome words))) (eqb channel c) _ kind (λ a. e (eqb-true (reportBy s area channel unit outcome words .refusal) 0 a))
+        ∙ split (isAccepted (answerOf s area (report channel unit outcome words))) (eqb channel c) _ kind
+        (λ a. e (eqb-true (reportBy s area channel unit outcome words .refusal) 0 a))
 
-    every-seen : (event : history.Event → history.Answer → Bool) (b : Bool) (e : history.Event) → event e accepted ≡ false → countShown event (eventIf b e accepted) ≡ oneIf (b && false)
+    every-seen : (event : history.Event → history.Answer → Bool) (b : Bool) (e : history.Event) → event e accepted ≡ false
+        → countShown event (eventIf b e accepted) ≡ oneIf (b && false)
     every-seen event b e f = shown-if event b e accepted ∙ ap (λ (x : Bool). oneIf (b && x)) f
 
     -- a test of reports, and one of asks, that is what the channel's own test says of its event
-    module _ (event : history.Event → history.Answer → Bool) (quietly : event history.freeze accepted ≡ false) (thaws : event history.thaw accepted ≡ false) where
+    module _ (event : history.Event → history.Answer → Bool) (quietly : event history.freeze accepted ≡ false)
+        (thaws : event history.thaw accepted ≡ false) where
       reports-match : (test : Answer → ℕ → ℕ → Bool) → ((u : ℕ) (op : Op) (p : Bool) → event (history.ask u op p) accepted ≡ false)
           → ((channel unit outcome : ℕ) (words : List ℕ) → reportBy s area channel unit outcome words .refusal ≡ 0
-          → (eqb channel c && event (history.report unit outcome) (reportAnswer (judgeOf (channelAt s channel) unit outcome))) ≡ test (answerOf s area (report channel unit outcome words)) channel unit)
-          → (call : Call) → countShown event (seen c s area call) ≡ oneIf (isAccepted (answerOf s area call) && ofReport (test (answerOf s area call)) call)
+          → (eqb channel c && event (history.report unit outcome) (reportAnswer (judgeOf (channelAt s channel) unit outcome)))
+          ≡ test (answerOf s area (report channel unit outcome words)) channel unit)
+          → (call : Call) → countShown event (seen c s area call)
+          ≡ oneIf (isAccepted (answerOf s area call) && ofReport (test (answerOf s area call)) call)
       reports-match test asks e (fresh m w masks) = unseen (fresh m w masks)
       reports-match test asks e (opening file channel unit flags size rlen) = unseen (opening file channel unit flags size rlen)
       reports-match test asks e (close file) = unseen (close file)
       reports-match test asks e (ask file op priority) =
-          ask-seen event file op priority false (ap (λ (b : Bool). eqb (fileAt s file .channel) c && b) (asks _ _ _) ∙ and-false (eqb (fileAt s file .channel) c))
-      reports-match test asks e (report channel unit outcome words) = report-seen event channel unit outcome words (test (answerOf s area (report channel unit outcome words)) channel unit) (e channel unit outcome words)
+          ask-seen event file op priority false
+          (ap (λ (b : Bool). eqb (fileAt s file .channel) c && b) (asks _ _ _) ∙ and-false (eqb (fileAt s file .channel) c))
+      reports-match test asks e (report channel unit outcome words) =
+          report-seen event channel unit outcome words (test (answerOf s area (report channel unit outcome words)) channel unit)
+          (e channel unit outcome words)
       reports-match test asks e (get file) = unseen (get file)
       reports-match test asks e (put file words) = unseen (put file words)
       reports-match test asks e (seal file) = unseen (seal file)
@@ -89,14 +99,17 @@ module _ (c : ℕ) where
       reports-match test asks e thaw = every-seen event (isAccepted (answerOf s area thaw)) history.thaw thaws
 
       asks-match : (test : ℕ → ℕ → Bool) → ((u o : ℕ) (a : history.Answer) → event (history.report u o) a ≡ false)
-          → ((file op priority : ℕ) → (eqb (fileAt s file .channel) c && event (history.ask (fileAt s file .unit) (opOf op) (isPriority priority)) accepted) ≡ test file priority)
+          → ((file op priority : ℕ)
+          → (eqb (fileAt s file .channel) c && event (history.ask (fileAt s file .unit) (opOf op) (isPriority priority)) accepted)
+          ≡ test file priority)
           → (call : Call) → countShown event (seen c s area call) ≡ oneIf (isAccepted (answerOf s area call) && ofAsk test call)
       asks-match test reports e (fresh m w masks) = unseen (fresh m w masks)
       asks-match test reports e (opening file channel unit flags size rlen) = unseen (opening file channel unit flags size rlen)
       asks-match test reports e (close file) = unseen (close file)
       asks-match test reports e (ask file op priority) = ask-seen event file op priority (test file priority) (e file op priority)
       asks-match test reports e (report channel unit outcome words) =
-          report-seen event channel unit outcome words false (λ z. ap (λ (b : Bool). eqb channel c && b) (reports unit outcome _) ∙ and-false (eqb channel c))
+          report-seen event channel unit outcome words false
+          (λ z. ap (λ (b : Bool). eqb channel c && b) (reports unit outcome _) ∙ and-false (eqb channel c))
       asks-match test reports e (get file) = unseen (get file)
       asks-match test reports e (put file words) = unseen (put file words)
       asks-match test reports e (seal file) = unseen (seal file)

@@ -56,7 +56,8 @@ good-fresh s n m w masks g = go (ℕ-discrete (freshBy s n m w masks .refusal) 0
 module _ (s : State) (area : List ℕ) (g : Good s) where
   open-length : (file channel unit flags size rlen : ℕ) → length (openBy s file channel unit flags size rlen .state .files) ≡ length (s .files)
   unfolding openBy
-  open-length file channel unit flags size rlen = stored-length (eqb (openChange s file channel unit flags size rlen .refusal) 0) s file (openChange s file channel unit flags size rlen .file)
+  open-length file channel unit flags size rlen =
+      stored-length (eqb (openChange s file channel unit flags size rlen .refusal) 0) s file (openChange s file channel unit flags size rlen .file)
 
   close-length : (file : ℕ) → length (closeBy s file .state .files) ≡ length (s .files)
   unfolding closeBy
@@ -86,7 +87,8 @@ module _ (s : State) (area : List ℕ) (g : Good s) where
     sixteen = open-length file channel unit flags size rlen ∙ g .sixteen;
   }
   call-kept (close file) = record { right = close-kept s file (g .right); sixteen = close-length file ∙ g .sixteen }
-  call-kept (ask file op priority) = record { right = ask-kept s file op priority (g .right); sixteen = ask-frame s file op priority .fileCount ∙ g .sixteen }
+  call-kept (ask file op priority) =
+      record { right = ask-kept s file op priority (g .right); sixteen = ask-frame s file op priority .fileCount ∙ g .sixteen }
   call-kept (report channel unit outcome words) = record {
     right = report-kept s area channel unit outcome words (g .sixteen) (g .right);
     sixteen = report-frame s area channel unit outcome words .fileCount ∙ g .sixteen;
@@ -111,7 +113,8 @@ unfolding beforeStart
 good-before = record { right = before-start-sound; sixteen = refl }
 
 -- the state that an accepted fresh start leaves, whatever was passed to it
-pub good-start : (s : State) (area : List ℕ) (m w : ℕ) (masks : Masks) → answerOf s area (fresh m w masks) .refusal ≡ 0 → Good (answerOf s area (fresh m w masks) .state)
+pub good-start : (s : State) (area : List ℕ) (m w : ℕ) (masks : Masks) → answerOf s area (fresh m w masks) .refusal ≡ 0
+    → Good (answerOf s area (fresh m w masks) .state)
 unfolding answerOf freshState
 good-start s area m w masks e = record {
   right = fresh-kept s (length area) m w masks e;

@@ -33,7 +33,8 @@ use Rattle.output.proofs.SealTheorems.{seal-exactly, seal-refused}
 use Rattle.histories.specs.Calls.{Call, fresh, opening, close, ask, report, get, put, seal, skip, freeze, thaw, nothing, plainly, answerOf, numberAlone}
 use Rattle.histories.specs.Tables.{tableNumbers, isTableNumber, rowsOf}
 
-row-numbered : {n : ℕ} {b : Bool} {rows : Rows} → Row n b rows → allOf (λ (row : ℕ × Bool). isTableNumber (row .0)) rows ≡ true → isTableNumber n ≡ true
+row-numbered : {n : ℕ} {b : Bool} {rows : Rows} → Row n b rows → allOf (λ (row : ℕ × Bool). isTableNumber (row .0)) rows ≡ true
+    → isTableNumber n ≡ true
 unfolding allOf
 row-numbered {n} here e = and-left (isTableNumber n) _ e
 row-numbered (later {k} p) e = row-numbered p (and-right (isTableNumber k) _ e)

@@ -77,7 +77,8 @@ nextOf s area thaw = answerOf s area thaw .state
 
 -- ---- the channel's own step agrees
 
-same-station : (c : ℕ) (s : State) {cs : List Channel} {frozen : Bool} → cs ≡ s .channels → frozen ≡ s .frozen → station (channelIn cs c) frozen ≡ stationAt c s
+same-station : (c : ℕ) (s : State) {cs : List Channel} {frozen : Bool} → cs ≡ s .channels → frozen ≡ s .frozen
+    → station (channelIn cs c) frozen ≡ stationAt c s
 same-station c s {frozen = frozen} e k = ap (λ (xs : List Channel). station (channelIn xs c) frozen) e ∙ ap (station (channelAt s c)) k
 
 -- a thaw happens on every channel, and to what stands past the last it does nothing
@@ -107,7 +108,8 @@ module _ (c : ℕ) (s : State) (area : List ℕ) where
       go (yes e) = rw (eq-eqb (thawBy s .refusal) 0 e, thaw-state s e, thaw-each (s .channels) c)
       go (no h) = rw (ne-eqb (thawBy s .refusal) 0 h, thaw-refused s h)
 
-  ask-agrees : (file op priority : ℕ) → Agrees (stationAt c s) (seen c s area (ask file op priority)) (stationAt c (answerOf s area (ask file op priority) .state))
+  ask-agrees : (file op priority : ℕ)
+      → Agrees (stationAt c s) (seen c s area (ask file op priority)) (stationAt c (answerOf s area (ask file op priority) .state))
   unfolding answerOf
   ask-agrees file op priority = go (ℕ-discrete (askBy s file op priority .refusal) 0) (ℕ-discrete (fileAt s file .channel) c)
     where
@@ -117,7 +119,8 @@ module _ (c : ℕ) (s : State) (area : List ℕ) where
       go : Dec (askBy s file op priority .refusal ≡ 0) → Dec (fileAt s file .channel ≡ c) → To
       go (yes e) (yes k) =
           rw (eq-eqb (askBy s file op priority .refusal) 0 e, eq-eqb (fileAt s file .channel) c k) (subst (λ (d : ℕ). Agrees (stationAt d s)
-          (some (record { event = history.ask (fileAt s file .unit) (opOf op) (isPriority priority); answer = accepted })) (stationAt d (askBy s file op priority .state))) k
+          (some (record { event = history.ask (fileAt s file .unit) (opOf op) (isPriority priority); answer = accepted }))
+          (stationAt d (askBy s file op priority .state))) k
           (ask-event s file op priority e))
       go (yes e) (no k) =
           let F = ask-frame s file op priority in
@@ -126,17 +129,21 @@ module _ (c : ℕ) (s : State) (area : List ℕ) where
 
   module _ (g : Good s) where
     report-agrees : (channel unit outcome : ℕ) (words : List ℕ)
-        → Agrees (stationAt c s) (seen c s area (report channel unit outcome words)) (stationAt c (answerOf s area (report channel unit outcome words) .state))
+        → Agrees (stationAt c s) (seen c s area (report channel unit outcome words))
+        (stationAt c (answerOf s area (report channel unit outcome words) .state))
     unfolding answerOf
     report-agrees channel unit outcome words = go (ℕ-discrete (reportBy s area channel unit outcome words .refusal) 0) (ℕ-discrete channel c)
       where
         To : Type 0
-        To = Agrees (stationAt c s) (seen c s area (report channel unit outcome words)) (stationAt c (answerOf s area (report channel unit outcome words) .state))
+        To =
+            Agrees (stationAt c s) (seen c s area (report channel unit outcome words))
+            (stationAt c (answerOf s area (report channel unit outcome words) .state))
 
         go : Dec (reportBy s area channel unit outcome words .refusal ≡ 0) → Dec (channel ≡ c) → To
         go (yes e) (yes k) =
             rw (eq-eqb (reportBy s area channel unit outcome words .refusal) 0 e, eq-eqb channel c k)
-            (subst (λ (d : ℕ). Agrees (stationAt d s) (some (record { event = history.report unit outcome; answer = reportAnswer (judgeOf (channelAt s channel) unit outcome) }))
+            (subst (λ (d : ℕ). Agrees (stationAt d s)
+            (some (record { event = history.report unit outcome; answer = reportAnswer (judgeOf (channelAt s channel) unit outcome) }))
             (stationAt d (reportBy s area channel unit outcome words .state))) k
             (report-event s area channel unit outcome words (g .sixteen) e .event))
         go (yes e) (no k) =

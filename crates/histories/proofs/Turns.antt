@@ -62,8 +62,10 @@ fresh-declared m w k c = ap (λ (x : Channel). countOf (λ (y : Unit). y .declar
 -- ---- demand 3, as the system around channel c keeps it
 
 pub turns-kept : (c m w : ℕ) (k : Masks) → kept.Good (freshState m w k) → (before : List Lent) (u : ℕ) (op : Op) (x : Lent) (later : List Lent)
-    → seen c (runIn (packAround c) (freshState m w k) before) (x .area) (x .call) ≡ some (record { event = history.ask u op false; answer = accepted })
+    → seen c (runIn (packAround c) (freshState m w k) before) (x .area) (x .call)
+    ≡ some (record { event = history.ask u op false; answer = accepted })
     → KeptIn (packAround c) (declaredIn (bitsOf k c)) u (runIn (packAround c) (freshState m w k) before)
     (packAround c .next (runIn (packAround c) (freshState m w k) before) x) later
 turns-kept c m w k g before u op x later =
-    demand3-lifted (packAround c) kept.Good good-next (λ s y z. call-agrees c s (y .area) z (y .call)) (bitsOf k c) (freshState m w k) g (fresh-station m w k c) before u op x later
+    demand3-lifted (packAround c) kept.Good good-next (λ s y z. call-agrees c s (y .area) z (y .call)) (bitsOf k c) (freshState m w k) g
+    (fresh-station m w k c) before u op x later

@@ -70,7 +70,14 @@ asked r area = record { refusal = r .refusal; added = working (r .working); show
 
 -- "the answer shows the block's words, check word last, as a part of the area"
 abbrev pub told : Reporting → List ℕ → Answer
-told r area = record { refusal = r .refusal; added = reported (r .result) (r .error) (r .working); shows = partOf (r .start) (r .count) area; state = r .state; area = area }
+told r area =
+    record {
+      refusal = r .refusal;
+      added = reported (r .result) (r .error) (r .working);
+      shows = partOf (r .start) (r .count) area;
+      state = r .state;
+      area = area;
+    }
 
 -- "the next r words, as a part of the area"
 abbrev pub given : Getting → List ℕ → List ℕ → Answer

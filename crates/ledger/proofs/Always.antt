@@ -34,19 +34,23 @@ module _ (s : State) (area : List ℕ) (ledgers : ℕ → Ledger) (K : Kept s ar
   accepted-kept thaw z = thaw-kept s area ledgers K
 
   -- a refused call enters no ledger and changes nothing
-  pub noted-kept : (call : Call) → Kept (answerOf s area call .state) (answerOf s area call .area) (λ i. noted i call (answerOf s area call) (ledgers i))
+  pub noted-kept : (call : Call)
+      → Kept (answerOf s area call .state) (answerOf s area call .area) (λ i. noted i call (answerOf s area call) (ledgers i))
   noted-kept call = go (ℕ-discrete (a .refusal) 0)
     where
       a : Answer
       a = answerOf s area call
 
       To : Bool → Type 0
-      To t = Kept (answerOf s area call .state) (answerOf s area call .area) (λ i. cond t (entered i call (answerOf s area call) (ledgers i)) (ledgers i))
+      To t =
+          Kept (answerOf s area call .state) (answerOf s area call .area)
+          (λ i. cond t (entered i call (answerOf s area call) (ledgers i)) (ledgers i))
 
       go : Dec (answerOf s area call .refusal ≡ 0) → To (isAccepted (answerOf s area call))
       go (yes z) = subst To (sym (eq-eqb (answerOf s area call .refusal) 0 z)) (accepted-kept call z)
       go (no h) =
-          subst To (sym (ne-eqb (answerOf s area call .refusal) 0 h)) (subst (λ (x : Answer). Kept (x .state) (x .area) ledgers) (sym (call-alone s area call h)) K)
+          subst To (sym (ne-eqb (answerOf s area call .refusal) 0 h))
+          (subst (λ (x : Answer). Kept (x .state) (x .area) ledgers) (sym (call-alone s area call h)) K)
 
 -- ---- every history in which the pack alone writes the area
 
@@ -55,7 +59,8 @@ pub always : (s : State) (area : List ℕ) (ledgers : ℕ → Ledger) → Kept s
 unfolding stateAfter areaAfter ledgerAfter
 always s area ledgers K [] = K
 always s area ledgers K (call ∷ calls) =
-    always (answerOf s area call .state) (answerOf s area call .area) (λ i. noted i call (answerOf s area call) (ledgers i)) (noted-kept s area ledgers K call) calls
+    always (answerOf s area call .state) (answerOf s area call .area) (λ i. noted i call (answerOf s area call) (ledgers i))
+    (noted-kept s area ledgers K call) calls
 
 -- from a fresh start
 pub started : (s : State) (area : List ℕ) (m w : ℕ) (masks : Masks) → answerOf s area (fresh m w masks) .refusal ≡ 0

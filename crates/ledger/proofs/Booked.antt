@@ -106,7 +106,9 @@ mark-line f = refl
 
 pub told-mark : (w : ℕ) (f : File) (xs : List ℕ) (L : Ledger) → Told w f xs L → Told w (metMark f) xs L
 unfolding metMark
-told-mark w f xs L T = told-still w (gaveBack f) (withMark (gaveBack f)) (mark-same (gaveBack f)) xs L (mark-line (gaveBack f)) (mark-part w (gaveBack f) xs) refl (told-back w f xs L T)
+told-mark w f xs L T =
+    told-still w (gaveBack f) (withMark (gaveBack f)) (mark-same (gaveBack f)) xs L (mark-line (gaveBack f)) (mark-part w (gaveBack f) xs) refl
+    (told-back w f xs L T)
 
 -- ---- a block that a write hands out
 
@@ -117,7 +119,8 @@ module _ (m w : ℕ) (f : File) (S : Sound m w f) (xs : List ℕ) (long : m * w 
     where
       go : (k : Side) → Aged f k → isSide k ≡ true → 1 ≤ fullWords (slotAt f k) + extra (f .sequence) (f .check)
       go Neither (noBlock e) s = true-not-false s refl
-      go k (old _ n at e rest s x l gone moved) t = let N = numbers m w f k n at e S x in let q : fullWords (slotAt f k) ≡ n = ap fullWords x in omega (arith, N .some)
+      go k (old _ n at e rest s x l gone moved) t =
+          let N = numbers m w f k n at e S x in let q : fullWords (slotAt f k) ≡ n = ap fullWords x in omega (arith, N .some)
 
   pub told-sent : f .opened ≡ true → f .output ≡ true → isSide (oldest f) ≡ true → Told w f xs L
       → Told w (withoutOldest f) xs (plus L (asBlock (partOf (sendStart w f) (sendWords f) xs)) [] [])
@@ -125,7 +128,8 @@ module _ (m w : ℕ) (f : File) (S : Sound m w f) (xs : List ℕ) (long : m * w 
       let inside = send-inside m w f S full in
       let long-block : length (partOf (sendStart w f) (sendWords f) xs) ≡ sendWords f = length-part (sendStart w f) (sendWords f) xs (omega arith) in
       told-out w f (withoutOldest f) (drop-same f) xs (plus L (asBlock (partOf (sendStart w f) (sendWords f) xs)) [] []) u (T .opened) (T .chose o)
-      (subst (λ (bs : List (List ℕ)). Wrote w (withoutOldest f) xs (L .puts) (L .sent ++ bs)) (sym (one-block (partOf (sendStart w f) (sendWords f) xs) (omega (arith, send-some full))))
+      (subst (λ (bs : List (List ℕ)). Wrote w (withoutOldest f) xs (L .puts) (L .sent ++ bs))
+      (sym (one-block (partOf (sendStart w f) (sendWords f) xs) (omega (arith, send-some full))))
       (send-wrote w f xs (L .puts) (L .sent) full (T .wrote o u)))
 
   -- ---- a block that is delivered
@@ -148,15 +152,21 @@ module _ (m w : ℕ) (f : File) (S : Sound m w f) (xs : List ℕ) (long : m * w 
         let bounds = fits-bounds f (length words) fits in
         let some : 1 ≤ length words = omega (arith, bounds .0) in
         let input = taken-input m w f S side in
-        let only = only-wider (startAt f w k) (length words) (startAt f w k) w xs zs (pasted-only (startAt f w k) words xs fit) (omega arith) (omega arith) in
+        let only = only-wider (startAt f w k) (length words) (startAt f w k) w xs zs (pasted-only (startAt f w k) words xs fit) (omega arith)
+        (omega arith) in
         let same = T .chose o in
-        told-in w f (delivered f size err) (slot-same f k (Full size 0 err) (turnedBy f k) (nextBlock (f .block))) zs (plus L [] (asBlock words) (owedFor (L .sequence) (L .check) err words)) input (T .opened) same
-        (subst (λ (bs : List (List ℕ)). Brought w (delivered f size err) zs (L .came ++ bs) (L .gone) (L .owed ++ owedFor (L .sequence) (L .check) err words)) (sym (one-block words some))
+        told-in w f (delivered f size err) (slot-same f k (Full size 0 err) (turnedBy f k) (nextBlock (f .block))) zs
+        (plus L [] (asBlock words) (owedFor (L .sequence) (L .check) err words)) input (T .opened) same
+        (subst (λ (bs : List (List ℕ)). Brought w (delivered f size err) zs (L .came ++ bs) (L .gone)
+        (L .owed ++ owedFor (L .sequence) (L .check) err words)) (sym (one-block words some))
         (subst (λ (bs : List (List Item)). Brought w (delivered f size err) zs (L .came ++ (words ∷ [])) (L .gone) (L .owed ++ bs))
-        (sym (one-owed (L .sequence) (L .check) err words some ∙ ap₂ (λ (s c : Bool). contentsOf s c err words ∷ []) (same .sequences) (same .checks)))
-        (brought-more w f (delivered f size err) xs zs (L .came) (L .gone) (L .owed) (slot-same f k (Full size 0 err) (turnedBy f k) (nextBlock (f .block))) (T .brought o input)
+        (sym (one-owed (L .sequence) (L .check) err words some ∙ ap₂ (λ (s c : Bool). contentsOf s c err words ∷ []) (same .sequences)
+        (same .checks)))
+        (brought-more w f (delivered f size err) xs zs (L .came) (L .gone) (L .owed)
+        (slot-same f k (Full size 0 err) (turnedBy f k) (nextBlock (f .block))) (T .brought o input)
         words (bufferAt f k .number) size (unread-same m w f S xs zs (beside m w f S k xs zs (own-taken m w f S side) (taken-no f .1) only))
-        (delivered-line f size err side) (slot-block f k (Full size 0 err) (turnedBy f k) (nextBlock (f .block)) side) (ap (λ (l : List ℕ). wrongs err ++ map word l) there))))
+        (delivered-line f size err side) (slot-block f k (Full size 0 err) (turnedBy f k) (nextBlock (f .block)) side)
+        (ap (λ (l : List ℕ). wrongs err ++ map word l) there))))
       where
         there : partOf (startAt f w (takenSide f) + 0) (size - 0) zs ≡ take size words
         there =

@@ -40,7 +40,8 @@ tail-all P x xs (more h p) = p
 head-all : {A : Type 0} (P : A → Type 0) (x : A) (xs : List A) → All P (x ∷ xs) → P x
 head-all P x xs (more h p) = h
 
-module _ (w : ℕ) (f g : File) (xs zs : List ℕ) (came : List (List ℕ)) (gone : List Item) (owed : List (List Item)) (A : Same f g) (T : Brought w f xs came gone owed) where
+module _ (w : ℕ) (f g : File) (xs zs : List ℕ) (came : List (List ℕ)) (gone : List Item) (owed : List (List Item)) (A : Same f g)
+    (T : Brought w f xs came gone owed) where
   same-contents : (bs : List (List ℕ)) → contents (f .sequence) (f .check) 1 bs ≡ contents (g .sequence) (g .check) 1 bs
   same-contents bs = ap₂ (λ (s c : Bool). contents s c 1 bs) (sym (A .sequence)) (sym (A .check))
 
@@ -56,8 +57,10 @@ module _ (w : ℕ) (f g : File) (xs zs : List ℕ) (came : List (List ℕ)) (gon
   -- a block is delivered
   pub brought-more : (ys : List ℕ) (b n : ℕ) → unreadOf w f zs ≡ unreadOf w f xs
       → line g ≡ line f ++ (block b n 0 (judged ys (f .sequence) (f .check) (f .block) .error) ∷ []) → g .block ≡ nextBlock (f .block)
-      → unreadIn w zs (block b n 0 (judged ys (f .sequence) (f .check) (f .block) .error)) ≡ contentsOf (f .sequence) (f .check) (judged ys (f .sequence) (f .check) (f .block) .error) ys
-      → Brought w g zs (came ++ (ys ∷ [])) gone (owed ++ (contentsOf (f .sequence) (f .check) (judged ys (f .sequence) (f .check) (f .block) .error) ys ∷ []))
+      → unreadIn w zs (block b n 0 (judged ys (f .sequence) (f .check) (f .block) .error))
+      ≡ contentsOf (f .sequence) (f .check) (judged ys (f .sequence) (f .check) (f .block) .error) ys
+      → Brought w g zs (came ++ (ys ∷ [])) gone
+      (owed ++ (contentsOf (f .sequence) (f .check) (judged ys (f .sequence) (f .check) (f .block) .error) ys ∷ []))
   brought-more ys b n still l e c = record {
     lies =
         ap₂ (λ (u : List (List Item)) (v : List Item). u ++ (v ∷ [])) (T .lies ∙ sym still) (sym c)
@@ -65,7 +68,8 @@ module _ (w : ℕ) (f g : File) (xs zs : List ℕ) (came : List (List ℕ)) (gon
     items =
         ap (λ (v : List Item). gone ++ v) (joined-last owed now) ∙ sym (append-assoc gone (joined owed) now)
         ∙ ap (λ (v : List Item). v ++ now) (T .items)
-        ∙ ap (λ (k : ℕ). contents (f .sequence) (f .check) 1 came ++ contentsOf (f .sequence) (f .check) (judged ys (f .sequence) (f .check) k .error) ys) (T .number)
+        ∙ ap (λ (k : ℕ). contents (f .sequence) (f .check) 1 came ++ contentsOf (f .sequence) (f .check) (judged ys (f .sequence) (f .check) k .error)
+        ys) (T .number)
         ∙ sym (contents-last (f .sequence) (f .check) 1 came ys) ∙ same-contents (came ++ (ys ∷ []));
     number = e ∙ ap nextBlock (T .number) ∙ sym (number-last 1 came ys);
     untold = subst (All UntoldFirst) (sym l) (all-append UntoldFirst (line f) (new ∷ []) (T .untold) (more (inr refl) none));
@@ -96,11 +100,13 @@ module _ (w : ℕ) (f g : File) (xs zs : List ℕ) (came : List (List ℕ)) (gon
       )
 
   -- some of the oldest block is given
-  pub brought-given : (b c : Block) (rest : List Block) (now : List Item) → line f ≡ b ∷ rest → line g ≡ c ∷ rest → g .block ≡ f .block → UntoldFirst c
+  pub brought-given : (b c : Block) (rest : List Block) (now : List Item) → line f ≡ b ∷ rest → line g ≡ c ∷ rest → g .block ≡ f .block
+      → UntoldFirst c
       → unreadIn w xs b ≡ now ++ unreadIn w xs c → Brought w g xs came (gone ++ now) (without (length now) owed)
   unfolding joined
   brought-given b c rest now l r n first u =
-      let z : owed ≡ (now ++ unreadIn w xs c) ∷ map (unreadIn w xs) rest = T .lies ∙ ap (map (unreadIn w xs)) l ∙ ap (λ (v : List Item). v ∷ map (unreadIn w xs) rest) u in
+      let z : owed ≡ (now ++ unreadIn w xs c) ∷ map (unreadIn w xs) rest =
+      T .lies ∙ ap (map (unreadIn w xs)) l ∙ ap (λ (v : List Item). v ∷ map (unreadIn w xs) rest) u in
       let y : without (length now) owed ≡ unreadIn w xs c ∷ map (unreadIn w xs) rest =
       ap (without (length now)) z ∙ ap (λ (v : List Item). v ∷ map (unreadIn w xs) rest) (drop-append-seam now (unreadIn w xs c)) in
       record {
@@ -116,7 +122,8 @@ module _ (w : ℕ) (f g : File) (xs zs : List ℕ) (came : List (List ℕ)) (gon
 
 -- ---- skip
 
-pub skip-brought : (w : ℕ) (f : File) (xs : List ℕ) (came : List (List ℕ)) (gone : List Item) (owed : List (List Item)) → isSide (oldest f) ≡ true → Brought w f xs came gone owed
+pub skip-brought : (w : ℕ) (f : File) (xs : List ℕ) (came : List (List ℕ)) (gone : List Item) (owed : List (List Item)) → isSide (oldest f) ≡ true
+    → Brought w f xs came gone owed
     → Brought w (withoutOldest f) xs came (gone ++ firstOf owed) (restOf owed)
 unfolding withoutOldest emptiedAt
 skip-brought w f xs came gone owed full T = go (oldest f) (aged f) full
@@ -124,7 +131,8 @@ skip-brought w f xs came gone owed full T = go (oldest f) (aged f) full
     go : (k : Side) → Aged f k → isSide k ≡ true → Brought w (withSlot f k Empty false (f .block)) xs came (gone ++ firstOf owed) (restOf owed)
     go Neither (noBlock e) s = true-not-false s refl
     go k (old _ n at e rest s x l left moved) t =
-        brought-less w f (withSlot f k Empty false (f .block)) xs xs came gone owed (slot-same f k Empty false (f .block)) T (block (bufferAt f k .number) n at e) rest l (left (f .block))
+        brought-less w f (withSlot f k Empty false (f .block)) xs xs came gone owed (slot-same f k Empty false (f .block)) T
+        (block (bufferAt f k .number) n at e) rest l (left (f .block))
         (block-stays f k Empty false) .0
 
 -- ---- what is left of a block
@@ -138,7 +146,8 @@ module _ (m w : ℕ) (f : File) (S : Sound m w f) (xs : List ℕ) (long : m * w 
   number-less Neither o = true-not-false o refl
 
   -- nothing is left of a block that is used up
-  used-nothing : (k : Side) (n at e : ℕ) → slotAt f k ≡ Full n at e → UntoldFirst (block (bufferAt f k .number) n at e) → n ≤ at → unreadIn w xs (block (bufferAt f k .number) n at e) ≡ []
+  used-nothing : (k : Side) (n at e : ℕ) → slotAt f k ≡ Full n at e → UntoldFirst (block (bufferAt f k .number) n at e) → n ≤ at
+      → unreadIn w xs (block (bufferAt f k .number) n at e) ≡ []
   used-nothing k n at e x (inl z) l =
       let d : n - at ≡ 0 = omega arith in
       ap (λ (i : ℕ). wrongs i ++ map word (partOf (bufferAt f k .number * w + at) (n - at) xs)) z
@@ -150,17 +159,21 @@ module _ (m w : ℕ) (f : File) (S : Sound m w f) (xs : List ℕ) (long : m * w 
   some-left [] rest h = absurd (omega arith)
   some-left (i ∷ items) rest h = refl
 
-  fresh-some : (k : Side) (n at e : ℕ) → isSide k ≡ true → slotAt f k ≡ Full n at e → at < n → 1 ≤ length (unreadIn w xs (block (bufferAt f k .number) n at e))
+  fresh-some : (k : Side) (n at e : ℕ) → isSide k ≡ true → slotAt f k ≡ Full n at e → at < n
+      → 1 ≤ length (unreadIn w xs (block (bufferAt f k .number) n at e))
   fresh-some k n at (suc e) s x l = omega arith
   fresh-some k n at zero s x l =
       let N = numbers m w f k n at 0 S x in
       let own = owns-used m w f k S s (ap isEmpty x) in
-      let inside : bufferAt f k .number * w + n ≤ m * w = buffer-inside m w (bufferAt f k .number) n (number-less k own) (omega (arith, size-fits m w f S, N .fit)) in
-      let long-part : length (partOf (bufferAt f k .number * w + at) (n - at) xs) ≡ n - at = length-part (bufferAt f k .number * w + at) (n - at) xs (omega arith) in
+      let inside : bufferAt f k .number * w + n ≤ m * w =
+      buffer-inside m w (bufferAt f k .number) n (number-less k own) (omega (arith, size-fits m w f S, N .fit)) in
+      let long-part : length (partOf (bufferAt f k .number * w + at) (n - at) xs) ≡ n - at =
+      length-part (bufferAt f k .number * w + at) (n - at) xs (omega arith) in
       omega (arith, length-map (partOf (bufferAt f k .number * w + at) (n - at) xs) word, long-part)
 
   -- "If that block was used up by an earlier get, it first becomes empty and the next oldest is looked at."
-  pub passed-brought : (came : List (List ℕ)) (gone : List Item) (owed : List (List Item)) → Brought w f xs came gone owed → Brought w (passed f) xs came gone (pastUsed owed)
+  pub passed-brought : (came : List (List ℕ)) (gone : List Item) (owed : List (List Item)) → Brought w f xs came gone owed
+      → Brought w (passed f) xs came gone (pastUsed owed)
   unfolding passed withoutOldest emptiedAt
   passed-brought came gone owed T = go (oldest f) (aged f)
     where
@@ -177,17 +190,22 @@ module _ (m w : ℕ) (f : File) (S : Sound m w f) (xs : List ℕ) (long : m * w 
           first : UntoldFirst (block (bufferAt f k .number) n at e)
           first = head-all UntoldFirst (block (bufferAt f k .number) n at e) rest (subst (All UntoldFirst) l (T .untold))
 
-          by : (t : Bool) → leb n at ≡ t → Brought w (cond (isUsedUp (slotAt f k)) (withSlot f k Empty false (f .block)) f) xs came gone (pastUsed owed)
+          by : (t : Bool) → leb n at ≡ t
+              → Brought w (cond (isUsedUp (slotAt f k)) (withSlot f k Empty false (f .block)) f) xs came gone (pastUsed owed)
           by true q =
               let u = used-nothing k n at e x first (leb-true n at q) in
-              let D = brought-less w f (withSlot f k Empty false (f .block)) xs xs came gone owed (slot-same f k Empty false (f .block)) T (block (bufferAt f k .number) n at e) rest l (left (f .block))
+              let D = brought-less w f (withSlot f k Empty false (f .block)) xs xs came gone owed (slot-same f k Empty false (f .block)) T
+              (block (bufferAt f k .number) n at e) rest l (left (f .block))
               (block-stays f k Empty false) in
               let z : owed ≡ [] ∷ map (unreadIn w xs) rest = D .1 ∙ ap (λ (v : List Item). v ∷ map (unreadIn w xs) rest) u in
               subst (λ (t : Bool). Brought w (cond t (withSlot f k Empty false (f .block)) f) xs came gone (pastUsed owed)) (sym (ap isUsedUp x ∙ q))
-              (subst (λ (v : List Item). Brought w (withSlot f k Empty false (f .block)) xs came v (pastUsed owed)) (ap (λ (v : List (List Item)). gone ++ firstOf v) z ∙ append-nil gone)
+              (subst (λ (v : List Item). Brought w (withSlot f k Empty false (f .block)) xs came v (pastUsed owed))
+              (ap (λ (v : List (List Item)). gone ++ firstOf v) z ∙ append-nil gone)
               (subst (Brought w (withSlot f k Empty false (f .block)) xs came (gone ++ firstOf owed)) (ap restOf z ∙ sym (ap pastUsed z)) (D .0)))
           by false q =
               let more-left = fresh-some k n at e s x (leb-false n at q) in
               let z : owed ≡ unreadIn w xs (block (bufferAt f k .number) n at e) ∷ map (unreadIn w xs) rest = T .lies ∙ ap (map (unreadIn w xs)) l in
-              let y : owed ≡ pastUsed owed = z ∙ sym (ap pastUsed z ∙ some-left (unreadIn w xs (block (bufferAt f k .number) n at e)) (map (unreadIn w xs) rest) more-left) in
-              subst (λ (t : Bool). Brought w (cond t (withSlot f k Empty false (f .block)) f) xs came gone (pastUsed owed)) (sym (ap isUsedUp x ∙ q)) (subst (Brought w f xs came gone) y T)
+              let y : owed ≡ pastUsed owed =
+              z ∙ sym (ap pastUsed z ∙ some-left (unreadIn w xs (block (bufferAt f k .number) n at e)) (map (unreadIn w xs) rest) more-left) in
+              subst (λ (t : Bool). Brought w (cond t (withSlot f k Empty false (f .block)) f) xs came gone (pastUsed owed)) (sym (ap isUsedUp x ∙ q))
+              (subst (Brought w f xs came gone) y T)

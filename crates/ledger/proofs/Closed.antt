@@ -25,7 +25,8 @@ use Rattle.ledger.proofs.Shown.{wrote-words}
 
 module _ (f : File) (o : f .output ≡ true) (e : hasUnsent f ≡ false) where
   unsent : ((isPart (f .low .slot) || isFull (f .low .slot)) || (isPart (f .high .slot) || isFull (f .high .slot))) ≡ false
-  unsent = sym (ap (λ (b : Bool). b && ((isPart (f .low .slot) || isFull (f .low .slot)) || (isPart (f .high .slot) || isFull (f .high .slot)))) o) ∙ e
+  unsent =
+      sym (ap (λ (b : Bool). b && ((isPart (f .low .slot) || isFull (f .low .slot)) || (isPart (f .high .slot) || isFull (f .high .slot)))) o) ∙ e
 
   low-no : (isPart (f .low .slot) || isFull (f .low .slot)) ≡ false
   low-no = or-left (isPart (f .low .slot) || isFull (f .low .slot)) _ unsent
@@ -36,7 +37,8 @@ module _ (f : File) (o : f .output ≡ true) (e : hasUnsent f ≡ false) where
   no-line : line f ≡ []
   unfolding line
   no-line =
-      ap₂ (inOrder (f .turned)) (no-full f Low (or-right (isPart (f .low .slot)) _ low-no)) (no-full f High (or-right (isPart (f .high .slot)) _ high-no)) ∙ go (f .turned)
+      ap₂ (inOrder (f .turned)) (no-full f Low (or-right (isPart (f .low .slot)) _ low-no))
+      (no-full f High (or-right (isPart (f .high .slot)) _ high-no)) ∙ go (f .turned)
     where
       go : (t : Bool) → inOrder {A = Block} t [] [] ≡ []
       go true = refl
@@ -45,14 +47,18 @@ module _ (f : File) (o : f .output ≡ true) (e : hasUnsent f ≡ false) where
   no-part : (w : ℕ) (area : List ℕ) → partIn w f area ≡ []
   unfolding partStart partLength partSide
   no-part w area =
-      ap₂ (λ (a b : Bool). partOf (startAt f w (lower a b)) (partWords (slotAt f (lower a b))) area) (or-left (isPart (f .low .slot)) _ low-no) (or-left (isPart (f .high .slot)) _ high-no)
+      ap₂ (λ (a b : Bool). partOf (startAt f w (lower a b)) (partWords (slotAt f (lower a b))) area) (or-left (isPart (f .low .slot)) _ low-no)
+      (or-left (isPart (f .high .slot)) _ high-no)
 
   -- all words put were handed out
-  pub sent-all : (w : ℕ) (area puts : List ℕ) (sent : List (List ℕ)) → Wrote w f area puts sent → joined (map (dataOf (f .sequence) (f .check)) sent) ≡ puts
+  pub sent-all : (w : ℕ) (area puts : List ℕ) (sent : List (List ℕ)) → Wrote w f area puts sent
+      → joined (map (dataOf (f .sequence) (f .check)) sent) ≡ puts
   unfolding joined
   sent-all w area puts sent T =
       sym (append-nil (joined (map (dataOf (f .sequence) (f .check)) sent)))
-      ∙ ap₂ (λ (l : List Block) (p : List ℕ). joined (map (dataOf (f .sequence) (f .check)) sent) ++ (joined (map (dataOf (f .sequence) (f .check)) (map (blockIn w (extra (f .sequence) (f .check)) area) l)) ++ p)) (sym no-line) (sym (no-part w area))
+      ∙ ap₂ (λ (l : List Block) (p : List ℕ). joined (map (dataOf (f .sequence) (f .check)) sent)
+      ++ (joined (map (dataOf (f .sequence) (f .check)) (map (blockIn w (extra (f .sequence) (f .check)) area) l)) ++ p)) (sym no-line)
+      (sym (no-part w area))
       ∙ wrote-words w f area puts sent T
 
 -- an accepted close found it so

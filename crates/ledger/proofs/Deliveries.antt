@@ -45,7 +45,8 @@ good-verdict : (q : Request) → q .op ≡ Read → verdictOf q 0 ≡ Ends (endi
 unfolding verdictOf isAllowed rowOf anyOf
 good-verdict q e = cond-true (Ends (endingOf (q .op) (q .attempts) 0)) _ (ap (λ (o : Op). isAllowed o 0) e)
 
-good-delivers : (q : Request) (op : Op) → q .op ≡ op → takesNoWords (work.At op) ≡ false → isDelivery (effectOf (work.At (q .op)) (verdictOf q 0)) ≡ true
+good-delivers : (q : Request) (op : Op) → q .op ≡ op → takesNoWords (work.At op) ≡ false
+    → isDelivery (effectOf (work.At (q .op)) (verdictOf q 0)) ≡ true
 good-delivers q Read e t =
     ap (λ (v : Verdict). isDelivery (effectOf (work.At (q .op)) v)) (good-verdict q e)
     ∙ ap (λ (o : Op). isDelivery (effectOf (work.At o) (Ends (endingOf o (q .attempts) 0)))) e ∙ good-read (q .attempts)
@@ -58,16 +59,19 @@ turn-delivers (Waiting q) n i = true-not-false refl i
 turn-delivers (Displaced q) n i = true-not-false refl i
 turn-delivers (Working q) n i = good-delivers q (q .op) refl n
 
-pub words-delivered : (c : Channel) (u outcome : ℕ) (words : List ℕ) → (ltb 0 (length words) && (ltb 0 outcome || takesNoWords (operationAt c u))) ≡ false
+pub words-delivered : (c : Channel) (u outcome : ℕ) (words : List ℕ)
+    → (ltb 0 (length words) && (ltb 0 outcome || takesNoWords (operationAt c u))) ≡ false
     → isIdleFor (operationAt c u) ≡ false → isDelivery (effectAt c u outcome) ≡ false → words ≡ []
 unfolding operationAt judgeOf
 words-delivered c u outcome [] r i d = refl
 words-delivered c u outcome (x ∷ words) r i d =
     let some : ltb 0 (suc (length words)) ≡ true = lt-ltb 0 (suc (length words)) (omega arith) in
-    let both : (ltb 0 outcome || takesNoWords (workOf (turnAt c u))) ≡ false = sym (ap (λ (b : Bool). b && (ltb 0 outcome || takesNoWords (workOf (turnAt c u)))) some) ∙ r in
+    let both : (ltb 0 outcome || takesNoWords (workOf (turnAt c u))) ≡ false =
+    sym (ap (λ (b : Bool). b && (ltb 0 outcome || takesNoWords (workOf (turnAt c u)))) some) ∙ r in
     let least = ltb-false 0 outcome (or-left (ltb 0 outcome) _ both) in
     let zero-is : 0 ≡ outcome = omega arith in
-    true-not-false (turn-delivers (turnAt c u) (or-right (ltb 0 outcome) _ both) i) (ap (λ (n : ℕ). isDelivery (effectOf (workOf (turnAt c u)) (judgeTurn (turnAt c u) n))) zero-is ∙ d)
+    true-not-false (turn-delivers (turnAt c u) (or-right (ltb 0 outcome) _ both) i)
+    (ap (λ (n : ℕ). isDelivery (effectOf (workOf (turnAt c u)) (judgeTurn (turnAt c u) n))) zero-is ∙ d)
 
 -- ---- a write's file is an output file with a full block
 

@@ -47,10 +47,12 @@ module _ (w : ℕ) (f g : File) (A : Same f g) (xs : List ℕ) (L : Ledger) wher
   }
 
   pub told-out : f .output ≡ true → L .opened ≡ f .opened → Chosen f → Wrote w g xs (L .puts) (L .sent) → Told w g xs L
-  told-out o e h T = record { opened = e ∙ sym (A .opened); chose = λ p. chose-of h; wrote = λ p q. T; brought = λ p q. true-not-false (A .output ∙ o) q }
+  told-out o e h T =
+      record { opened = e ∙ sym (A .opened); chose = λ p. chose-of h; wrote = λ p q. T; brought = λ p q. true-not-false (A .output ∙ o) q }
 
   pub told-in : f .output ≡ false → L .opened ≡ f .opened → Chosen f → Brought w g xs (L .came) (L .gone) (L .owed) → Told w g xs L
-  told-in o e h T = record { opened = e ∙ sym (A .opened); chose = λ p. chose-of h; wrote = λ p q. true-not-false q (A .output ∙ o); brought = λ p q. T }
+  told-in o e h T =
+      record { opened = e ∙ sym (A .opened); chose = λ p. chose-of h; wrote = λ p q. true-not-false q (A .output ∙ o); brought = λ p q. T }
 
   -- nothing that a ledger speaks of changes
   pub told-still : line g ≡ line f → partIn w g xs ≡ partIn w f xs → g .block ≡ f .block → Told w f xs L → Told w g xs L
@@ -72,13 +74,15 @@ told-closed w f xs L c e = record {
 
 -- words beside its buffers change
 told-frame : (m w : ℕ) (f : File) (xs zs : List ℕ) (L : Ledger) → (f .opened ≡ true → Sound m w f)
-    → (f .opened ≡ true → (k : Side) → owns f k ≡ true → partOf (bufferAt f k .number * w) w zs ≡ partOf (bufferAt f k .number * w) w xs) → Told w f xs L → Told w f zs L
+    → (f .opened ≡ true → (k : Side) → owns f k ≡ true → partOf (bufferAt f k .number * w) w zs ≡ partOf (bufferAt f k .number * w) w xs)
+    → Told w f xs L → Told w f zs L
 told-frame m w f xs zs L S same T = record {
   opened = T .opened;
   chose = T .chose;
   wrote = λ o q. frame-wrote m w f (S o) xs zs (L .puts) (L .sent) (same o) (T .wrote o q);
   brought = λ o q.
-      brought-still w f f xs zs (L .came) (L .gone) (L .owed) (same-self f) (T .brought o q) (unread-same m w f (S o) xs zs (λ k p full. same o k p)) refl refl;
+      brought-still w f f xs zs (L .came) (L .gone) (L .owed) (same-self f) (T .brought o q) (unread-same m w f (S o) xs zs (λ k p full. same o k p))
+      refl refl;
 }
 
 -- ---- the whole pack
@@ -91,7 +95,8 @@ pub record Kept (s : State) (area : List ℕ) (ledgers : ℕ → Ledger) : Type 
 pub held-own : (f : File) (k : Side) → f .opened ≡ true → owns f k ≡ true → heldBy (bufferAt f k .number) f ≡ true
 held-own f Low o h = and-both (f .opened) _ o (or-first (eqb (f .low .number) (f .low .number)) _ (eq-eqb (f .low .number) (f .low .number) refl))
 held-own f High o h =
-    and-both (f .opened) _ o (or-second (eqb (f .low .number) (f .high .number)) _ (and-both (f .double) _ h (eq-eqb (f .high .number) (f .high .number) refl)))
+    and-both (f .opened) _ o (or-second (eqb (f .low .number) (f .high .number)) _
+    (and-both (f .double) _ h (eq-eqb (f .high .number) (f .high .number) refl)))
 held-own f Neither o h = true-not-false h refl
 
 -- words of a buffer of file j change, and of no other file's

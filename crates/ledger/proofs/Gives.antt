@@ -55,7 +55,8 @@ module _ (w b r n at : ℕ) (xs : List ℕ) (within : at ≤ n) where
   error-given false e z other q = absurd (let k : _≡_ {A = ℕ} 0 1 = cc in omega arith)
 
   -- its next words
-  words-follow : (c : ℕ) → c ≤ n - at → map word (partOf (b * w + at) (n - at) xs) ≡ map word (partOf (b * w + at) c xs) ++ map word (partOf (b * w + (at + c)) (n - (at + c)) xs)
+  words-follow : (c : ℕ) → c ≤ n - at
+      → map word (partOf (b * w + at) (n - at) xs) ≡ map word (partOf (b * w + at) c xs) ++ map word (partOf (b * w + (at + c)) (n - (at + c)) xs)
   words-follow c l =
       let sum : n - at ≡ c + (n - (at + c)) = omega arith in
       let place : b * w + at + c ≡ b * w + (at + c) = omega arith in
@@ -66,7 +67,8 @@ module _ (w b r n at : ℕ) (xs : List ℕ) (within : at ≤ n) where
 
   words-given : (t u : Bool) (e : Got) → t ≡ false → leb r (n - at) ≡ u
       → map word (partOf (b * w + at) (n - at) xs)
-      ≡ gives xs (cond t e (cond u (Record (b * w + at) r) (Leftover (b * w + at) (n - at)))) ++ map word (partOf (b * w + (at + cond t 0 (cond u r (n - at)))) (n - (at + cond t 0 (cond u r (n - at)))) xs)
+      ≡ gives xs (cond t e (cond u (Record (b * w + at) r) (Leftover (b * w + at) (n - at)))) ++ map word
+      (partOf (b * w + (at + cond t 0 (cond u r (n - at)))) (n - (at + cond t 0 (cond u r (n - at)))) xs)
   words-given true u e q l = absurd (let k : _≡_ {A = ℕ} 0 1 = cc in omega arith)
   words-given false true e q l = words-follow r (leb-true r (n - at) l)
   words-given false false e q l = words-follow (n - at) (omega arith)
@@ -74,7 +76,8 @@ module _ (w b r n at : ℕ) (xs : List ℕ) (within : at ≤ n) where
   no-error : ltb 0 0 ≡ false
   no-error = refl
 
-  pub left-given : (e : ℕ) → unreadIn w xs (block b n at e) ≡ gives xs (foundIn (b * w) r (Full n at e)) ++ unreadIn w xs (block b n (at + wordsGiven r (Full n at e)) 0)
+  pub left-given : (e : ℕ)
+      → unreadIn w xs (block b n at e) ≡ gives xs (foundIn (b * w) r (Full n at e)) ++ unreadIn w xs (block b n (at + wordsGiven r (Full n at e)) 0)
   left-given (suc e) = error-given (ltb 0 (suc e)) e _ _ (lt-ltb 0 (suc e) (omega arith))
   left-given zero = words-given (ltb 0 0) (leb r (n - at)) (Error 0) no-error refl
 
@@ -90,13 +93,17 @@ module _ (m w : ℕ) (f : File) (S : Sound m w f) (xs : List ℕ) where
       To g now = Brought w g xs came (gone ++ now) (without (length now) owed)
 
       go : (k : Side) → Aged f k
-          → To (withSlot f k (slotAfter (f .rlen) (slotAt f k)) (f .turned) (f .block)) (gives xs (cond (isSide k) (foundIn (startAt f w k) (f .rlen) (slotAt f k)) (foundNone (f .marked))))
+          → To (withSlot f k (slotAfter (f .rlen) (slotAt f k)) (f .turned) (f .block))
+          (gives xs (cond (isSide k) (foundIn (startAt f w k) (f .rlen) (slotAt f k)) (foundNone (f .marked))))
       go Neither (noBlock e) =
           subst (To f) (sym (none-given xs (f .marked)))
-          (subst (λ (v : List Item). Brought w f xs came v (without 0 owed)) (sym (append-nil gone)) (subst (Brought w f xs came gone) (sym (nothing-eaten owed)) T))
+          (subst (λ (v : List Item). Brought w f xs came v (without 0 owed)) (sym (append-nil gone))
+          (subst (Brought w f xs came gone) (sym (nothing-eaten owed)) T))
       go k (old _ n at e rest s x l left moved) =
-          subst (λ (g : Got). To (withSlot f k (slotAfter (f .rlen) (slotAt f k)) (f .turned) (f .block)) (gives xs g)) (sym (cond-true (foundIn (startAt f w k) (f .rlen) (slotAt f k)) (foundNone (f .marked)) s))
-          (subst (λ (y : Slot). To (withSlot f k (slotAfter (f .rlen) y) (f .turned) (f .block)) (gives xs (foundIn (startAt f w k) (f .rlen) y))) (sym x)
+          subst (λ (g : Got). To (withSlot f k (slotAfter (f .rlen) (slotAt f k)) (f .turned) (f .block)) (gives xs g))
+          (sym (cond-true (foundIn (startAt f w k) (f .rlen) (slotAt f k)) (foundNone (f .marked)) s))
+          (subst (λ (y : Slot). To (withSlot f k (slotAfter (f .rlen) y) (f .turned) (f .block)) (gives xs (foundIn (startAt f w k) (f .rlen) y)))
+          (sym x)
           (brought-given w f (withSlot f k (Full n (at + wordsGiven (f .rlen) (Full n at e)) 0) (f .turned) (f .block)) xs xs came gone owed
           (slot-same f k (Full n (at + wordsGiven (f .rlen) (Full n at e)) 0) (f .turned) (f .block)) T
           (block (bufferAt f k .number) n at e) (block (bufferAt f k .number) n (at + wordsGiven (f .rlen) (Full n at e)) 0) rest
@@ -104,8 +111,10 @@ module _ (m w : ℕ) (f : File) (S : Sound m w f) (xs : List ℕ) where
           (block-stays f k (Full n (at + wordsGiven (f .rlen) (Full n at e)) 0) (f .turned)) (inl refl)
           (left-given w (bufferAt f k .number) (f .rlen) n at xs (numbers m w f k n at e S x .place) e)))
 
-pub get-brought : (m w : ℕ) (f : File) → Sound m w f → (xs : List ℕ) → m * w ≤ length xs → (came : List (List ℕ)) (gone : List Item) (owed : List (List Item)) → Brought w f xs came gone owed
-    → Brought w (getFrom w f .file) xs came (gone ++ gives xs (getFrom w f .got)) (without (length (gives xs (getFrom w f .got))) (pastUsed (pastUsed owed)))
+pub get-brought : (m w : ℕ) (f : File) → Sound m w f → (xs : List ℕ) → m * w ≤ length xs
+    → (came : List (List ℕ)) (gone : List Item) (owed : List (List Item)) → Brought w f xs came gone owed
+    → Brought w (getFrom w f .file) xs came (gone ++ gives xs (getFrom w f .got))
+    (without (length (gives xs (getFrom w f .got))) (pastUsed (pastUsed owed)))
 unfolding getFrom lookedAt
 get-brought m w f S xs long came gone owed T =
     let P = passed-sound m w f S in

@@ -42,7 +42,8 @@ all-in P b Taken h = none
 all-in P b (Part n) h = none
 all-in P b (Full n at e) h = more (h n at e refl) none
 
-pub all-line : (P : Block → Type 0) (f : File) → ((k : Side) (n at e : ℕ) → isSide k ≡ true → slotAt f k ≡ Full n at e → P (block (bufferAt f k .number) n at e))
+pub all-line : (P : Block → Type 0) (f : File)
+    → ((k : Side) (n at e : ℕ) → isSide k ≡ true → slotAt f k ≡ Full n at e → P (block (bufferAt f k .number) n at e))
     → All P (line f)
 unfolding line
 all-line P f h = go (f .turned)
@@ -69,7 +70,8 @@ take-drop-take (suc c) n (suc at) (x ∷ xs) h = take-drop-take c n at xs (omega
 pub part-of-buffer : (w b c n : ℕ) (xs : List ℕ) → c + n ≤ w → take n (drop c (partOf (b * w) w xs)) ≡ partOf (b * w + c) n xs
 part-of-buffer w b c n xs h = take-drop-take c n w (drop (b * w) xs) h ∙ ap (take n) (drop-drop c (b * w) xs)
 
-pub same-part : (w b c n : ℕ) (xs zs : List ℕ) → c + n ≤ w → partOf (b * w) w zs ≡ partOf (b * w) w xs → partOf (b * w + c) n zs ≡ partOf (b * w + c) n xs
+pub same-part : (w b c n : ℕ) (xs zs : List ℕ) → c + n ≤ w → partOf (b * w) w zs ≡ partOf (b * w) w xs
+    → partOf (b * w + c) n zs ≡ partOf (b * w + c) n xs
 same-part w b c n xs zs h e = sym (part-of-buffer w b c n zs h) ∙ ap (λ (l : List ℕ). take n (drop c l)) e ∙ part-of-buffer w b c n xs h
 
 pub same-first : (w b n : ℕ) (xs zs : List ℕ) → n ≤ w → partOf (b * w) w zs ≡ partOf (b * w) w xs → partOf (b * w) n zs ≡ partOf (b * w) n xs
@@ -78,8 +80,10 @@ same-first w b n xs zs h e = sym (take-take n w (drop (b * w) zs) h) ∙ ap (tak
 -- ---- the blocks of a file
 
 module _ (m w : ℕ) (f : File) (S : Sound m w f) where
-  module _ (xs zs : List ℕ) (same : (k : Side) → owns f k ≡ true → isFull (slotAt f k) ≡ true → partOf (bufferAt f k .number * w) w zs ≡ partOf (bufferAt f k .number * w) w xs) where
-    there : (k : Side) (n at e : ℕ) → isSide k ≡ true → slotAt f k ≡ Full n at e → partOf (bufferAt f k .number * w) w zs ≡ partOf (bufferAt f k .number * w) w xs
+  module _ (xs zs : List ℕ) (same : (k : Side) → owns f k ≡ true → isFull (slotAt f k) ≡ true → partOf (bufferAt f k .number * w) w zs ≡ partOf
+      (bufferAt f k .number * w) w xs) where
+    there : (k : Side) (n at e : ℕ) → isSide k ≡ true → slotAt f k ≡ Full n at e
+        → partOf (bufferAt f k .number * w) w zs ≡ partOf (bufferAt f k .number * w) w xs
     there k n at e s x = same k (owns-used m w f k S s (ap isEmpty x)) (ap isFull x)
 
     pub blocks-same : blocksIn w f zs ≡ blocksIn w f xs
@@ -87,7 +91,8 @@ module _ (m w : ℕ) (f : File) (S : Sound m w f) where
         map-same (blockIn w (extra (f .sequence) (f .check)) zs) (blockIn w (extra (f .sequence) (f .check)) xs) (line f)
         (all-line _ f (λ k n at e s x.
         let N = numbers m w f k n at e S x in
-        same-first w (bufferAt f k .number) (n + extra (f .sequence) (f .check)) xs zs (omega (arith, size-fits m w f S, N .fit)) (there k n at e s x)))
+        same-first w (bufferAt f k .number) (n + extra (f .sequence) (f .check)) xs zs (omega (arith, size-fits m w f S, N .fit))
+        (there k n at e s x)))
 
     pub unread-same : unreadOf w f zs ≡ unreadOf w f xs
     unread-same =

@@ -67,7 +67,8 @@ get-same : (w : ℕ) (f : File) → Same f (getFrom w f .file)
 unfolding getFrom lookedAt afterFound
 get-same w f =
     let h = passed (passed f) in
-    same-then f h (afterFound h) (same-then f (passed f) h (pass-same f) (pass-same (passed f))) (slot-same h (oldest h) (slotAfter (h .rlen) (slotAt h (oldest h))) (h .turned) (h .block))
+    same-then f h (afterFound h) (same-then f (passed f) h (pass-same f) (pass-same (passed f)))
+    (slot-same h (oldest h) (slotAfter (h .rlen) (slotAt h (oldest h))) (h .turned) (h .block))
 
 -- the ledger of file j alone is another
 module _ (ledgers : ℕ → Ledger) (L : Ledger → Ledger) (j : ℕ) where
@@ -97,11 +98,15 @@ module _ (s : State) (area : List ℕ) (ledgers : ℕ → Ledger) (K : Kept s ar
       let only = put-own-buffer s area file words z in
       kept-file s (putBy s area file words .state) area (putByArea s area file words) ledgers (entering ledgers (withPut words) file) K
       (call-kept s area (K .good) (put file words)) file (F .3) (F .0) (entering-other ledgers (withPut words) file)
-      (others-same s (K .good) file (bufferAt f (putSide f) .number) (held-own f (putSide f) o (put-at (s .m) (s .w) f (S file o) room .own)) area (putByArea s area file words) only)
-      (subst (λ (h : File). Told (s .w) h (putByArea s area file words) (entering ledgers (withPut words) file file)) (sym (put-file s area file words z))
+      (others-same s (K .good) file (bufferAt f (putSide f) .number) (held-own f (putSide f) o (put-at (s .m) (s .w) f (S file o) room .own)) area
+      (putByArea s area file words) only)
+      (subst (λ (h : File). Told (s .w) h (putByArea s area file words) (entering ledgers (withPut words) file file))
+      (sym (put-file s area file words z))
       (subst (Told (s .w) (afterPut f) (putByArea s area file words)) (sym (entering-here ledgers (withPut words) file))
-      (told-out (s .w) f (afterPut f) (put-same (s .m) (s .w) f (S file o) room) (putByArea s area file words) (withPut words (ledgers file)) (put-output s area file words z) (K .told file .opened) (K .told file .chose o)
-      (put-wrote (s .m) (s .w) f (S file o) room area (putByArea s area file words) words (ledgers file .puts) (ledgers file .sent) (K .told file .wrote o (put-output s area file words z)) only
+      (told-out (s .w) f (afterPut f) (put-same (s .m) (s .w) f (S file o) room) (putByArea s area file words) (withPut words (ledgers file))
+      (put-output s area file words z) (K .told file .opened) (K .told file .chose o)
+      (put-wrote (s .m) (s .w) f (S file o) room area (putByArea s area file words) words (ledgers file .puts) (ledgers file .sent)
+      (K .told file .wrote o (put-output s area file words z)) only
       (put-adds s area file words z) (put-seals s area file words z)))))
 
   pub seal-kept : (file : ℕ) → sealBy s area file .refusal ≡ 0 → Kept (sealBy s area file .state) (sealByArea s area file) ledgers
@@ -112,14 +117,19 @@ module _ (s : State) (area : List ℕ) (ledgers : ℕ → Ledger) (K : Kept s ar
       let part = seal-part s area file z in
       let F = seal-frame s area file in
       let only = seal-own-buffer s area file z in
-      kept-file s (sealBy s area file .state) area (sealByArea s area file) ledgers ledgers K (call-kept s area (K .good) (seal file)) file (F .3) (F .0) (λ i ne. refl)
-      (others-same s (K .good) file (bufferAt f (partSide f) .number) (held-own f (partSide f) o (own-part (s .m) (s .w) f (S file o) part)) area (sealByArea s area file) only)
+      kept-file s (sealBy s area file .state) area (sealByArea s area file) ledgers ledgers K (call-kept s area (K .good) (seal file)) file (F .3)
+      (F .0) (λ i ne. refl)
+      (others-same s (K .good) file (bufferAt f (partSide f) .number) (held-own f (partSide f) o (own-part (s .m) (s .w) f (S file o) part)) area
+      (sealByArea s area file) only)
       (subst (λ (h : File). Told (s .w) h (sealByArea s area file) (ledgers file)) (sym (seal-file s area file z))
-      (told-out (s .w) f (sealed f) (seal-same f) (sealByArea s area file) (ledgers file) (seal-output s area file z) (K .told file .opened) (K .told file .chose o)
-      (seal-wrote (s .m) (s .w) f (S file o) part area (sealByArea s area file) (ledgers file .puts) (ledgers file .sent) (K .told file .wrote o (seal-output s area file z)) only
+      (told-out (s .w) f (sealed f) (seal-same f) (sealByArea s area file) (ledgers file) (seal-output s area file z) (K .told file .opened)
+      (K .told file .chose o)
+      (seal-wrote (s .m) (s .w) f (S file o) part area (sealByArea s area file) (ledgers file .puts) (ledgers file .sent)
+      (K .told file .wrote o (seal-output s area file z)) only
       (seal-seals s area file z))))
 
-  pub get-kept : (file : ℕ) → getBy s area file .refusal ≡ 0 → Kept (getBy s area file .state) area (entering ledgers (withGet (answerOf s area (get file))) file)
+  pub get-kept : (file : ℕ) → getBy s area file .refusal ≡ 0
+      → Kept (getBy s area file .state) area (entering ledgers (withGet (answerOf s area (get file))) file)
   unfolding answerOf
   get-kept file z =
       let f = fileAt s file in
@@ -128,13 +138,17 @@ module _ (s : State) (area : List ℕ) (ledgers : ℕ → Ledger) (K : Kept s ar
       let F = get-frame s area file in
       let found = get-finds s area file z in
       let same : givenBy (getBy s area file .got) (getWords s area file) ≡ gives area (getFrom (s .w) f .got) = ap₂ givenBy (found .0) (found .2) in
-      kept-file s (getBy s area file .state) area area ledgers (entering ledgers (withGet (answerOf s area (get file))) file) K (call-kept s area (K .good) (get file)) file (F .3) (F .0)
+      kept-file s (getBy s area file .state) area area ledgers (entering ledgers (withGet (answerOf s area (get file))) file) K
+      (call-kept s area (K .good) (get file)) file (F .3) (F .0)
       (entering-other ledgers (withGet (answerOf s area (get file))) file) (λ i ne p k q. refl)
       (subst (λ (h : File). Told (s .w) h area (entering ledgers (withGet (answerOf s area (get file))) file file)) (sym (get-file s area file z))
       (subst (Told (s .w) (getFrom (s .w) f .file) area) (sym (entering-here ledgers (withGet (answerOf s area (get file))) file))
-      (told-in (s .w) f (getFrom (s .w) f .file) (get-same (s .w) f) area (withGet (answerOf s area (get file)) L) (get-input s area file z) (K .told file .opened) (K .told file .chose o)
-      (subst (λ (now : List Item). Brought (s .w) (getFrom (s .w) f .file) area (L .came) (L .gone ++ now) (without (length now) (pastUsed (pastUsed (L .owed))))) (sym same)
-      (get-brought (s .m) (s .w) f (S file o) area (get-area-long s area file z) (L .came) (L .gone) (L .owed) (K .told file .brought o (get-input s area file z)))))))
+      (told-in (s .w) f (getFrom (s .w) f .file) (get-same (s .w) f) area (withGet (answerOf s area (get file)) L) (get-input s area file z)
+      (K .told file .opened) (K .told file .chose o)
+      (subst (λ (now : List Item). Brought (s .w) (getFrom (s .w) f .file) area (L .came) (L .gone ++ now)
+      (without (length now) (pastUsed (pastUsed (L .owed))))) (sym same)
+      (get-brought (s .m) (s .w) f (S file o) area (get-area-long s area file z) (L .came) (L .gone) (L .owed)
+      (K .told file .brought o (get-input s area file z)))))))
 
   pub skip-kept : (file : ℕ) → skipBy s file .refusal ≡ 0 → Kept (skipBy s file .state) area (entering ledgers withSkip file)
   unfolding answerOf
@@ -143,7 +157,8 @@ module _ (s : State) (area : List ℕ) (ledgers : ℕ → Ledger) (K : Kept s ar
       let o = skip-open s file z in
       let L = ledgers file in
       let F = skip-frame s file in
-      kept-file s (skipBy s file .state) area area ledgers (entering ledgers withSkip file) K (call-kept s area (K .good) (skip file)) file (F .3) (F .0)
+      kept-file s (skipBy s file .state) area area ledgers (entering ledgers withSkip file) K (call-kept s area (K .good) (skip file)) file (F .3)
+      (F .0)
       (entering-other ledgers withSkip file) (λ i ne p k q. refl)
       (subst (λ (h : File). Told (s .w) h area (entering ledgers withSkip file file)) (sym (skip-drops s file z .0))
       (subst (Told (s .w) (withoutOldest f) area) (sym (entering-here ledgers withSkip file))

@@ -90,7 +90,8 @@ module _ (s : State) (area : List ℕ) (ledgers : ℕ → Ledger) (K : Kept s ar
   no-words =
       let x = report-exactly s area channel unit outcome words in
       let row = x .table .none (sym (x .number) ∙ z) 1 _ here in
-      words-delivered c unit outcome words (or-right (ltb 9 unit || ltb 4 outcome) _ (or-right (reportWrong s (length area) channel) _ row)) (ready .works)
+      words-delivered c unit outcome words (or-right (ltb 9 unit || ltb 4 outcome) _ (or-right (reportWrong s (length area) channel) _ row))
+      (ready .works)
 
   after-area : reportByArea s area channel unit outcome words ≡ reportedArea effect f (s .w) words area
   unfolding reportByArea reportOnArea
@@ -102,15 +103,18 @@ module _ (s : State) (area : List ℕ) (ledgers : ℕ → Ledger) (K : Kept s ar
       plus L (asBlock (partOf (shownStart x (s .w) f) (shownCount x f) (reportedArea x f (s .w) words area))) (asBlock words)
       (owedFor (L .sequence) (L .check) (deliveryError x f words) words)
 
-  nothing-more : (g : File) → words ≡ [] → Told (s .w) g area L → Told (s .w) g area (plus L [] (asBlock words) (owedFor (L .sequence) (L .check) 0 words))
+  nothing-more : (g : File) → words ≡ [] → Told (s .w) g area L
+      → Told (s .w) g area (plus L [] (asBlock words) (owedFor (L .sequence) (L .check) 0 words))
   nothing-more g e T =
-      subst (λ (ws : List ℕ). Told (s .w) g area (plus L [] (asBlock ws) (owedFor (L .sequence) (L .check) 0 ws))) (sym e) (subst (Told (s .w) g area) (plus-none L) T)
+      subst (λ (ws : List ℕ). Told (s .w) g area (plus L [] (asBlock ws) (owedFor (L .sequence) (L .check) 0 ws))) (sym e)
+      (subst (Told (s .w) g area) (plus-none L) T)
 
   sending : isWrite (operationAt c unit) ≡ true → (f .output ≡ true) × (hasFull f ≡ true)
   unfolding operationAt
   sending h = write-ready (turnAt c unit) f h (requested-ready s area channel unit outcome words (K .good .sixteen) number)
 
-  told-reported : (x : Effect) → effect ≡ x → Told (s .w) (reportedFile x f (length words) (deliveryError x f words)) (reportedArea x f (s .w) words area) (madeLedger x)
+  told-reported : (x : Effect) → effect ≡ x
+      → Told (s .w) (reportedFile x f (length words) (deliveryError x f words)) (reportedArea x f (s .w) words area) (madeLedger x)
   unfolding reportedFile reportedArea afterWrite
   told-reported Delivers e =
       let d : isDelivery effect ≡ true = ap isDelivery e in
@@ -119,9 +123,11 @@ module _ (s : State) (area : List ℕ) (ledgers : ℕ → Ledger) (K : Kept s ar
   told-reported MeetsMark e = nothing-more (metMark f) (no-words (ap isDelivery e)) (told-mark (s .w) f area L (K .told i))
   told-reported GivesBack e = nothing-more (gaveBack f) (no-words (ap isDelivery e)) (told-back (s .w) f area L (K .told i))
   told-reported Sends e =
-      let writes : isWrite (operationAt c unit) ≡ true = and-left (isWrite (operationAt c unit)) _ (sym (sends-exactly (operationAt c unit) (judgeOf c unit outcome)) ∙ ap isSending e) in
+      let writes : isWrite (operationAt c unit) ≡ true =
+      and-left (isWrite (operationAt c unit)) _ (sym (sends-exactly (operationAt c unit) (judgeOf c unit outcome)) ∙ ap isSending e) in
       let R = sending writes in
-      subst (λ (ws : List ℕ). Told (s .w) (withoutOldest f) area (plus L (asBlock (partOf (sendStart (s .w) f) (sendWords f) area)) (asBlock ws) (owedFor (L .sequence) (L .check) 0 ws)))
+      subst (λ (ws : List ℕ). Told (s .w) (withoutOldest f) area
+      (plus L (asBlock (partOf (sendStart (s .w) f) (sendWords f) area)) (asBlock ws) (owedFor (L .sequence) (L .check) 0 ws)))
       (sym (no-words (ap isDelivery e)))
       (told-sent (s .m) (s .w) f S area long L open-file (R .0) (R .1) (K .told i))
   told-reported Keeps e = nothing-more f (no-words (ap isDelivery e)) (K .told i)
@@ -148,19 +154,24 @@ module _ (s : State) (area : List ℕ) (ledgers : ℕ → Ledger) (K : Kept s ar
 
   -- no word of another file's buffers changes
   still : (j : ℕ) → j ≢ i → fileAt s j .opened ≡ true → (k : Side) → owns (fileAt s j) k ≡ true
-      → partOf (bufferAt (fileAt s j) k .number * s .w) (s .w) (reportByArea s area channel unit outcome words) ≡ partOf (bufferAt (fileAt s j) k .number * s .w) (s .w) area
+      → partOf (bufferAt (fileAt s j) k .number * s .w) (s .w) (reportByArea s area channel unit outcome words)
+      ≡ partOf (bufferAt (fileAt s j) k .number * s .w) (s .w) area
   unfolding reportedArea
   still j ne o k p = go (isDelivery effect) refl
     where
       go : (t : Bool) → isDelivery effect ≡ t
-          → partOf (bufferAt (fileAt s j) k .number * s .w) (s .w) (reportByArea s area channel unit outcome words) ≡ partOf (bufferAt (fileAt s j) k .number * s .w) (s .w) area
+          → partOf (bufferAt (fileAt s j) k .number * s .w) (s .w) (reportByArea s area channel unit outcome words)
+          ≡ partOf (bufferAt (fileAt s j) k .number * s .w) (s .w) area
       go true d =
           let D = report-delivers s area channel unit outcome words (K .good .sixteen) number d in
           let at = startAt f (s .w) (takenSide f) in
-          let only = only-wider at (length words) at (s .w) area (pastedIn at words area) (pasted-only at words area (D .inside)) (omega arith) (omega (arith, D .room)) in
+          let only = only-wider at (length words) at (s .w) area (pastedIn at words area) (pasted-only at words area (D .inside)) (omega arith)
+          (omega (arith, D .room)) in
           others-same s (K .good) i (bufferAt f (takenSide f) .number) (D .held) area (reportByArea s area channel unit outcome words)
           (subst (Only at (s .w) area) (paste-fitting at words area (D .inside) ∙ sym (D .pasted)) only) j ne o k p
-      go false d = ap (partOf (bufferAt (fileAt s j) k .number * s .w) (s .w)) (after-area ∙ cond-false (pastedIn (startAt f (s .w) (takenSide f)) words area) area d)
+      go false d =
+          ap (partOf (bufferAt (fileAt s j) k .number * s .w) (s .w))
+          (after-area ∙ cond-false (pastedIn (startAt f (s .w) (takenSide f)) words area) area d)
 
   -- ---- the ledger that it enters is the one of its file
 
@@ -183,7 +194,9 @@ module _ (s : State) (area : List ℕ) (ledgers : ℕ → Ledger) (K : Kept s ar
   noting-here = cond-true _ (ledgers i) (on-same i ∙ report-books-own s area channel unit outcome words (K .good .sixteen) z .bound)
 
   noting-other : (j : ℕ) → j ≢ i → noting j ≡ ledgers j
-  noting-other j ne = cond-false (withReport words (answerOf s area (report channel unit outcome words)) (ledgers j)) (ledgers j) (go (serves channel unit (fileAt s j)) refl)
+  noting-other j ne =
+      cond-false (withReport words (answerOf s area (report channel unit outcome words)) (ledgers j)) (ledgers j)
+      (go (serves channel unit (fileAt s j)) refl)
     where
       go : (t : Bool) → serves channel unit (fileAt s j) ≡ t → isOn channel unit (ledgers j) ≡ false
       go true e = absurd (ne (report-books-own s area channel unit outcome words (K .good .sixteen) z .only j e))
@@ -195,22 +208,28 @@ module _ (s : State) (area : List ℕ) (ledgers : ℕ → Ledger) (K : Kept s ar
       let t = reportBy s area channel unit outcome words .state in
       let zs = reportByArea s area channel unit outcome words in
       let F = report-frame s area channel unit outcome words in
-      kept-file s t area zs ledgers noting K (call-kept s area (K .good) (report channel unit outcome words)) i (F .words) (F .files) noting-other still
+      kept-file s t area zs ledgers noting K (call-kept s area (K .good) (report channel unit outcome words)) i (F .words) (F .files) noting-other
+      still
       (subst (λ (h : File). Told (s .w) h zs (noting i)) (sym after-file)
       (subst (Told (s .w) (reportChange s area channel unit outcome words .file) zs) (sym noting-here)
-      (subst (λ (x : ReportChange). Told (s .w) (x .file) zs (plus L (asBlock (partOf (x .start) (x .count) zs)) (asBlock words) (owedFor (L .sequence) (L .check) (x .error) words))) (sym change)
+      (subst (λ (x : ReportChange). Told (s .w) (x .file) zs
+      (plus L (asBlock (partOf (x .start) (x .count) zs)) (asBlock words) (owedFor (L .sequence) (L .check) (x .error) words))) (sym change)
       (subst (λ (ys : List ℕ). Told (s .w) (reportedFile effect f (length words) (deliveryError effect f words)) ys
-      (plus L (asBlock (partOf (shownStart effect (s .w) f) (shownCount effect f) ys)) (asBlock words) (owedFor (L .sequence) (L .check) (deliveryError effect f words) words))) (sym after-area)
+      (plus L (asBlock (partOf (shownStart effect (s .w) f) (shownCount effect f) ys)) (asBlock words)
+      (owedFor (L .sequence) (L .check) (deliveryError effect f words) words))) (sym after-area)
       (told-reported effect refl)))))
 
   -- the error that it answers is the judgement of the words as delivered, with the number that the block is due
-  pub report-judged : words ≢ [] → reportBy s area channel unit outcome words .error ≡ judged words (f .sequence) (f .check) (numberAfter 1 (L .came)) .error
+  pub report-judged : words ≢ []
+      → reportBy s area channel unit outcome words .error ≡ judged words (f .sequence) (f .check) (numberAfter 1 (L .came)) .error
   unfolding reportBy
   report-judged some = go (isDelivery effect) refl
     where
-      go : (t : Bool) → isDelivery effect ≡ t → reportChange s area channel unit outcome words .error ≡ judged words (f .sequence) (f .check) (numberAfter 1 (L .came)) .error
+      go : (t : Bool) → isDelivery effect ≡ t
+          → reportChange s area channel unit outcome words .error ≡ judged words (f .sequence) (f .check) (numberAfter 1 (L .came)) .error
       go true d =
           let D = report-delivers s area channel unit outcome words (K .good .sixteen) number d in
           ap (λ (x : ReportChange). x .error) change ∙ cond-true (judged words (f .sequence) (f .check) (f .block) .error) 0 d
-          ∙ ap (λ (n : ℕ). judged words (f .sequence) (f .check) n .error) (K .told i .brought open-file (taken-input (s .m) (s .w) f S (D .side)) .number)
+          ∙ ap (λ (n : ℕ). judged words (f .sequence) (f .check) n .error)
+          (K .told i .brought open-file (taken-input (s .m) (s .w) f S (D .side)) .number)
       go false d = absurd (some (no-words d))

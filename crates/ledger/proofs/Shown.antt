@@ -24,7 +24,8 @@ data-at d e n l = take-at d e (length (d ++ e) - n) (let q : length (d ++ e) ≡
 pub data-checked : (s c : Bool) (k : ℕ) (d : List ℕ) → dataOf s c (checked s c k d) ≡ d
 data-checked s c k d = go (s || c)
   where
-    go : (t : Bool) → take (length (d ++ cond t (checkWord s c (logicalSum d) k ∷ []) []) - cond t 1 0) (d ++ cond t (checkWord s c (logicalSum d) k ∷ []) []) ≡ d
+    go : (t : Bool) → take (length (d ++ cond t (checkWord s c (logicalSum d) k ∷ []) []) - cond t 1 0)
+        (d ++ cond t (checkWord s c (logicalSum d) k ∷ []) []) ≡ d
     go true = data-at d (checkWord s c (logicalSum d) k ∷ []) 1 refl
     go false = data-at d [] 0 refl
 
@@ -56,7 +57,8 @@ module _ (w : ℕ) (f : File) (area puts : List ℕ) (sent : List (List ℕ)) (T
   pub wrote-checks : sent ≡ allChecked (f .sequence) (f .check) 1 (map (dataOf (f .sequence) (f .check)) sent)
   wrote-checks = first-checked (f .sequence) (f .check) 1 sent (blocksIn w f area) (T .data-words) (T .blocks)
 
-  pub wrote-words : joined (map (dataOf (f .sequence) (f .check)) sent) ++ (joined (map (dataOf (f .sequence) (f .check)) (blocksIn w f area)) ++ partIn w f area) ≡ puts
+  pub wrote-words : joined (map (dataOf (f .sequence) (f .check)) sent)
+      ++ (joined (map (dataOf (f .sequence) (f .check)) (blocksIn w f area)) ++ partIn w f area) ≡ puts
   wrote-words =
       sym (append-assoc (joined (data-of sent)) (joined (data-of (blocksIn w f area))) (partIn w f area))
       ∙ ap (λ (l : List ℕ). l ++ partIn w f area) (sym (joined-append (data-of sent) (data-of (blocksIn w f area))) ∙ ap joined whole)

@@ -92,7 +92,8 @@ pub put-side-free : (f : File) → isSide (putSide f) ≡ true → isFull (slotA
 unfolding putSide
 put-side-free f = go (isSide (partSide f)) refl
   where
-    go : (t : Bool) → isSide (partSide f) ≡ t → isSide (cond t (partSide f) (emptySide f)) ≡ true → isFull (slotAt f (cond t (partSide f) (emptySide f))) ≡ false
+    go : (t : Bool) → isSide (partSide f) ≡ t → isSide (cond t (partSide f) (emptySide f)) ≡ true
+        → isFull (slotAt f (cond t (partSide f) (emptySide f))) ≡ false
     go true p s = part-side-free f s
     go false p s = empty-not-full (slotAt f (emptySide f)) (empty-there f s)
 
@@ -161,7 +162,8 @@ no-side High e = true-not-false refl e
 no-side Neither e = refl
 
 -- the words of the part-filled block are those that the buffer of a put holds
-pub part-had : (w : ℕ) (f : File) (xs : List ℕ) → isSide (putSide f) ≡ true → partIn w f xs ≡ partOf (startAt f w (putSide f)) (partWords (slotAt f (putSide f))) xs
+pub part-had : (w : ℕ) (f : File) (xs : List ℕ) → isSide (putSide f) ≡ true
+    → partIn w f xs ≡ partOf (startAt f w (putSide f)) (partWords (slotAt f (putSide f))) xs
 unfolding partStart partLength putSide
 part-had w f xs = go (isSide (partSide f)) refl
   where
@@ -178,7 +180,8 @@ pub part-stays : (w : ℕ) (f : File) (k : Side) (x : Slot) (t : Bool) (b : ℕ)
     → partIn w (withSlot f k x t b) zs ≡ partIn w f zs
 unfolding partStart partLength partSide
 part-stays w f Low x t b zs e d =
-    ap (λ (p : Bool). of (withSlot f Low x t b) (lower p (isPart (f .high .slot)))) d ∙ go (isPart (f .high .slot)) ∙ sym (ap (λ (p : Bool). of f (lower p (isPart (f .high .slot)))) e)
+    ap (λ (p : Bool). of (withSlot f Low x t b) (lower p (isPart (f .high .slot)))) d ∙ go (isPart (f .high .slot)) ∙ sym
+    (ap (λ (p : Bool). of f (lower p (isPart (f .high .slot)))) e)
   where
     of : File → Side → List ℕ
     of g j = partOf (startAt g w j) (partWords (slotAt g j)) zs
@@ -187,7 +190,8 @@ part-stays w f Low x t b zs e d =
     go true = refl
     go false = refl
 part-stays w f High x t b zs e d =
-    ap (λ (p : Bool). of (withSlot f High x t b) (lower (isPart (f .low .slot)) p)) d ∙ go (isPart (f .low .slot)) ∙ sym (ap (λ (p : Bool). of f (lower (isPart (f .low .slot)) p)) e)
+    ap (λ (p : Bool). of (withSlot f High x t b) (lower (isPart (f .low .slot)) p)) d ∙ go (isPart (f .low .slot)) ∙ sym
+    (ap (λ (p : Bool). of f (lower (isPart (f .low .slot)) p)) e)
   where
     of : File → Side → List ℕ
     of g j = partOf (startAt g w j) (partWords (slotAt g j)) zs
@@ -206,5 +210,8 @@ part-same m w f S xs zs same = go (isSide (partSide f)) refl
     go : (t : Bool) → isSide (partSide f) ≡ t → partIn w f zs ≡ partIn w f xs
     go true s =
         let N = part-numbers (f .output) (f .size) (f .rlen) (slotAt f (partSide f)) (slot-fits m w f (partSide f) S) (part-there f s) in
-        same-first w (bufferAt f (partSide f) .number) (partWords (slotAt f (partSide f))) xs zs (omega (arith, size-fits m w f S, N .1)) (same (partSide f) (own-part m w f S s))
-    go false s = ap (λ (k : Side). partOf (startAt f w k) (partWords (slotAt f k)) zs) (no-side (partSide f) s) ∙ sym (ap (λ (k : Side). partOf (startAt f w k) (partWords (slotAt f k)) xs) (no-side (partSide f) s))
+        same-first w (bufferAt f (partSide f) .number) (partWords (slotAt f (partSide f))) xs zs (omega (arith, size-fits m w f S, N .1))
+        (same (partSide f) (own-part m w f S s))
+    go false s =
+        ap (λ (k : Side). partOf (startAt f w k) (partWords (slotAt f k)) zs) (no-side (partSide f) s) ∙ sym
+        (ap (λ (k : Side). partOf (startAt f w k) (partWords (slotAt f k)) xs) (no-side (partSide f) s))

@@ -47,7 +47,8 @@ use Rattle.ledger.proofs.Frames.{told-still, told-closed, Kept, kept-fi
 use Rattle.ledger.proofs.Moves.{entering, entering-other, entering-here}
 
 -- a file as it is opened
-told-opened : (w : ℕ) (q : Wish) (low high : ℕ) (area : List ℕ) → Told w (openedFile q low high) area (newLedger (q .channel) (q .unit) (q .sequence) (q .check))
+told-opened : (w : ℕ) (q : Wish) (low high : ℕ) (area : List ℕ)
+    → Told w (openedFile q low high) area (newLedger (q .channel) (q .unit) (q .sequence) (q .check))
 unfolding openedFile line partStart partLength partSide joined allChecked contents numberAfter
 told-opened w q low high area = record {
   opened = refl;
@@ -92,35 +93,43 @@ told-asked w op f area L T = go (isReading op)
     go false = T
 
 -- a fresh start closes every file, whatever was
-pub fresh-kept : (s : State) (area : List ℕ) (m w : ℕ) (masks : Masks) → Good (freshBy s (length area) m w masks .state) → freshBy s (length area) m w masks .refusal ≡ 0
+pub fresh-kept : (s : State) (area : List ℕ) (m w : ℕ) (masks : Masks) → Good (freshBy s (length area) m w masks .state)
+    → freshBy s (length area) m w masks .refusal ≡ 0
     → Kept (freshBy s (length area) m w masks .state) area (λ i. blankLedger)
 unfolding freshState
 fresh-kept s area m w masks g z = record {
   good = g;
   told = λ i.
-      told-closed _ _ area blankLedger (ap (λ (t : State). fileAt t i .opened) (fresh-accepted s (length area) m w masks z) ∙ all-closed fileCount i) refl;
+      told-closed _ _ area blankLedger (ap (λ (t : State). fileAt t i .opened) (fresh-accepted s (length area) m w masks z) ∙ all-closed fileCount i)
+      refl;
 }
 
 module _ (s : State) (area : List ℕ) (ledgers : ℕ → Ledger) (K : Kept s area ledgers) where
   pub open-kept : (file channel unit flags size rlen : ℕ) → openBy s file channel unit flags size rlen .refusal ≡ 0
-      → Kept (openBy s file channel unit flags size rlen .state) area (entering ledgers (λ g. newLedger channel unit (isSet flags 4) (isSet flags 8)) file)
+      → Kept (openBy s file channel unit flags size rlen .state) area
+      (entering ledgers (λ g. newLedger channel unit (isSet flags 4) (isSet flags 8)) file)
   unfolding answerOf
   open-kept file channel unit flags size rlen z =
       let t = openBy s file channel unit flags size rlen .state in
       let F = open-frame s file channel unit flags size rlen in
-      kept-file s t area area ledgers (entering ledgers (λ g. newLedger channel unit (isSet flags 4) (isSet flags 8)) file) K (call-kept s area (K .good) (opening file channel unit flags size rlen)) file (F .w) (F .files)
+      kept-file s t area area ledgers (entering ledgers (λ g. newLedger channel unit (isSet flags 4) (isSet flags 8)) file) K
+      (call-kept s area (K .good) (opening file channel unit flags size rlen)) file (F .w) (F .files)
       (entering-other ledgers (λ g. newLedger channel unit (isSet flags 4) (isSet flags 8)) file) (λ i ne p k q. refl)
-      (subst (λ (h : File). Told (s .w) h area (entering ledgers (λ g. newLedger channel unit (isSet flags 4) (isSet flags 8)) file file)) (sym (open-file s file channel unit flags size rlen z (K .good .sixteen)))
-      (subst (Told (s .w) (openedFile (wishOf channel unit flags size rlen) (lowOf s) (highOf s)) area) (sym (entering-here ledgers (λ g. newLedger channel unit (isSet flags 4) (isSet flags 8)) file))
+      (subst (λ (h : File). Told (s .w) h area (entering ledgers (λ g. newLedger channel unit (isSet flags 4) (isSet flags 8)) file file))
+      (sym (open-file s file channel unit flags size rlen z (K .good .sixteen)))
+      (subst (Told (s .w) (openedFile (wishOf channel unit flags size rlen) (lowOf s) (highOf s)) area)
+      (sym (entering-here ledgers (λ g. newLedger channel unit (isSet flags 4) (isSet flags 8)) file))
       (told-opened (s .w) (wishOf channel unit flags size rlen) (lowOf s) (highOf s) area)))
 
   pub close-kept : (file : ℕ) → closeBy s file .refusal ≡ 0 → Kept (closeBy s file .state) area (entering ledgers withClose file)
   unfolding answerOf
   close-kept file z =
       let F = close-frame s file in
-      kept-file s (closeBy s file .state) area area ledgers (entering ledgers withClose file) K (call-kept s area (K .good) (close file)) file (F .w) (F .files)
+      kept-file s (closeBy s file .state) area area ledgers (entering ledgers withClose file) K (call-kept s area (K .good) (close file)) file (F .w)
+      (F .files)
       (entering-other ledgers withClose file) (λ i ne p k q. refl)
-      (told-closed (s .w) (fileAt (closeBy s file .state) file) area (entering ledgers withClose file file) (ap (λ (f : File). f .opened) (close-file s file z))
+      (told-closed (s .w) (fileAt (closeBy s file .state) file) area (entering ledgers withClose file file)
+      (ap (λ (f : File). f .opened) (close-file s file z))
       (ap (λ (g : Ledger). g .opened) (entering-here ledgers withClose file)))
 
   asked-number : (file op priority : ℕ) → askBy s file op priority .refusal ≡ 0
@@ -128,13 +137,16 @@ module _ (s : State) (area : List ℕ) (ledgers : ℕ → Ledger) (K : Kept s ar
   unfolding askRefusal
   asked-number file op priority z = sym (ask-exactly s file op priority .number) ∙ z
 
-  asked-file : (file op priority : ℕ) → askBy s file op priority .refusal ≡ 0 → fileAt (askBy s file op priority .state) file ≡ askedFile op (fileAt s file)
+  asked-file : (file op priority : ℕ) → askBy s file op priority .refusal ≡ 0
+      → fileAt (askBy s file op priority .state) file ≡ askedFile op (fileAt s file)
   unfolding askBy
   asked-file file op priority z =
       let c = channelAt s (fileAt s file .channel) in
       let n = asked-number file op priority z in
-      let x = ask-taken (askWrong s file) (fileAt s file) c op priority (s .frozen) (askRefusal (askWrong s file) (fileAt s file) c op priority) refl n in
-      here-file s file (fileAt s file .channel) (askChange s file op priority .refusal) (askChange s file op priority .file) (askChange s file op priority .channel)
+      let x = ask-taken (askWrong s file) (fileAt s file) c op priority (s .frozen) (askRefusal (askWrong s file) (fileAt s file) c op priority) refl
+      n in
+      here-file s file (fileAt s file .channel) (askChange s file op priority .refusal) (askChange s file op priority .file)
+      (askChange s file op priority .channel)
       (ap (λ (y : AskChange). y .refusal) x) (place-of s file (ask-ready (askWrong s file) (fileAt s file) c op priority n .isOpen))
       ∙ ap (λ (y : AskChange). y .file) x
 
@@ -142,8 +154,10 @@ module _ (s : State) (area : List ℕ) (ledgers : ℕ → Ledger) (K : Kept s ar
   unfolding answerOf
   ask-kept file op priority z =
       let F = ask-frame s file op priority in
-      kept-file s (askBy s file op priority .state) area area ledgers ledgers K (call-kept s area (K .good) (ask file op priority)) file (F .words) (F .files) (λ i ne. refl) (λ i ne p k q. refl)
-      (subst (λ (h : File). Told (s .w) h area (ledgers file)) (sym (asked-file file op priority z)) (told-asked (s .w) op (fileAt s file) area (ledgers file) (K .told file)))
+      kept-file s (askBy s file op priority .state) area area ledgers ledgers K (call-kept s area (K .good) (ask file op priority)) file (F .words)
+      (F .files) (λ i ne. refl) (λ i ne p k q. refl)
+      (subst (λ (h : File). Told (s .w) h area (ledgers file)) (sym (asked-file file op priority z))
+      (told-asked (s .w) op (fileAt s file) area (ledgers file) (K .told file)))
 
   -- the files are as they were
   turns-kept : (t : State) → Good t → OnlyTurns s t → Kept t area ledgers

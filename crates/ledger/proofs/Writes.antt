@@ -99,9 +99,11 @@ module _ (w : ℕ) (f g : File) (xs zs puts : List ℕ) (sent : List (List ℕ))
 
 -- ---- put
 
-module _ (m w : ℕ) (f : File) (S : Sound m w f) (room : isSide (putSide f) ≡ true) (xs zs ys puts : List ℕ) (sent : List (List ℕ)) (T : Wrote w f xs puts sent)
+module _ (m w : ℕ) (f : File) (S : Sound m w f) (room : isSide (putSide f) ≡ true) (xs zs ys puts : List ℕ) (sent : List (List ℕ))
+    (T : Wrote w f xs puts sent)
     (only : Only (startAt f w (putSide f)) w xs zs)
-    (adds : isComplete (added f) ≡ false → partOf (startAt f w (putSide f)) (wordsAfter f) zs ≡ partOf (startAt f w (putSide f)) (partWords (slotAt f (putSide f))) xs ++ ys)
+    (adds : isComplete (added f) ≡ false → partOf (startAt f w (putSide f)) (wordsAfter f) zs ≡ partOf (startAt f w (putSide f))
+    (partWords (slotAt f (putSide f))) xs ++ ys)
     (seals : isComplete (added f) ≡ true → partOf (startAt f w (putSide f)) (wordsAfter f + extra (f .sequence) (f .check)) zs
     ≡ withCheck f (partOf (startAt f w (putSide f)) (partWords (slotAt f (putSide f))) xs ++ ys)) where
   P : PutAt f (putSide f)
@@ -129,7 +131,8 @@ module _ (m w : ℕ) (f : File) (S : Sound m w f) (room : isSide (putSide f) ≡
       had = part-had w f xs room
 
       go : (t : Bool) → ltb (f .size) (wordsAfter f + f .rlen) ≡ t
-          → Wrote w (cond t (filledAt f (putSide f) (wordsAfter f) 0) (withSlot f (putSide f) (Part (wordsAfter f)) false (f .block))) zs (puts ++ ys) sent
+          → Wrote w (cond t (filledAt f (putSide f) (wordsAfter f) 0) (withSlot f (putSide f) (Part (wordsAfter f)) false (f .block))) zs (puts ++ ys)
+          sent
       go true e =
           wrote-block w f (filledAt f (putSide f) (wordsAfter f) 0) xs zs puts sent
           (slot-same f (putSide f) (Full (wordsAfter f) 0 0) (turnedBy f (putSide f)) (nextBlock (f .block))) T still
@@ -141,14 +144,16 @@ module _ (m w : ℕ) (f : File) (S : Sound m w f) (room : isSide (putSide f) ≡
           (ap (λ (v : List ℕ). joined (T .data-words) ++ (v ++ ys)) (sym had) ∙ sym (append-assoc (joined (T .data-words)) (partIn w f xs) ys)
           ∙ ap (λ (v : List ℕ). v ++ ys) (T .words))
       go false e =
-          wrote-more w f (withSlot f (putSide f) (Part (wordsAfter f)) false (f .block)) xs zs puts sent (slot-same f (putSide f) (Part (wordsAfter f)) false (f .block)) T still ys
+          wrote-more w f (withSlot f (putSide f) (Part (wordsAfter f)) false (f .block)) xs zs puts sent
+          (slot-same f (putSide f) (Part (wordsAfter f)) false (f .block)) T still ys
           (sym (ap line added-is) ∙ added-line f)
           (part-held f (putSide f) room (P .alone) w (wordsAfter f) (f .block) zs ∙ adds (completes ∙ e) ∙ ap (λ (v : List ℕ). v ++ ys) (sym had))
           (block-stays f (putSide f) (Part (wordsAfter f)) false)
 
 -- ---- seal
 
-module _ (m w : ℕ) (f : File) (S : Sound m w f) (part : isSide (partSide f) ≡ true) (xs zs puts : List ℕ) (sent : List (List ℕ)) (T : Wrote w f xs puts sent)
+module _ (m w : ℕ) (f : File) (S : Sound m w f) (part : isSide (partSide f) ≡ true) (xs zs puts : List ℕ) (sent : List (List ℕ))
+    (T : Wrote w f xs puts sent)
     (only : Only (partStart w f) w xs zs)
     (seals : partOf (partStart w f) (partLength f + extra (f .sequence) (f .check)) zs ≡ withCheck f (partOf (partStart w f) (partLength f) xs)) where
   Q : PutAt f (partSide f)
@@ -174,16 +179,20 @@ unfolding withoutOldest emptiedAt sendStart sendWords
 send-wrote w f xs puts sent full T = go (oldest f) (aged f) full
   where
     go : (k : Side) → Aged f k → isSide k ≡ true
-        → Wrote w (withSlot f k Empty false (f .block)) xs puts (sent ++ (partOf (startAt f w k) (fullWords (slotAt f k) + extra (f .sequence) (f .check)) xs ∷ []))
+        → Wrote w (withSlot f k Empty false (f .block)) xs puts
+        (sent ++ (partOf (startAt f w k) (fullWords (slotAt f k) + extra (f .sequence) (f .check)) xs ∷ []))
     go Neither (noBlock e) s = true-not-false s refl
     go k (old _ n at e rest s x l gone moved) t =
-        subst (λ (i : ℕ). Wrote w (withSlot f k Empty false (f .block)) xs puts (sent ++ (partOf (startAt f w k) (i + extra (f .sequence) (f .check)) xs ∷ []))) (sym (ap fullWords x))
-        (wrote-out w f (withSlot f k Empty false (f .block)) xs xs puts sent (slot-same f k Empty false (f .block)) T (block (bufferAt f k .number) n at e) rest l (gone (f .block))
+        subst (λ (i : ℕ). Wrote w (withSlot f k Empty false (f .block)) xs puts
+        (sent ++ (partOf (startAt f w k) (i + extra (f .sequence) (f .check)) xs ∷ []))) (sym (ap fullWords x))
+        (wrote-out w f (withSlot f k Empty false (f .block)) xs xs puts sent (slot-same f k Empty false (f .block)) T
+        (block (bufferAt f k .number) n at e) rest l (gone (f .block))
         (part-stays w f k Empty false (f .block) xs (ap isPart x) refl) (block-stays f k Empty false))
 
 -- ---- a file whose buffers did not change
 
 pub frame-wrote : (m w : ℕ) (f : File) → Sound m w f → (xs zs puts : List ℕ) (sent : List (List ℕ))
-    → ((k : Side) → owns f k ≡ true → partOf (bufferAt f k .number * w) w zs ≡ partOf (bufferAt f k .number * w) w xs) → Wrote w f xs puts sent → Wrote w f zs puts sent
+    → ((k : Side) → owns f k ≡ true → partOf (bufferAt f k .number * w) w zs ≡ partOf (bufferAt f k .number * w) w xs) → Wrote w f xs puts sent
+    → Wrote w f zs puts sent
 frame-wrote m w f S xs zs puts sent same T =
     wrote-still w f f xs zs puts sent (same-self f) T (blocks-same m w f S xs zs (λ k o full. same k o)) refl (part-same m w f S xs zs same) refl

@@ -16,8 +16,8 @@ use Rattle.histories.specs.Histories.{isAccepted}
 pub data Item : Type 0 where
   word wrong : ℕ → Item
 
--- Of a file: whether it is open, and on which unit. Since its open: the fields chosen; the words put; the blocks that writes' answers showed; the blocks delivered; what get gave
--- or skip dropped; and what is owed still, one list for each block that is not done with.
+-- Of a file: whether it is open, and on which unit. Since its open: the fields chosen; the words put; the blocks that writes' answers
+-- showed; the blocks delivered; what get gave or skip dropped; and what is owed still, one list for each block that is not done with.
 pub record Ledger : Type 0 where
   pub opened : Bool
   pub channel : ℕ
