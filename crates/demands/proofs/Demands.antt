@@ -12,12 +12,12 @@ use Rattle.files.specs.declared.File.{File}
 use Rattle.files.specs.Sides.{blockNumbers}
 use Rattle.pool.specs.Free.{serves}
 use Rattle.state.specs.declared.State.{State}
-use Rattle.state.specs.Places.{fileAt}
+use Rattle.state.specs.Places.{beforeStart, fileAt}
 use Rattle.opening.specs.declared.Masks.{Masks}
 use Rattle.requests.specs.Ask.{isPriority}
 use Rattle.histories.specs.Calls.{Call, fresh, opening, close, ask, report, answerOf}
 use Rattle.histories.specs.Histories.{Lent, after, count, freshStart, declaredOn}
-use Rattle.histories.proofs.Kept.{Good, good-start, history-kept}
+use Rattle.histories.proofs.Kept.{Good, good-before, good-start, history-kept}
 use Rattle.ledger.specs.Ledgers.{Ledger, blankLedger, errorOf, stateAfter, areaAfter, ledgerAfter}
 use Rattle.ledger.specs.Blocks.{joined}
 use Rattle.ledger.proofs.Frames.{Kept}
@@ -39,6 +39,10 @@ demand2-one = check-word-only
 
 pub demand2-right : (sequence check : Bool) (sum number : ℕ) → IsCheckWord sequence check sum number (checkWord sequence check sum number)
 demand2-right = check-word-is
+
+-- "Each buffer is free, or held by exactly one open file": from before the first fresh start too, after any calls
+pub demand2-before : (calls : List Lent) → Holds (after beforeStart calls)
+demand2-before calls = good-holds (after beforeStart calls) (history-kept beforeStart calls good-before)
 
 -- From here on: a fresh start that is accepted, from any state value; then any calls, each given the state that the last one left.
 module _ (s₀ : State) (area₀ : List ℕ) (m w : ℕ) (masks : Masks) (started : answerOf s₀ area₀ (fresh m w masks) .refusal ≡ 0) where
