@@ -31,7 +31,7 @@ use Rattle.requests.proofs.Found.{fits-bounds}
 use Rattle.output.proofs.Written.{only-wider, pasted-only, pasted-part}
 use Rattle.ledger.specs.Ledgers.{Item, word, wrongs, Ledger, asBlock, contentsOf, owedFor}
 use Rattle.ledger.specs.Blocks.{partIn}
-use Rattle.ledger.specs.Told.{Wrote, Brought, Told}
+use Rattle.ledger.proofs.Told.{Wrote, Brought, Told}
 use Rattle.ledger.proofs.Lines.{unread-same, beside}
 use Rattle.ledger.proofs.Sides.{Same, slot-same, slot-block, block-stays, part-stays}
 use Rattle.ledger.proofs.Writes.{send-wrote}

@@ -30,7 +30,7 @@ use Rattle.pool.proofs.Changes.{numbers}
 use Rattle.pool.proofs.Inside.{size-fits, buffer-inside}
 use Rattle.ledger.specs.Ledgers.{Item, word, wrongs, contentsOf, pastUsed, without, firstOf, restOf}
 use Rattle.ledger.specs.Blocks.{unreadIn, unreadOf, joined, contents}
-use Rattle.ledger.specs.Told.{All, none, more, UntoldFirst, Brought}
+use Rattle.ledger.proofs.Told.{All, none, more, UntoldFirst, Brought}
 use Rattle.ledger.proofs.Lists.{joined-last, contents-last, number-last, map-append, all-append}
 use Rattle.ledger.proofs.Sides.{Same, slot-same, block-stays}
 

@@ -19,7 +19,7 @@ use Rattle.opening.specs.Close.{closeRows, closeBy}
 use Rattle.opening.proofs.CloseTheorems.{close-exactly}
 use Rattle.ledger.specs.Ledgers.{dataOf}
 use Rattle.ledger.specs.Blocks.{blockIn, partIn, joined}
-use Rattle.ledger.specs.Told.{Wrote}
+use Rattle.ledger.proofs.Told.{Wrote}
 use Rattle.ledger.proofs.Sides.{no-full}
 use Rattle.ledger.proofs.Shown.{wrote-words}
 

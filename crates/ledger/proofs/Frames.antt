@@ -26,7 +26,7 @@ use Rattle.output.proofs.Written.{other-buffer}
 use Rattle.histories.proofs.Kept.{Good}
 use Rattle.ledger.specs.Ledgers.{Ledger}
 use Rattle.ledger.specs.Blocks.{partIn}
-use Rattle.ledger.specs.Told.{Wrote, Brought, Chose, Told}
+use Rattle.ledger.proofs.Told.{Wrote, Brought, Chose, Told}
 use Rattle.ledger.proofs.Lines.{unread-same}
 use Rattle.ledger.proofs.Sides.{Same, same-self}
 use Rattle.ledger.proofs.Writes.{wrote-still, frame-wrote}

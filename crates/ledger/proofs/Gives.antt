@@ -27,7 +27,7 @@ use Rattle.pool.proofs.Changes.{numbers, passed-sound}
 use Rattle.output.proofs.Written.{part-join}
 use Rattle.ledger.specs.Ledgers.{Item, word, wrong, givenBy, pastUsed, without}
 use Rattle.ledger.specs.Blocks.{unreadIn}
-use Rattle.ledger.specs.Told.{Brought}
+use Rattle.ledger.proofs.Told.{Brought}
 use Rattle.ledger.proofs.Lists.{map-append}
 use Rattle.ledger.proofs.Sides.{slot-same, block-stays}
 use Rattle.ledger.proofs.Brings.{brought-given, passed-brought}

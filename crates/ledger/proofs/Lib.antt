@@ -1,3 +1,4 @@
+pub mod Told
 pub mod Lists
 pub mod Lines
 pub mod Sides

@@ -31,7 +31,7 @@ use Rattle.output.specs.Only.{Only}
 use Rattle.output.proofs.Written.{other-buffer}
 use Rattle.ledger.specs.Ledgers.{word, wrongs}
 use Rattle.ledger.specs.Blocks.{blockIn, unreadIn, blocksIn, unreadOf}
-use Rattle.ledger.specs.Told.{All, none, more}
+use Rattle.ledger.proofs.Told.{All, none, more}
 use Rattle.ledger.proofs.Lists.{all-append, map-same}
 
 -- ---- what holds of every full block

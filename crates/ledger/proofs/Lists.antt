@@ -7,7 +7,7 @@ use Rattle.files.specs.Sides.{nextBlock}
 use Rattle.word.specs.Blocks.{judged}
 use Rattle.ledger.specs.Ledgers.{contentsOf}
 use Rattle.ledger.specs.Blocks.{checked, allChecked, joined, contents, numberAfter}
-use Rattle.ledger.specs.Told.{All, none, more}
+use Rattle.ledger.proofs.Told.{All, none, more}
 
 -- ---- one more at the end
 

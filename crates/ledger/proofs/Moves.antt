@@ -30,7 +30,7 @@ use Rattle.output.proofs.SealTheorems.{seal-open, seal-output, seal-part, seal-
 use Rattle.histories.specs.Calls.{get, put, seal, skip, answerOf}
 use Rattle.histories.proofs.Kept.{call-kept}
 use Rattle.ledger.specs.Ledgers.{Item, Ledger, givenBy, pastUsed, without, withGet, withPut, withSkip}
-use Rattle.ledger.specs.Told.{Brought, Told}
+use Rattle.ledger.proofs.Told.{Brought, Told}
 use Rattle.ledger.proofs.Sides.{Same, same-self, same-then, slot-same}
 use Rattle.ledger.proofs.Writes.{put-wrote, seal-wrote}
 use Rattle.ledger.proofs.Brings.{skip-brought}

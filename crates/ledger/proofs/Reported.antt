@@ -48,7 +48,7 @@ use Rattle.histories.specs.Calls.{report, answerOf}
 use Rattle.histories.proofs.Kept.{call-kept}
 use Rattle.ledger.specs.Ledgers.{Ledger, asBlock, owedFor, withReport, isOn}
 use Rattle.ledger.specs.Blocks.{numberAfter}
-use Rattle.ledger.specs.Told.{Told}
+use Rattle.ledger.proofs.Told.{Told}
 use Rattle.ledger.proofs.Frames.{Kept, others-same, kept-file}
 use Rattle.ledger.proofs.Booked.{plus, plus-none, told-back, told-mark, told-sent, told-came}
 use Rattle.ledger.proofs.Deliveries.{words-delivered, write-ready}

@@ -14,7 +14,7 @@ use Rattle.files.specs.declared.File.{File}
 use Rattle.files.specs.Sides.{blockNumbers, nextBlock}
 use Rattle.ledger.specs.Ledgers.{dataOf}
 use Rattle.ledger.specs.Blocks.{blocksIn, partIn, checked, allChecked, joined, numberAfter}
-use Rattle.ledger.specs.Told.{Wrote}
+use Rattle.ledger.proofs.Told.{Wrote}
 use Rattle.ledger.proofs.Lists.{map-append}
 
 -- the data words of a block of these data words

@@ -41,7 +41,7 @@ use Rattle.histories.specs.Calls.{opening, close, ask, freeze, thaw, answerOf}
 use Rattle.histories.proofs.Kept.{Good, call-kept}
 use Rattle.ledger.specs.Ledgers.{Ledger, newLedger, blankLedger, withClose}
 use Rattle.ledger.specs.Blocks.{allChecked, joined, contents, numberAfter}
-use Rattle.ledger.specs.Told.{none, Told}
+use Rattle.ledger.proofs.Told.{none, Told}
 use Rattle.ledger.proofs.Sides.{slot-same, block-stays, part-stays}
 use Rattle.ledger.proofs.Frames.{told-still, told-closed, Kept, kept-file}
 use Rattle.ledger.proofs.Moves.{entering, entering-other, entering-here}

@@ -25,7 +25,7 @@ use Rattle.output.specs.Only.{Only}
 use Rattle.output.proofs.Buffers.{part-first, room-too}
 use Rattle.output.proofs.Fillings.{withCheck}
 use Rattle.ledger.specs.Blocks.{blockIn, blocksIn, partIn, checked, allChecked, joined}
-use Rattle.ledger.specs.Told.{Wrote}
+use Rattle.ledger.proofs.Told.{Wrote}
 use Rattle.ledger.proofs.Lists.{joined-last, checked-last, number-last, map-append}
 use Rattle.ledger.proofs.Lines.{blocks-same, beside}
 use Rattle.ledger.proofs.Sides.{Same, same-self, slot-same, slot-block, block-stays, no-full, part-side-free, put-side-free, part-held, complete-when, part-gone, part-had, part-stays, part-same}

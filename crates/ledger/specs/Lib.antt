@@ -1,3 +1,2 @@
 pub mod Ledgers
 pub mod Blocks
-pub mod Told
