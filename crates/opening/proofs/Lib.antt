@@ -6,4 +6,3 @@ pub mod FreshTheorems
 pub mod OpenTheorems
 pub mod CloseTheorems
 pub mod FreezeTheorems
-pub mod ExampleTheorems

@@ -3,4 +3,3 @@ pub mod Fresh
 pub mod Open
 pub mod Close
 pub mod Freeze
-pub mod Examples

@@ -16,4 +16,4 @@ pub mod Demand
 pub mod Limits
 pub mod Lift
 pub mod Machine
-pub mod Examples
+pub mod Bound

@@ -1,3 +1,3 @@
 pub mod History
 pub mod Lifted
-pub mod Examples
+pub mod Bound

@@ -3,4 +3,3 @@ pub mod Sum
 pub mod CheckWord
 pub mod Block
 pub mod Agree
-pub mod Examples

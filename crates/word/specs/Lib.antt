@@ -2,4 +2,3 @@ pub mod Sums
 pub mod CheckWords
 pub mod Blocks
 pub mod Totals
-pub mod Examples

@@ -1,5 +1,4 @@
--- Every row of the table of examples holds; and demand 3's bound is met: with two units and no priority request the answer is the
--- 202nd report. Assumes nothing.
+-- Demand 3's bound is met: with two units and no priority request the answer is the 202nd report. Assumes nothing.
 use mathlib.Core.Path.{_≡_, refl}
 use mathlib.Core.List.{[], _∷_, _++_}
 use Rattle.area.specs.Lists.{anyOf, firstAlong}
@@ -8,12 +7,7 @@ use Rattle.channel.specs.Units.{withTurn, freshWith, acceptsAt}
 use Rattle.schedule.specs.Scans.{scanFrom, workingIn, priorityIn, ordinaryIn, nextTurn}
 use Rattle.schedule.specs.Turns.{startOf, thawOf, askOf, judgeOf, goesOn, repeatOf, markAfter, endOf, bookOf, reportOf}
 use Rattle.service.specs.History.{report, step, fresh, run, count, aReport, anAnswerTo}
-use Rattle.service.specs.Examples.{repeatedFrom, see, sees, table, shown, wanted, twoAsk, allButOne}
-
--- P7, P8, P9, P10, P12
-pub examples : shown table ≡ wanted table
-unfolding firstAlong anyOf rowOf isAllowed isPermanent nextAttempt endingOf verdictOf withTurn freshWith acceptsAt scanFrom workingIn priorityIn ordinaryIn nextTurn startOf thawOf askOf judgeOf goesOn repeatOf markAfter endOf bookOf reportOf step fresh repeatedFrom see sees table
-examples = refl
+use Rattle.service.specs.Bound.{twoAsk, allButOne}
 
 -- after 201 accepted reports unit 1 has no answer, and the 202nd answers it
 pub bound-met : (count aReport twoAsk allButOne ≡ 201) × (count (anAnswerTo 1) twoAsk allButOne ≡ 0) × (count (anAnswerTo 1) twoAsk (allButOne ++ (report 1 redundancy ∷ [])) ≡ 1)

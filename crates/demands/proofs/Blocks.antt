@@ -1,0 +1,52 @@
+-- Demand 2 on blocks and records, from what the ledgers keep. Assumes nothing.
+use mathlib.Core.Path.{_≡_, sym, ap, _∙_}
+use mathlib.Core.Logic.{_≢_}
+use mathlib.Core.Bool.{true, false}
+use mathlib.Core.List.{List, []}
+use Prim.Native.Nat.{ℕ, _+_, _%_}
+use lib.ListN.{length}
+use Rattle.word.specs.Blocks.{judged}
+use Rattle.files.specs.Sides.{blockNumbers}
+use Rattle.pool.specs.Free.{serves}
+use Rattle.state.specs.declared.State.{State}
+use Rattle.state.specs.Places.{fileAt}
+use Rattle.requests.specs.Report.{fileOf}
+use Rattle.requests.proofs.ReportTheorems.{report-books-own}
+use Rattle.histories.specs.Calls.{close, report, answerOf}
+use Rattle.ledger.specs.Ledgers.{Ledger, errorOf}
+use Rattle.ledger.specs.Blocks.{joined}
+use Rattle.ledger.proofs.Frames.{Kept}
+use Rattle.ledger.proofs.Shown.{wrote-checks, wrote-words, numbers}
+use Rattle.ledger.proofs.Closed.{sent-all, close-unsent}
+use Rattle.ledger.proofs.Reported.{report-judged}
+use Rattle.demands.specs.Demands.{dataIn, Writes, Reads}
+
+module _ (s : State) (area : List ℕ) (ledgers : ℕ → Ledger) (K : Kept s area ledgers) where
+  module _ (i : ℕ) (o : fileAt s i .opened ≡ true) where
+    pub ledger-writes : fileAt s i .output ≡ true → Writes (s .w) (fileAt s i) area (ledgers i)
+    ledger-writes u =
+        let T = K .told i .wrote o u in
+        record {
+          checks = wrote-checks (s .w) (fileAt s i) area (ledgers i .puts) (ledgers i .sent) T;
+          words = wrote-words (s .w) (fileAt s i) area (ledgers i .puts) (ledgers i .sent) T;
+        }
+
+    pub ledger-closed : fileAt s i .output ≡ true → answerOf s area (close i) .refusal ≡ 0
+        → joined (dataIn (fileAt s i) (ledgers i .sent)) ≡ ledgers i .puts
+    unfolding answerOf
+    ledger-closed u z = sent-all (fileAt s i) u (close-unsent s i z) (s .w) area (ledgers i .puts) (ledgers i .sent) (K .told i .wrote o u)
+
+    pub ledger-reads : fileAt s i .output ≡ false → Reads (s .w) (fileAt s i) area (ledgers i)
+    ledger-reads u = let T = K .told i .brought o u in record { items = T .items; lies = T .lies }
+
+  pub ledger-judged : (i channel unit outcome : ℕ) (words : List ℕ) → serves channel unit (fileAt s i) ≡ true → words ≢ []
+      → answerOf s area (report channel unit outcome words) .refusal ≡ 0
+      → errorOf (answerOf s area (report channel unit outcome words) .added)
+      ≡ judged words (fileAt s i .sequence) (fileAt s i .check) ((1 + length (ledgers i .came)) % blockNumbers) .error
+  unfolding answerOf
+  ledger-judged i channel unit outcome words on some z =
+      let j = fileOf s channel unit in
+      report-judged s area ledgers K channel unit outcome words z some
+      ∙ ap (λ (n : ℕ). judged words (fileAt s j .sequence) (fileAt s j .check) n .error) (numbers (ledgers j .came))
+      ∙ ap (λ (k : ℕ). judged words (fileAt s k .sequence) (fileAt s k .check) ((1 + length (ledgers k .came)) % blockNumbers) .error)
+      (sym (report-books-own s area channel unit outcome words (K .good .sixteen) z .only i on))

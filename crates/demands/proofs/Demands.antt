@@ -1,0 +1,121 @@
+-- The demands, each proved by one citation. Assumes nothing.
+use mathlib.Core.Path.{_≡_}
+use mathlib.Core.Logic.{_≢_}
+use mathlib.Core.Bool.{Bool, true, false}
+use mathlib.Core.List.{List, []}
+use Prim.Native.Nat.{ℕ, _+_, _%_}
+use lib.ListN.{length}
+use Rattle.word.specs.CheckWords.{checkWord, IsCheckWord}
+use Rattle.word.specs.Blocks.{judged}
+use Rattle.word.proofs.Laws.CheckWord.{check-word-is, check-word-only}
+use Rattle.files.specs.declared.File.{File}
+use Rattle.files.specs.Sides.{blockNumbers}
+use Rattle.pool.specs.Free.{serves}
+use Rattle.state.specs.declared.State.{State}
+use Rattle.state.specs.Places.{beforeStart, fileAt}
+use Rattle.opening.specs.declared.Masks.{Masks}
+use Rattle.requests.specs.Ask.{isPriority}
+use Rattle.histories.specs.Calls.{Call, fresh, opening, close, ask, report, answerOf}
+use Rattle.histories.specs.Histories.{Lent, after, count, freshStart, declaredOn}
+use Rattle.histories.proofs.Kept.{Good, good-before, good-start, history-kept}
+use Rattle.ledger.specs.Ledgers.{Ledger, blankLedger, errorOf, stateAfter, areaAfter, ledgerAfter}
+use Rattle.ledger.specs.Blocks.{joined}
+use Rattle.ledger.proofs.Frames.{Kept}
+use Rattle.ledger.proofs.Always.{always, started as begun}
+use Rattle.demands.specs.Demands.{Refuses, Holds, Frees, Takes, Books, dataIn, Writes, Reads, Answers}
+use Rattle.demands.proofs.Refusals.{refuses}
+use Rattle.demands.proofs.Buffers.{good-holds, closed-frees, opened-takes, reported-books}
+use Rattle.demands.proofs.Blocks.{ledger-writes, ledger-closed, ledger-reads, ledger-judged}
+use Rattle.demands.proofs.Turns.{answered}
+
+-- "Any call, with any numbers, words and lengths, gets an answer. A refusal carries one number of document 01's table, is given exactly
+-- when the table says, and changes nothing. No caller need check first.": of every state value, every area and every call
+pub demand1 : (s : State) (area : List ℕ) (call : Call) → Refuses s area call
+demand1 s area call = refuses s area call
+
+-- "the one right check word": the word that is checked against document 01's sentence is that of `checked`, and no other
+pub demand2-one : (sequence check : Bool) (sum number w : ℕ) → IsCheckWord sequence check sum number w → w ≡ checkWord sequence check sum number
+demand2-one = check-word-only
+
+pub demand2-right : (sequence check : Bool) (sum number : ℕ) → IsCheckWord sequence check sum number (checkWord sequence check sum number)
+demand2-right = check-word-is
+
+-- "Each buffer is free, or held by exactly one open file": from before the first fresh start too, after any calls
+pub demand2-before : (calls : List Lent) → Holds (after beforeStart calls)
+demand2-before calls = good-holds (after beforeStart calls) (history-kept beforeStart calls good-before)
+
+-- From here on: a fresh start that is accepted, from any state value; then any calls, each given the state that the last one left.
+module _ (s₀ : State) (area₀ : List ℕ) (m w : ℕ) (masks : Masks) (started : answerOf s₀ area₀ (fresh m w masks) .refusal ≡ 0) where
+  -- the state that the fresh start leaves
+  abbrev pub start : State
+  start = answerOf s₀ area₀ (fresh m w masks) .state
+
+  good : (calls : List Lent) → Good (after start calls)
+  good calls = history-kept start calls (good-start s₀ area₀ m w masks started)
+
+  -- "Each buffer is free, or held by exactly one open file,"
+  pub demand2-held : (calls : List Lent) → Holds (after start calls)
+  demand2-held calls = good-holds (after start calls) (good calls)
+
+  -- "and a freed one is used again."
+  pub demand2-freed : (calls : List Lent) (area : List ℕ) (file : ℕ) → answerOf (after start calls) area (close file) .refusal ≡ 0
+      → Frees (after start calls) file (answerOf (after start calls) area (close file) .state)
+  demand2-freed calls area file = closed-frees (after start calls) area file
+
+  pub demand2-taken : (calls : List Lent) (area : List ℕ) (file channel unit flags size rlen : ℕ)
+      → answerOf (after start calls) area (opening file channel unit flags size rlen) .refusal ≡ 0
+      → Takes (after start calls) file (answerOf (after start calls) area (opening file channel unit flags size rlen) .state)
+  demand2-taken calls area file channel unit flags size rlen =
+      opened-takes (after start calls) area file channel unit flags size rlen (good calls)
+
+  -- a completion is booked to the one file of its unit
+  pub demand2-booked : (calls : List Lent) (area : List ℕ) (channel unit outcome : ℕ) (words : List ℕ)
+      → answerOf (after start calls) area (report channel unit outcome words) .refusal ≡ 0
+      → Books (after start calls) channel unit (answerOf (after start calls) area (report channel unit outcome words) .state)
+  demand2-booked calls area channel unit outcome words =
+      reported-books (after start calls) area channel unit outcome words (good calls)
+
+  -- "While only the pack writes the lent area": each call is given the area too that the last one left. The ledger of file i:
+  abbrev pub account : List Call → ℕ → Ledger
+  account calls i = ledgerAfter i start area₀ blankLedger calls
+
+  abbrev pub fileThen : List Call → ℕ → File
+  fileThen calls i = fileAt (stateAfter start area₀ calls) i
+
+  kept : (calls : List Call) → Kept (stateAfter start area₀ calls) (areaAfter start area₀ calls) (account calls)
+  kept = always start area₀ (λ i. blankLedger) (begun s₀ area₀ m w masks started)
+
+  -- "blocks we write carry the one right check word;"
+  pub demand2-writes : (calls : List Call) (i : ℕ) → fileThen calls i .opened ≡ true → fileThen calls i .output ≡ true
+      → Writes (stateAfter start area₀ calls .w) (fileThen calls i) (areaAfter start area₀ calls) (account calls i)
+  demand2-writes calls i = ledger-writes (stateAfter start area₀ calls) (areaAfter start area₀ calls) (account calls) (kept calls) i
+
+  -- when an output file is closed, all that was put was handed out
+  pub demand2-closed : (calls : List Call) (i : ℕ) → fileThen calls i .opened ≡ true → fileThen calls i .output ≡ true
+      → answerOf (stateAfter start area₀ calls) (areaAfter start area₀ calls) (close i) .refusal ≡ 0
+      → joined (dataIn (fileThen calls i) (account calls i .sent)) ≡ account calls i .puts
+  demand2-closed calls i = ledger-closed (stateAfter start area₀ calls) (areaAfter start area₀ calls) (account calls) (kept calls) i
+
+  -- "blocks we read are judged by it as delivered."
+  pub demand2-reads : (calls : List Call) (i : ℕ) → fileThen calls i .opened ≡ true → fileThen calls i .output ≡ false
+      → Reads (stateAfter start area₀ calls .w) (fileThen calls i) (areaAfter start area₀ calls) (account calls i)
+  demand2-reads calls i = ledger-reads (stateAfter start area₀ calls) (areaAfter start area₀ calls) (account calls) (kept calls) i
+
+  -- the report of a delivered block, for the file i on its unit, answers that judgement, with the number after those of the blocks before it
+  pub demand2-judged : (calls : List Call) (i channel unit outcome : ℕ) (words : List ℕ) → serves channel unit (fileThen calls i) ≡ true → words ≢ []
+      → answerOf (stateAfter start area₀ calls) (areaAfter start area₀ calls) (report channel unit outcome words) .refusal ≡ 0
+      → errorOf (answerOf (stateAfter start area₀ calls) (areaAfter start area₀ calls) (report channel unit outcome words) .added)
+      ≡ judged words (fileThen calls i .sequence) (fileThen calls i .check) ((1 + length (account calls i .came)) % blockNumbers) .error
+  demand2-judged calls = ledger-judged (stateAfter start area₀ calls) (areaAfter start area₀ calls) (account calls) (kept calls)
+
+  -- "From a fresh start (and no second), each call given the state that the last one left: an accepted ordinary request on a channel of U
+  -- declared units is answered at most once; until then its channel is working or frozen; its answer comes by the time 101 x (U + P)
+  -- reports have been accepted on that channel since, P counting that channel's priority requests unanswered at its acceptance or
+  -- accepted until its answer."
+  pub demand3 : (before : List Lent) → count freshStart start before ≡ 0
+      → (file op priority : ℕ) (area : List ℕ) → isPriority priority ≡ false → answerOf (after start before) area (ask file op priority) .refusal ≡ 0
+      → (later : List Lent) → count freshStart (answerOf (after start before) area (ask file op priority) .state) later ≡ 0
+      → Answers (declaredOn start (fileAt (after start before) file .channel)) (fileAt (after start before) file .channel)
+      (fileAt (after start before) file .unit)
+      (after start before) (answerOf (after start before) area (ask file op priority) .state) later
+  demand3 = answered s₀ area₀ m w masks started

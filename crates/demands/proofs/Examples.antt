@@ -1,0 +1,34 @@
+-- Document 01's marked examples hold: one claim over the whole table. Assumes nothing.
+use mathlib.Core.Path.{_≡_, refl}
+use Rattle.area.specs.Lists.{anyOf, allOf, allPairs, countOf, firstAlong, countAlong}
+use Rattle.area.specs.Parts.{paste, pastedIn}
+use Rattle.area.specs.Refusals.{lowest}
+use Rattle.area.specs.Numbered.{allFrom}
+use Rattle.word.specs.Sums.{carryBack, sumFrom, logicalSum, firstHalf, lastHalf, folded}
+use Rattle.word.specs.CheckWords.{address, checkWord, nextNumber}
+use Rattle.word.specs.Blocks as blocks
+use Rattle.channel.specs.Rules.{rowOf, isAllowed, isPermanent, nextAttempt, endingOf, verdictOf}
+use Rattle.channel.specs.Units.{withTurn, freshWith, bitsFrom, freshOf, hasRequest, acceptsAt, operationAt}
+use Rattle.schedule.specs.Scans.{scanFrom, workingIn, priorityIn, ordinaryIn, nextTurn}
+use Rattle.schedule.specs.Turns.{startOf, askOf, judgeOf, goesOn, repeatOf, markAfter, endOf, bookOf}
+use Rattle.files.specs.Sides.{emptySide, takenSide, partSide, oldest, filledAt, emptiedAt, withoutOldest}
+use Rattle.moves.specs.Input.{tookBuffer, delivered, gaveBack, metMark}
+use Rattle.moves.specs.Output.{putSide, putStart, added, partStart, partLength, isComplete, sealed, afterPut, sendStart, sendWords, afterWrite}
+use Rattle.files.specs.Opening.{openedFile}
+use Rattle.pool.specs.Free.{lowestFree, freeCount, servingFile}
+use Rattle.filing.specs.Soundness.{isBlank}
+use Rattle.state.specs.Places.{beforeStart, withFile, withChannel}
+use Rattle.judging.specs.Soundness.{numbersInRange, noBufferHeldTwice, eachHasItsOwn, requestsFit, channelsWork, readsAloneTake, writesHaveBlocks, fullBlocksRight, partBuffersRight, placesRight, attemptsInLimit, sound}
+use Rattle.opening.specs.Fresh.{freshRows, freshState, freshBy}
+use Rattle.opening.specs.Open.{freeOf, openRows, openOn, openBy}
+use Rattle.requests.specs.Changes.{changedState}
+use Rattle.requests.specs.Ask.{opOf, askRefusal, askedFile, askedChannel, askOn, askBy}
+use Rattle.requests.specs.Report.{reportRefusal, reportedFile, reportedArea, reportOn, reportOnArea, reportBy, reportByArea}
+use Rattle.output.specs.Blocks.{sealedIn, sealedArea}
+use Rattle.output.specs.Put.{putRows, putRefusal, filledArea, putArea, putOn, putOnArea, putBy, putByArea}
+use Rattle.histories.specs.Calls.{answerOf}
+use Rattle.demands.specs.Examples.{play, repeatedFrom, table, allShown, allWanted}
+
+pub examples : allShown table ≡ allWanted table
+unfolding play repeatedFrom table anyOf allOf allPairs countOf firstAlong countAlong paste pastedIn lowest allFrom carryBack sumFrom logicalSum firstHalf lastHalf folded address checkWord nextNumber blocks.sealRefusal blocks.withCheckWord blocks.sealed blocks.judgeRefusal blocks.errorOf blocks.judged rowOf isAllowed isPermanent nextAttempt endingOf verdictOf withTurn freshWith bitsFrom freshOf hasRequest acceptsAt operationAt scanFrom workingIn priorityIn ordinaryIn nextTurn startOf askOf judgeOf goesOn repeatOf markAfter endOf bookOf emptySide takenSide partSide oldest filledAt emptiedAt withoutOldest tookBuffer delivered gaveBack metMark putSide putStart added partStart partLength isComplete sealed afterPut sendStart sendWords afterWrite openedFile lowestFree freeCount servingFile isBlank beforeStart withFile withChannel numbersInRange noBufferHeldTwice eachHasItsOwn requestsFit channelsWork readsAloneTake writesHaveBlocks fullBlocksRight partBuffersRight placesRight attemptsInLimit sound freshRows freshState freshBy freeOf openRows openOn openBy changedState opOf askRefusal askedFile askedChannel askOn askBy reportRefusal reportedFile reportedArea reportOn reportOnArea reportBy reportByArea sealedIn sealedArea putRows putRefusal filledArea putArea putOn putOnArea putBy putByArea answerOf
+examples = refl

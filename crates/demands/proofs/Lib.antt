@@ -1,0 +1,6 @@
+pub mod Refusals
+pub mod Buffers
+pub mod Turns
+pub mod Blocks
+pub mod Demands
+pub mod Examples

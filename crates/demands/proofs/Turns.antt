@@ -1,0 +1,94 @@
+-- Demand 3 from what the system around a channel keeps: the same counts, in the pack's own words. Assumes nothing.
+use mathlib.Core.Path.{_≡_, refl, sym, ap, subst, _∙_}
+use mathlib.Core.Bool.{true, false}
+use mathlib.Core.Option.{some}
+use mathlib.Core.List.{List}
+use Prim.Native.Nat.{ℕ, _+_, _*_, _<_}
+use native.Mathlib.Omega.{arith}
+use borrow.Author.Tests.{eq-eqb}
+use Rattle.channel.specs.declared.Op.{Op}
+use Rattle.channel.specs.Rules.{mostReports}
+use Rattle.service.specs.History as history
+use Rattle.service.specs.History.{accepted, aReport, aPriority, aRequestOf, anAnswerTo, urgentIn, isAlive}
+use Rattle.service.specs.Lifted.{runIn, KeptIn}
+use Rattle.state.specs.declared.State.{State}
+use Rattle.state.specs.Places.{fileAt, channelAt}
+use Rattle.opening.specs.declared.Masks.{Masks}
+use Rattle.opening.specs.Fresh.{freshState}
+use Rattle.opening.proofs.FreshTheorems.{fresh-accepted}
+use Rattle.requests.specs.Ask.{opOf, isPriority}
+use Rattle.histories.specs.Calls.{fresh, ask, answerOf}
+use Rattle.histories.specs.Histories.{Lent, after, count, freshStart, reportOn, answerFor, priorityOn, requestOf, declaredOn}
+use Rattle.histories.proofs.Kept.{Good, good-start, history-kept, call-kept}
+use Rattle.histories.proofs.Seen.{stationAt, seen, nextOf}
+use Rattle.histories.proofs.Around.{packAround, run-same, count-same}
+use Rattle.histories.proofs.Counted.{report-matches, answer-matches, priority-matches, request-matches}
+use Rattle.histories.proofs.Turns.{fresh-declared, turns-kept}
+use Rattle.demands.specs.Demands.{Answers}
+
+-- in the pack's words
+in-words : (U c u : ℕ) (s d : State) (later : List Lent) → Good d → count freshStart d later ≡ 0 → KeptIn (packAround c) U u s d later
+    → Answers U c u s d later
+in-words U c u s d later g z K =
+    let a = count-same c (answerFor c u) (anAnswerTo u) (answer-matches c u) d later g z in
+    let r = count-same c (requestOf c u) (aRequestOf u) (request-matches c u) d later g z in
+    let n = count-same c (reportOn c) aReport (report-matches c) d later g z in
+    let p = count-same c (priorityOn c) aPriority (priority-matches c) d later g z in
+    record {
+      once = let k = K .once in omega arith;
+      alive = λ e. subst (λ (t : State). isAlive (stationAt c t) ≡ true) (run-same c d later z) (K .alive (a ∙ e));
+      sole = λ e. let k = K .sole (a ∙ e) in omega arith;
+      soon =
+          λ e. let k = K .soon (a ∙ e) in subst (λ (i : ℕ). count (reportOn c) d later < mostReports * (U + (urgentIn (channelAt s c) + i))) p
+          (omega arith);
+    }
+
+-- in the states that the calls lead to
+module _ (c m w : ℕ) (masks : Masks) (u : ℕ) (op : Op) (x : Lent) (before later : List Lent) where
+  Kept : State → Type 0
+  Kept start = seen c (after start before) (x .area) (x .call) ≡ some (record { event = history.ask u op false; answer = accepted })
+      → KeptIn (packAround c) (declaredOn start c) u (after start before) (nextOf (after start before) (x .area) (x .call)) later
+
+  from-fresh : Good (freshState m w masks) → count freshStart (freshState m w masks) before ≡ 0 → Kept (freshState m w masks)
+  unfolding Kept
+  from-fresh g z q =
+      let r = run-same c (freshState m w masks) before z in
+      subst (λ (t : State). KeptIn (packAround c) (declaredOn (freshState m w masks) c) u t (nextOf t (x .area) (x .call)) later) r
+      (subst (λ (U : ℕ). KeptIn (packAround c) U u (runIn (packAround c) (freshState m w masks) before)
+      (nextOf (runIn (packAround c) (freshState m w masks) before) (x .area) (x .call)) later) (sym (fresh-declared m w masks c))
+      (turns-kept c m w masks g before u op x later (ap (λ (t : State). seen c t (x .area) (x .call)) r ∙ q)))
+
+  from-start : (start : State) → start ≡ freshState m w masks → Good start → count freshStart start before ≡ 0 → Kept start
+  from-start start e = subst (λ (t : State). Good t → count freshStart t before ≡ 0 → Kept t) (sym e) from-fresh
+
+module _ (s₀ : State) (area₀ : List ℕ) (m w : ℕ) (masks : Masks) (started : answerOf s₀ area₀ (fresh m w masks) .refusal ≡ 0) (before : List Lent)
+  where
+    -- what the fresh start leaves, and the state in which the request is made
+    abbrev pub start : State
+    start = answerOf s₀ area₀ (fresh m w masks) .state
+
+    abbrev pub s : State
+    s = after start before
+
+    start-is : start ≡ freshState m w masks
+    unfolding answerOf
+    start-is = fresh-accepted s₀ _ m w masks started
+
+    module _ (noSecond : count freshStart start before ≡ 0) (file op priority : ℕ) (area : List ℕ) (ordinary : isPriority priority ≡ false)
+        (asked : answerOf s area (ask file op priority) .refusal ≡ 0) (later : List Lent)
+        (noLater : count freshStart (answerOf s area (ask file op priority) .state) later ≡ 0) where
+      seen-ask : seen (fileAt s file .channel) s area (ask file op priority)
+          ≡ some (record { event = history.ask (fileAt s file .unit) (opOf op) false; answer = accepted })
+      seen-ask =
+          rw (eq-eqb (answerOf s area (ask file op priority) .refusal) 0 asked, eq-eqb (fileAt s file .channel) (fileAt s file .channel) refl, ordinary)
+
+      pub answered : Answers (declaredOn start (fileAt s file .channel)) (fileAt s file .channel) (fileAt s file .unit) s
+          (answerOf s area (ask file op priority) .state) later
+      unfolding Kept
+      answered =
+          let g = good-start s₀ area₀ m w masks started in
+          in-words (declaredOn start (fileAt s file .channel)) (fileAt s file .channel) (fileAt s file .unit) s
+          (answerOf s area (ask file op priority) .state) later
+          (call-kept s area (history-kept start before g) (ask file op priority)) noLater
+          (from-start (fileAt s file .channel) m w masks (fileAt s file .unit) (opOf op) (record { call = ask file op priority; area = area }) before
+          later start start-is g noSecond seen-ask)

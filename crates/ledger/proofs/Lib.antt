@@ -1,0 +1,16 @@
+pub mod Told
+pub mod Lists
+pub mod Lines
+pub mod Sides
+pub mod Writes
+pub mod Brings
+pub mod Gives
+pub mod Frames
+pub mod Moves
+pub mod Starts
+pub mod Booked
+pub mod Deliveries
+pub mod Reported
+pub mod Always
+pub mod Shown
+pub mod Closed
