@@ -1,0 +1,4 @@
+pub mod Done
+pub mod Stores
+pub mod Written
+pub mod Agrees
