@@ -1,0 +1,6 @@
+pub mod Done
+pub mod Stores
+pub mod Written
+pub mod Agrees
+pub mod Kept
+pub mod Fits

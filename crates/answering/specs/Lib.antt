@@ -1,0 +1,4 @@
+pub mod Replies
+pub mod Changes
+pub mod Turns
+pub mod Rooms

@@ -1,0 +1,4 @@
+pub mod Turning
+pub mod Ending
+pub mod Answering
+pub mod Sessions

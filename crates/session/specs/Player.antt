@@ -1,0 +1,148 @@
+-- The player: all that moves while a part of a session is played, and what each step makes of it. Theorem `session-right` says that it
+-- writes `sessionOf`, however the session comes in parts. Assumes nothing.
+use Prim.Native.Nat.{ℕ, zero, suc, _+_, _-_}
+use mathlib.Core.Bool.{Bool, false, cond, _||_}
+use mathlib.Core.List.{List, [], _∷_, _++_}
+use lib.Dec.{leb, ltb}
+use lib.ListN.{length, take, drop, replicate}
+use Rattle.lines.specs.declared.Line.{Line}
+use Rattle.lines.specs.declared.Step.{Step}
+use Rattle.lines.specs.Machine.{noLine, hasBegun, stepOf, roomOf}
+use Rattle.state.specs.declared.State.{State}
+use Rattle.state.specs.Places.{beforeStart}
+use Rattle.answering.specs.Turns.{answerOn}
+use Rattle.answering.specs.Rooms.{mostText, After, afterLine}
+use Rattle.session.specs.declared.Played.{Played}
+use Rattle.session.specs.Session.{areaWords}
+
+-- the state and the area, the line that has begun and its room, the room for a line's words, the place in the part, and the output with how
+-- much of it is written
+pub record Player : Type 0 where
+  pub state : State
+  pub area : List ℕ
+  pub line : Line
+  pub room : List ℕ
+  pub words : List ℕ
+  pub at : ℕ
+  pub out : List ℕ
+  pub length : ℕ
+
+-- ---- a line's answer
+
+-- the line that stands in the room: nothing is kept of an overlong one, and the empty line stands for it, which is malformed too
+unfoldable pub heldText : Line → List ℕ → List ℕ
+heldText line room = cond (line .overlong) [] (take (line .filled) room)
+
+-- the line in the room, answered at the front of out
+unfoldable pub afterHeld : State → List ℕ → Line → List ℕ → List ℕ → List ℕ → After
+afterHeld s area line room words out =
+    afterLine (answerOn false s area (heldText line room)) s area (heldText line room) words out
+
+-- ---- one line more
+
+-- the next line of a part has ended: its answer goes after what is written
+unfoldable pub answeredTurn : Player → Step → List ℕ → Player
+answeredTurn p step room =
+    let x = afterHeld (p .state) (p .area) (step .line) room (p .words) (drop (p .length) (p .out)) in
+    record {
+      state = x .state;
+      area = x .area;
+      line = noLine;
+      room = room;
+      words = x .words;
+      at = step .at;
+      out = take (p .length) (p .out) ++ x .out;
+      length = p .length + x .length;
+    }
+
+-- it has not
+unfoldable pub openTurn : Player → Step → List ℕ → Player
+openTurn p step room =
+    record {
+      state = p .state;
+      area = p .area;
+      line = step .line;
+      room = room;
+      words = p .words;
+      at = step .at;
+      out = p .out;
+      length = p .length;
+    }
+
+unfoldable pub turnOf : List ℕ → Player → Player
+turnOf bytes p =
+    let step = stepOf (p .line) (drop (p .at) bytes) (p .at) (p .room) in
+    let room = roomOf (p .line) (drop (p .at) bytes) (p .room) in
+    cond (step .ended) (answeredTurn p step room) (openTurn p step room)
+
+-- ---- a part
+
+-- the part is used up, or the output has no room for one more answer
+abbrev pub isDone : List ℕ → Player → Bool
+isDone bytes p = leb (length bytes) (p .at) || ltb (length (p .out) - p .length) mostText
+
+unfoldable pub playTurns : ℕ → List ℕ → Player → Player
+playTurns zero bytes p = p
+playTurns (suc turns) bytes p = cond (isDone bytes p) p (playTurns turns bytes (turnOf bytes p))
+
+-- one turn more than bytes are left is always enough
+unfoldable pub playPart : List ℕ → Player → Player
+playPart bytes p = playTurns (suc (length bytes - p .at)) bytes p
+
+abbrev pub playedOf : Player → Played
+playedOf p = record { state = p .state; line = p .line; at = p .at; length = p .length }
+
+-- ---- the end of the session: what has begun is the last line
+
+unfoldable pub endOf : State → List ℕ → Line → List ℕ → List ℕ → List ℕ → After
+endOf s area line room words out =
+    cond (hasBegun line) (afterHeld s area line room words out) (record { state = s; length = 0; area = area; words = words; out = out })
+
+-- ---- a session in parts, as the program goes: a part is played until it is used up; what is written is taken off, and the output used anew
+
+pub record Written : Type 0 where
+  pub text : List ℕ
+  pub player : Player
+
+abbrev pub fromFront : Player → ℕ → Player
+fromFront p at = record {
+  state = p .state;
+  area = p .area;
+  line = p .line;
+  room = p .room;
+  words = p .words;
+  at = at;
+  out = p .out;
+  length = 0;
+}
+
+unfoldable pub after : List ℕ → Written → Written
+after text r = record { text = text ++ r .text; player = r .player }
+
+-- at most `calls` calls on one part, from place `at` on
+unfoldable pub playCalls : ℕ → List ℕ → Player → ℕ → Written
+playCalls zero bytes p at = record { text = []; player = p }
+playCalls (suc calls) bytes p at =
+    let q = playPart bytes (fromFront p at) in
+    cond (leb (length bytes) at) (record { text = []; player = p }) (after (take (q .length) (q .out)) (playCalls calls bytes q (q .at)))
+
+-- one call for each byte is always enough
+unfoldable pub playParts : Player → List (List ℕ) → Written
+playParts p [] = record { text = []; player = p }
+playParts p (part ∷ parts) = let r = playCalls (length part) part p 0 in after (r .text) (playParts (r .player) parts)
+
+unfoldable pub playSession : List ℕ → List ℕ → List ℕ → List (List ℕ) → List ℕ
+playSession room words out parts =
+    let r = playParts (record {
+      state = beforeStart;
+      area = replicate areaWords 0;
+      line = noLine;
+      room = room;
+      words = words;
+      at = 0;
+      out = out;
+      length = 0;
+    }) parts in
+    let p = r .player in
+    let x = endOf (p .state) (p .area) (p .line) (p .room) (p .words) (p .out) in
+    r .text ++ take (x .length) (x .out)
