@@ -42,9 +42,9 @@ use Rattle.requests.specs.Report.{effectAt, shownCount, fileOf, reportWrong, re
 use Rattle.requests.proofs.ReportTheorems.{report-was-sound, isOpen}
 use Rattle.input.specs.Get.{getBy, getWords}
 use Rattle.input.proofs.GetTheorems.{get-refused, get-open, get-state-sound, get-finds}
-use Rattle.answering.specs.Replies.{Reply, masksOf, givenWords, replyTo, answerTo, textOf}
+use Rattle.replies.specs.Replies.{Reply, masksOf, givenWords, replyTo, answerTo, textOf}
 use Rattle.answering.specs.Rooms.{mostWords, mostText}
-use Rattle.answering.proofs.Stores.{Counts}
+use Rattle.replies.proofs.Stores.{Counts}
 
 -- ---- a buffer has at most 1,024 words
 

@@ -1,6 +1,2 @@
-pub mod Done
-pub mod Stores
-pub mod Written
-pub mod Agrees
-pub mod Kept
 pub mod Fits
+pub mod Written

@@ -22,9 +22,9 @@ use Rattle.frame.proofs.Laws.Given.{All, report-words, put-words}
 use Rattle.answers.specs.declared.Answer.{Answer}
 use Rattle.answers.specs.Answers.{answerText}
 use Rattle.state.specs.declared.State.{State}
-use Rattle.answering.specs.declared.Turned.{Turned}
-use Rattle.answering.specs.Replies.{Reply, givenWords, textOf}
-use Rattle.answering.specs.Turns.{turnedOn, areaOn, replyOn, answerOn}
+use Rattle.replies.specs.declared.Turned.{Turned}
+use Rattle.replies.specs.Replies.{Reply, givenWords, textOf}
+use Rattle.replies.specs.Turns.{turnedOn, areaOn, replyOn, answerOn}
 use Rattle.answering.specs.Rooms.{mostWords, mostText, lacksRooms, givenIn, After, afterLine}
 
 -- ---- the words of a line

@@ -1,4 +1,1 @@
-pub mod Replies
-pub mod Changes
-pub mod Turns
 pub mod Rooms

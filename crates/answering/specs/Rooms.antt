@@ -10,7 +10,7 @@ use Rattle.frame.specs.declared.Frame.{Frame}
 use Rattle.frame.specs.declared.Frame.the-variants.{Malformed, Fresh, Open, Close, Ask, Report, Get, Put, Seal, Skip, Freeze, Thaw}
 use Rattle.frame.specs.Frames.{frameOf, wordsFrom}
 use Rattle.state.specs.declared.State.{State}
-use Rattle.answering.specs.Replies.{Reply, givenWords, textOf}
+use Rattle.replies.specs.Replies.{Reply, givenWords, textOf}
 
 -- the most words that a line has, and the most characters that an answer has with its line feed
 abbrev pub mostWords : ℕ

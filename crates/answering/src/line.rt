@@ -1,18 +1,18 @@
 // A line: its frame, what the frame comes to, and the answer.
 use crate::Answered;
-use crate::turns::turned;
 use answers::write_answer;
 use area::part;
 use frame::Frame;
 use frame::frame_of;
 use frame::words_into;
 use judging::is_sound;
+use replies::reply_on;
 use state::State;
 ghost use mathlib.Core.Path.{_≡_};
 ghost use lib.ListN.{length};
 ghost use Rattle.area.specs.Parts.{paste};
-ghost use Rattle.answering.specs.Replies.{answerTo};
-ghost use Rattle.answering.specs.Turns.{answerOn};
+ghost use Rattle.replies.specs.Replies.{answerTo};
+ghost use Rattle.replies.specs.Turns.{answerOn};
 ghost use Rattle.answering.specs.Rooms.{givenIn, afterLine};
 
 // The most words that come with a line, and the most characters that an answer has with its line feed.
@@ -85,7 +85,7 @@ pub fn answer_on(
     }
     let f = frame_of(line);
     let n = given(f, line, words);
-    let x = turned(unsound, s, area, f, &words[..n]);
+    let x = reply_on(unsound, s, area, f, &words[..n]);
     let a = x.answer;
     let start = x.start;
     let count = x.count;

@@ -26,12 +26,12 @@ use Rattle.lines.specs.Machine.{heldOf, Holds}
 use Rattle.lines.proofs.Laws.Holding.{clip-text, clip-over}
 use Rattle.state.specs.declared.State.{State}
 use Rattle.judging.specs.Soundness.{sound}
-use Rattle.answering.specs.Replies.{Reply, givenWords, replyTo, answerTo, textOf}
-use Rattle.answering.specs.Turns.{answerOn}
+use Rattle.replies.specs.Replies.{Reply, givenWords, replyTo, answerTo, textOf}
+use Rattle.replies.specs.Turns.{answerOn}
 use Rattle.answering.specs.Rooms.{mostWords, mostText, lacksRooms, givenIn, After, afterLine}
-use Rattle.answering.proofs.Stores.{Counts}
+use Rattle.replies.proofs.Stores.{Counts}
 use Rattle.answering.proofs.Written.{IsAfter, given-within, given-all, with-rooms}
-use Rattle.answering.proofs.Agrees.{sound-right}
+use Rattle.replies.proofs.Agrees.{sound-right}
 use Rattle.answering.proofs.Fits.{text-written}
 use Rattle.session.specs.Player.{heldText, afterHeld}
 

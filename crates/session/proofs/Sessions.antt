@@ -25,10 +25,10 @@ use Rattle.state.specs.declared.State.{State}
 use Rattle.state.specs.Places.{beforeStart}
 use Rattle.judging.specs.Soundness.{sound}
 use Rattle.judging.proofs.Wholes.{before-start-sound}
-use Rattle.answering.specs.Replies.{Reply, answerTo, textOf}
+use Rattle.replies.specs.Replies.{Reply, answerTo, textOf}
 use Rattle.answering.specs.Rooms.{mostWords, mostText, After}
-use Rattle.answering.proofs.Stores.{Counts}
-use Rattle.answering.proofs.Kept.{answer-kept, answer-counts, answer-area}
+use Rattle.replies.proofs.Stores.{Counts}
+use Rattle.replies.proofs.Kept.{answer-kept, answer-counts, answer-area}
 use Rattle.answering.proofs.Fits.{text-longest}
 use Rattle.session.specs.Session.{Course, playLines, areaWords, sessionOf}
 use Rattle.session.specs.Player.{Player, afterHeld, answeredTurn, openTurn, turnOf, isDone, playTurns, playPart, endOf, Written, fromFront, after, playCalls, playParts, playSession}

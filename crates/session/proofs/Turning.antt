@@ -20,8 +20,8 @@ use Rattle.lines.specs.Machine.{noLine, stepOf, roomOf}
 use Rattle.lines.proofs.Laws.Feeds.{feed-within}
 use Rattle.frame.specs.Frames.{frameOf}
 use Rattle.state.specs.declared.State.{State}
-use Rattle.answering.specs.Replies.{Reply, givenWords, textOf}
-use Rattle.answering.specs.Turns.{answerOn}
+use Rattle.replies.specs.Replies.{Reply, givenWords, textOf}
+use Rattle.replies.specs.Turns.{answerOn}
 use Rattle.answering.specs.Rooms.{mostText, lacksRooms, After, afterLine}
 use Rattle.answering.proofs.Written.{IsAfter}
 use Rattle.session.specs.declared.Played.{Played}

@@ -10,7 +10,7 @@ use Rattle.lines.specs.declared.Step.{Step}
 use Rattle.lines.specs.Machine.{noLine, hasBegun, stepOf, roomOf}
 use Rattle.state.specs.declared.State.{State}
 use Rattle.state.specs.Places.{beforeStart}
-use Rattle.answering.specs.Turns.{answerOn}
+use Rattle.replies.specs.Turns.{answerOn}
 use Rattle.answering.specs.Rooms.{mostText, After, afterLine}
 use Rattle.session.specs.declared.Played.{Played}
 use Rattle.session.specs.Session.{areaWords}

@@ -5,7 +5,7 @@ use lib.ListN.{replicate}
 use Rattle.lines.specs.Lines.{linesOf}
 use Rattle.state.specs.declared.State.{State}
 use Rattle.state.specs.Places.{beforeStart}
-use Rattle.answering.specs.Replies.{answerTo, textOf}
+use Rattle.replies.specs.Replies.{answerTo, textOf}
 
 -- lines one after the other, each against the state and the area that the one before left: these at the end, and the answers' text
 pub record Course : Type 0 where

@@ -1,11 +1,11 @@
 -- `answering::line::answer_line` meets its contract, because the state is judged for all of the line. Assumes nothing.
 use mathlib.Core.Path.{ap, _∙_}
 use mathlib.Core.Bool.{Bool, not}
-use Rattle.answering.specs.Replies.{Reply}
-use Rattle.answering.specs.Turns.{answerOn}
+use Rattle.replies.specs.Replies.{Reply}
+use Rattle.replies.specs.Turns.{answerOn}
 use Rattle.answering.specs.Rooms.{afterLine}
 use Rattle.answering.proofs.Written.{IsAfter, after-same}
-use Rattle.answering.proofs.Agrees.{judged-right}
+use Rattle.replies.proofs.Agrees.{judged-right}
 use borrow.Author.Needs.{needs}
 use Rattle.answering.proofs.line.answer_line.Statement.{statement}
 use Rattle.answering.proofs.line.answer_line.Tie as tie

@@ -4,7 +4,7 @@ use native.Mathlib.Omega.{arith}
 use lib.ListN.{length}
 use lib.Seq.{length-take-le}
 use Rattle.answering.specs.Rooms.{givenIn}
-use Rattle.answering.specs.Turns.{answerOn}
+use Rattle.replies.specs.Turns.{answerOn}
 use Rattle.answering.proofs.Written.{IsAfter, given-within, room-length, without-rooms, written-line}
 use borrow.Author.Needs.{needs}
 use Rattle.answering.proofs.line.answer_on.Statement.{statement}
@@ -20,18 +20,18 @@ frame-of-requires c κs = search needs
 given-requires : tie.Need-given-requires
 given-requires c κs = search needs
 
-slice-reshare-prefix-turned : tie.Need-slice-reshare-prefix-turned
-slice-reshare-prefix-turned c = let a = c .before .before .before .before .before .before .before .before .before .before .before .args in
+slice-reshare-prefix-reply-on : tie.Need-slice-reshare-prefix-reply-on
+slice-reshare-prefix-reply-on c = let a = c .before .before .before .before .before .before .before .before .before .before .before .args in
     let fit = given-within (c .before .before .before .before .before .frame-of .result) (a .line .now) (length (a .words .now)) in
     omega (arith, fit, c .before .before .before .given .ensures .0, room-length (givenIn (c .before .before .before .before .before .frame-of .result) (a .line .now) (length (a .words .now))) (a .words .now) _ (c .before .before .before .given .result) fit (c .before .before .before .given .ensures .0) (c .before .before .before .given .ensures .1))
 
-slice-aggregate-turned : tie.Need-slice-aggregate-turned
-slice-aggregate-turned c = let a = c .before .before .before .before .before .before .before .before .before .before .before .before .args in
+slice-aggregate-reply-on : tie.Need-slice-aggregate-reply-on
+slice-aggregate-reply-on c = let a = c .before .before .before .before .before .before .before .before .before .before .before .before .args in
     let fit = given-within (c .before .before .before .before .before .before .frame-of .result) (a .line .now) (length (a .words .now)) in
     sym (length-take-le (c .before .before .before .before .given .result) _ (omega (arith, fit, c .before .before .before .before .given .ensures .0, room-length (givenIn (c .before .before .before .before .before .before .frame-of .result) (a .line .now) (length (a .words .now))) (a .words .now) _ (c .before .before .before .before .given .result) fit (c .before .before .before .before .given .ensures .0) (c .before .before .before .before .given .ensures .1))))
 
-turned-requires : tie.Need-turned-requires
-turned-requires c κs = search needs
+reply-on-requires : tie.Need-reply-on-requires
+reply-on-requires c κs = search needs
 
 part-requires : tie.Need-part-requires
 part-requires c κs = search needs
@@ -51,7 +51,7 @@ same-length-3 c = search needs
 returns-2 : tie.Need-returns-2
 unfolding IsAfter
 returns-2 c = let a = c .before .before .before .before .before .before .before .before .before .before .before .before .before .before .before .before .before .before .before .before .before .before .args in
-    written-line (a .unsound) (a .s) (a .area .now) (a .line .now) (a .words .now) (a .out .now) (c .before .before .before .before .before .before .before .before .before .before .before .before .before .before .before .before .before .if1 .left) (c .before .before .before .before .before .before .before .before .before .before .before .before .before .before .before .before .frame-of .result) (c .before .before .before .before .before .before .before .before .before .before .before .before .before .before .before .before .frame-of .ensures) (c .before .before .before .before .before .before .before .before .before .before .before .before .before .before .given .result) (c .before .before .before .before .before .before .before .before .before .before .before .before .before .before .given .ensures .0) _ (c .before .before .before .before .before .before .before .before .before .before .before .before .before .before .given .ensures .1) (c .before .before .before .before .before .before .before .before .before .turned .result) (c .before .before .before .before .before .before .before .before .before .turned .ensures .0) _ (c .before .before .before .before .before .before .before .before .before .turned .ensures .1) _ (c .before .before .before .before .part .ensures) (c .before .before .write-answer .result) _ (c .before .before .write-answer .ensures .0) (c .before .before .write-answer .ensures .1)
+    written-line (a .unsound) (a .s) (a .area .now) (a .line .now) (a .words .now) (a .out .now) (c .before .before .before .before .before .before .before .before .before .before .before .before .before .before .before .before .before .if1 .left) (c .before .before .before .before .before .before .before .before .before .before .before .before .before .before .before .before .frame-of .result) (c .before .before .before .before .before .before .before .before .before .before .before .before .before .before .before .before .frame-of .ensures) (c .before .before .before .before .before .before .before .before .before .before .before .before .before .before .given .result) (c .before .before .before .before .before .before .before .before .before .before .before .before .before .before .given .ensures .0) _ (c .before .before .before .before .before .before .before .before .before .before .before .before .before .before .given .ensures .1) (c .before .before .before .before .before .before .before .before .before .reply-on .result) (c .before .before .before .before .before .before .before .before .before .reply-on .ensures .0) _ (c .before .before .before .before .before .before .before .before .before .reply-on .ensures .1) _ (c .before .before .before .before .part .ensures) (c .before .before .write-answer .result) _ (c .before .before .write-answer .ensures .0) (c .before .before .write-answer .ensures .1)
 
 pub answer-on-spec : {M : Type 1} → statement M
 answer-on-spec =
@@ -60,9 +60,9 @@ answer-on-spec =
     returns
     frame-of-requires
     given-requires
-    slice-reshare-prefix-turned
-    slice-aggregate-turned
-    turned-requires
+    slice-reshare-prefix-reply-on
+    slice-aggregate-reply-on
+    reply-on-requires
     part-requires
     write-answer-requires
     same-length

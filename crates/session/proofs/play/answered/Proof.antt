@@ -3,7 +3,7 @@ use mathlib.Core.Path.{ap}
 use mathlib.Core.Bool.{false}
 use mathlib.Core.List.{List}
 use Prim.Native.Nat.{ℕ}
-use Rattle.answering.specs.Turns.{answerOn}
+use Rattle.replies.specs.Turns.{answerOn}
 use Rattle.answering.specs.Rooms.{afterLine}
 use Rattle.answering.proofs.Written.{IsAfter, after-same}
 use Rattle.session.specs.Player.{afterHeld}

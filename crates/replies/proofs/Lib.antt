@@ -1,0 +1,4 @@
+pub mod Done
+pub mod Agrees
+pub mod Stores
+pub mod Kept
