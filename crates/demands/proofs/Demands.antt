@@ -13,7 +13,7 @@ use Rattle.files.specs.Sides.{blockNumbers}
 use Rattle.pool.specs.Free.{serves}
 use Rattle.state.specs.declared.State.{State}
 use Rattle.state.specs.Places.{beforeStart, fileAt}
-use Rattle.opening.specs.declared.Masks.{Masks}
+use Rattle.starting.specs.declared.Masks.{Masks}
 use Rattle.requests.specs.Ask.{isPriority}
 use Rattle.histories.specs.Calls.{Call, fresh, opening, close, ask, report, answerOf}
 use Rattle.histories.specs.Histories.{Lent, after, count, freshStart, declaredOn}

@@ -19,7 +19,7 @@ use Rattle.pool.specs.Free.{lowestFree, freeCount, servingFile}
 use Rattle.filing.specs.Soundness.{isBlank}
 use Rattle.state.specs.Places.{beforeStart, withFile, withChannel}
 use Rattle.judging.specs.Soundness.{numbersInRange, noBufferHeldTwice, eachHasItsOwn, requestsFit, channelsWork, readsAloneTake, writesHaveBlocks, fullBlocksRight, partBuffersRight, placesRight, attemptsInLimit, sound}
-use Rattle.opening.specs.Fresh.{freshRows, freshState, freshBy}
+use Rattle.starting.specs.Fresh.{freshRows, freshState, freshBy}
 use Rattle.opening.specs.Open.{freeOf, openRows, openOn, openBy}
 use Rattle.requests.specs.Changes.{changedState}
 use Rattle.requests.specs.Ask.{opOf, askRefusal, askedFile, askedChannel, askOn, askBy}

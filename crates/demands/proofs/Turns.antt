@@ -13,9 +13,9 @@ use Rattle.service.specs.History.{accepted, aReport, aPriority, aRequestOf, anA
 use Rattle.service.specs.Lifted.{runIn, KeptIn}
 use Rattle.state.specs.declared.State.{State}
 use Rattle.state.specs.Places.{fileAt, channelAt}
-use Rattle.opening.specs.declared.Masks.{Masks}
-use Rattle.opening.specs.Fresh.{freshState}
-use Rattle.opening.proofs.FreshTheorems.{fresh-accepted}
+use Rattle.starting.specs.declared.Masks.{Masks}
+use Rattle.starting.specs.Fresh.{freshState}
+use Rattle.starting.proofs.FreshTheorems.{fresh-accepted}
 use Rattle.requests.specs.Ask.{opOf, isPriority}
 use Rattle.histories.specs.Calls.{fresh, ask, answerOf}
 use Rattle.histories.specs.Histories.{Lent, after, count, freshStart, reportOn, answerFor, priorityOn, requestOf, declaredOn}

@@ -12,18 +12,18 @@ use Rattle.state.specs.declared.State.{State}
 use Rattle.state.specs.Places.{withFile, beforeStart}
 use Rattle.judging.specs.Soundness.{sound}
 use Rattle.judging.proofs.Wholes.{before-start-sound}
-use Rattle.opening.specs.declared.Masks.{Masks}
-use Rattle.opening.specs.Fresh.{freshState, freshBy}
+use Rattle.starting.specs.declared.Masks.{Masks}
+use Rattle.starting.specs.Fresh.{freshState, freshBy}
 use Rattle.opening.specs.Open.{openChange, openBy}
 use Rattle.opening.specs.Close.{closeChange, closeBy}
 use Rattle.input.specs.Get.{getChange, getBy}
 use Rattle.input.specs.Skip.{skipChange, skipBy}
 use Rattle.output.specs.Put.{putChange, putBy}
 use Rattle.output.specs.Seal.{sealChange, sealBy}
-use Rattle.opening.proofs.FreshTheorems.{fresh-refused, fresh-accepted, fresh-kept}
+use Rattle.starting.proofs.FreshTheorems.{fresh-refused, fresh-accepted, fresh-kept}
 use Rattle.opening.proofs.OpenTheorems.{open-kept}
 use Rattle.opening.proofs.CloseTheorems.{close-kept}
-use Rattle.opening.proofs.FreezeTheorems.{freeze-kept, freeze-frame, thaw-kept, thaw-frame}
+use Rattle.starting.proofs.FreezeTheorems.{freeze-kept, freeze-frame, thaw-kept, thaw-frame}
 use Rattle.requests.proofs.AskTheorems.{ask-kept, ask-frame}
 use Rattle.requests.proofs.ReportTheorems.{report-kept, report-frame}
 use Rattle.input.proofs.GetTheorems.{get-kept}

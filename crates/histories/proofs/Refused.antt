@@ -11,19 +11,19 @@ use Rattle.area.specs.Refusals.{Rows, lowest}
 use Rattle.area.proofs.Exactly.{Exactly, Row, here, later}
 use Rattle.area.proofs.Walks.{and-left, and-right}
 use Rattle.state.specs.declared.State.{State}
-use Rattle.opening.specs.declared.Called.{Called}
-use Rattle.opening.specs.Fresh.{freshRows}
+use Rattle.starting.specs.declared.Called.{Called}
+use Rattle.starting.specs.Fresh.{freshRows}
 use Rattle.opening.specs.Open.{openRows}
 use Rattle.opening.specs.Close.{closeRows}
-use Rattle.opening.specs.Freeze.{stateRows}
+use Rattle.starting.specs.Freeze.{stateRows}
 use Rattle.input.specs.Get.{getRows}
 use Rattle.input.specs.Skip.{skipRows}
 use Rattle.output.specs.Put.{putRows}
 use Rattle.output.specs.Seal.{sealRows}
-use Rattle.opening.proofs.FreshTheorems.{fresh-exactly, fresh-refused}
+use Rattle.starting.proofs.FreshTheorems.{fresh-exactly, fresh-refused}
 use Rattle.opening.proofs.OpenTheorems.{open-exactly, open-refused}
 use Rattle.opening.proofs.CloseTheorems.{close-exactly, close-refused}
-use Rattle.opening.proofs.FreezeTheorems.{freeze-exactly, freeze-refused, thaw-exactly, thaw-refused}
+use Rattle.starting.proofs.FreezeTheorems.{freeze-exactly, freeze-refused, thaw-exactly, thaw-refused}
 use Rattle.requests.proofs.AskTheorems.{ask-exactly}
 use Rattle.requests.proofs.ReportTheorems.{report-exactly}
 use Rattle.input.proofs.GetTheorems.{get-exactly, get-refused}

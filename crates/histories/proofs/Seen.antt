@@ -17,12 +17,12 @@ use Rattle.service.specs.History.{Station, station, accepted, reportAnswer, ste
 use Rattle.service.specs.Lifted.{Shown, Agrees}
 use Rattle.state.specs.declared.State.{State}
 use Rattle.state.specs.Places.{noChannel, fileAt, channelIn, channelAt}
-use Rattle.opening.specs.Freeze.{frozenState, thawedState, freezeBy, thawBy}
+use Rattle.starting.specs.Freeze.{frozenState, thawedState, freezeBy, thawBy}
 use Rattle.requests.specs.Ask.{opOf, isPriority, askBy}
 use Rattle.requests.specs.Report.{reportBy}
 use Rattle.opening.proofs.OpenTheorems.{open-frame}
 use Rattle.opening.proofs.CloseTheorems.{close-frame}
-use Rattle.opening.proofs.FreezeTheorems.{freeze-refused, freeze-state, thaw-refused, thaw-state}
+use Rattle.starting.proofs.FreezeTheorems.{freeze-refused, freeze-state, thaw-refused, thaw-state}
 use Rattle.requests.proofs.AskTheorems.{ask-exactly, ask-frame, ask-event}
 use Rattle.requests.proofs.ReportTheorems.{report-exactly, report-frame, report-event}
 use Rattle.requests.specs.declared.Reporting.{Reporting}

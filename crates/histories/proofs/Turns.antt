@@ -14,8 +14,8 @@ use Rattle.service.specs.History.{station, accepted, declaredIn}
 use Rattle.service.specs.Lifted.{runIn, KeptIn}
 use Rattle.service.proofs.Theorems.Lift.{demand3-lifted}
 use Rattle.state.specs.Places.{channelAt}
-use Rattle.opening.specs.declared.Masks.{Masks}
-use Rattle.opening.specs.Fresh.{freshState}
+use Rattle.starting.specs.declared.Masks.{Masks}
+use Rattle.starting.specs.Fresh.{freshState}
 use Rattle.histories.specs.Calls.{fresh, ask}
 use Rattle.histories.specs.Histories.{Lent, declaredOn}
 use Rattle.channel.specs.declared.Op.{Op}

@@ -6,12 +6,12 @@ use lib.ListN.{length}
 use Rattle.area.specs.Parts.{partOf}
 use Rattle.gets.specs.declared.Got.{Got}
 use Rattle.state.specs.declared.State.{State}
-use Rattle.opening.specs.declared.Called.{Called}
-use Rattle.opening.specs.declared.Masks.{Masks}
-use Rattle.opening.specs.Fresh.{freshBy}
+use Rattle.starting.specs.declared.Called.{Called}
+use Rattle.starting.specs.declared.Masks.{Masks}
+use Rattle.starting.specs.Fresh.{freshBy}
 use Rattle.opening.specs.Open.{openBy}
 use Rattle.opening.specs.Close.{closeBy}
-use Rattle.opening.specs.Freeze.{freezeBy, thawBy}
+use Rattle.starting.specs.Freeze.{freezeBy, thawBy}
 use Rattle.requests.specs.declared.Asking.{Asking}
 use Rattle.requests.specs.declared.Reporting.{Reporting}
 use Rattle.requests.specs.Ask.{askBy}

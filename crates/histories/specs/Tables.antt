@@ -12,10 +12,10 @@ use Rattle.pool.specs.Free.{isBound}
 use Rattle.state.specs.declared.State.{State}
 use Rattle.state.specs.Places.{fileAt, channelAt}
 use Rattle.judging.specs.Misused.{misused}
-use Rattle.opening.specs.Fresh.{freshRows}
+use Rattle.starting.specs.Fresh.{freshRows}
 use Rattle.opening.specs.Open.{wishOf, freeOf, openOff, openRows}
 use Rattle.opening.specs.Close.{closeOff, closeRows}
-use Rattle.opening.specs.Freeze.{stateRows}
+use Rattle.starting.specs.Freeze.{stateRows}
 use Rattle.requests.specs.Ask.{askWrong, askRows}
 use Rattle.requests.specs.Report.{fileOf, reportWrong, reportRows}
 use Rattle.input.specs.Get as gets

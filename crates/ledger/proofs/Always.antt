@@ -6,7 +6,7 @@ use Prim.Native.Nat.{ℕ}
 use native.Mathlib.Decide.{ℕ-discrete}
 use borrow.Author.Tests.{eq-eqb, ne-eqb}
 use Rattle.state.specs.declared.State.{State}
-use Rattle.opening.specs.declared.Masks.{Masks}
+use Rattle.starting.specs.declared.Masks.{Masks}
 use Rattle.histories.specs.Calls.{Call, fresh, opening, close, ask, report, get, put, seal, skip, freeze, thaw, Answer, answerOf}
 use Rattle.histories.specs.Histories.{isAccepted}
 use Rattle.histories.proofs.Refused.{call-alone}

@@ -23,15 +23,15 @@ use Rattle.pool.specs.Free.{fileCount}
 use Rattle.state.specs.declared.State.{State}
 use Rattle.state.specs.Places.{fileAt, channelAt}
 use Rattle.judging.proofs.Kept.{place-of}
-use Rattle.opening.specs.declared.Masks.{Masks}
-use Rattle.opening.specs.Fresh.{freshState, freshBy}
+use Rattle.starting.specs.declared.Masks.{Masks}
+use Rattle.starting.specs.Fresh.{freshState, freshBy}
 use Rattle.opening.specs.Open.{isSet, wishOf, openBy}
 use Rattle.opening.specs.Close.{closeBy}
-use Rattle.opening.specs.Freeze.{freezeBy, thawBy}
-use Rattle.opening.proofs.FreshTheorems.{fresh-accepted}
+use Rattle.starting.specs.Freeze.{freezeBy, thawBy}
+use Rattle.starting.proofs.FreshTheorems.{fresh-accepted}
 use Rattle.opening.proofs.OpenTheorems.{lowOf, highOf, open-file, open-frame}
 use Rattle.opening.proofs.CloseTheorems.{close-file, close-frame}
-use Rattle.opening.proofs.FreezeTheorems.{OnlyTurns, freeze-frame, thaw-frame}
+use Rattle.starting.proofs.FreezeTheorems.{OnlyTurns, freeze-frame, thaw-frame}
 use Rattle.requests.specs.declared.AskChange.{AskChange}
 use Rattle.requests.specs.Ask.{isReading, askRefusal, askedFile, askWrong, askChange, askBy}
 use Rattle.requests.proofs.Found.{ask-taken}

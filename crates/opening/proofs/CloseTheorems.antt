@@ -28,7 +28,7 @@ use Rattle.judging.proofs.Facts.{SoundFacts, sound-facts, facts-sound}
 use Rattle.judging.proofs.Kept.{close-kept as close-facts, place-of}
 use Rattle.opening.specs.Close.{closeRows, closeOff, closeOn, closeChange, closeBy}
 use Rattle.opening.specs.Open.{openBy}
-use Rattle.opening.proofs.Answered.{not-so, state-refused, state-accepted, file-accepted}
+use Rattle.starting.proofs.Answered.{not-so, state-refused, state-accepted, file-accepted}
 use Rattle.opening.proofs.Frames.{OnlyFile, store-frame}
 use Rattle.opening.proofs.Frees.{Lowest}
 use Rattle.opening.proofs.OpenTheorems.{lowOf, open-lowest}

@@ -11,7 +11,7 @@ use Rattle.files.specs.declared.File.{File}
 use Rattle.files.specs.Opening.{closedFile}
 use Rattle.state.specs.declared.State.{State}
 use Rattle.state.specs.Places.{fileAt, withFile}
-use Rattle.opening.specs.Answers.{called}
+use Rattle.starting.specs.Answers.{called}
 
 -- t is s, but for the file of number i
 pub record OnlyFile (s : State) (i : ℕ) (t : State) : Type 0 where

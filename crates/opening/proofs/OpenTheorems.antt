@@ -29,7 +29,7 @@ use Rattle.judging.proofs.Everywhere.{by-place}
 use Rattle.judging.proofs.Facts.{sound-facts, facts-sound}
 use Rattle.judging.proofs.Kept.{open-kept as open-facts}
 use Rattle.opening.specs.Open.{isSet, wishOf, lowestNumber, freeOf, openRows, openOff, openOn, openChange, openBy}
-use Rattle.opening.proofs.Answered.{not-so, state-refused, state-accepted, file-accepted}
+use Rattle.starting.proofs.Answered.{not-so, state-refused, state-accepted, file-accepted}
 use Rattle.opening.proofs.Frames.{OnlyFile, store-frame}
 use Rattle.opening.proofs.Frees.{Lowest, first-free, second-free}
 

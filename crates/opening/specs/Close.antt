@@ -13,9 +13,9 @@ use Rattle.pool.specs.Free.{fileCount}
 use Rattle.state.specs.declared.State.{State}
 use Rattle.state.specs.Places.{fileAt, channelAt, withFile}
 use Rattle.judging.specs.Soundness.{sound}
-use Rattle.opening.specs.declared.Called.{Called}
-use Rattle.opening.specs.declared.FileChange.{FileChange}
-use Rattle.opening.specs.Answers.{called, fileChange}
+use Rattle.starting.specs.declared.Called.{Called}
+use Rattle.starting.specs.declared.FileChange.{FileChange}
+use Rattle.starting.specs.Answers.{called, fileChange}
 
 -- ---- its refusals
 

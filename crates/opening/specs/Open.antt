@@ -15,10 +15,10 @@ use Rattle.pool.specs.Free.{fileCount, lowestFree, freeCount, isBound}
 use Rattle.state.specs.declared.State.{State}
 use Rattle.state.specs.Places.{channelCount, fileAt, channelAt, withFile}
 use Rattle.judging.specs.Soundness.{sound}
-use Rattle.opening.specs.declared.Called.{Called}
-use Rattle.opening.specs.declared.FileChange.{FileChange}
+use Rattle.starting.specs.declared.Called.{Called}
+use Rattle.starting.specs.declared.FileChange.{FileChange}
 use Rattle.opening.specs.declared.Free.{Free}
-use Rattle.opening.specs.Answers.{called, fileChange}
+use Rattle.starting.specs.Answers.{called, fileChange}
 
 -- "flag 1 output, 2 double, 4 sequence, 8 check"
 abbrev pub isSet : ℕ → ℕ → Bool

@@ -1,6 +1,4 @@
 // Close: the file's buffers are given back, and unread input blocks are dropped.
-use crate::Called;
-use crate::FileChange;
 use channel::Channel;
 use channel::has_request;
 use files::File;
@@ -8,6 +6,8 @@ use files::closed_file;
 use judging::is_sound;
 use moves::has_unsent;
 use pool::FILES;
+use starting::Called;
+use starting::FileChange;
 use state::State;
 use state::channel_at;
 use state::file_at;

@@ -1,6 +1,4 @@
 // Open: a file number gets a unit and the lowest-numbered free buffers.
-use crate::Called;
-use crate::FileChange;
 use crate::Free;
 use area::Found;
 use channel::Channel;
@@ -16,6 +14,8 @@ use pool::FILES;
 use pool::free_count;
 use pool::is_bound;
 use pool::lowest_free;
+use starting::Called;
+use starting::FileChange;
 use state::CHANNELS;
 use state::State;
 use state::channel_at;

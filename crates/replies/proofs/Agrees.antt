@@ -26,10 +26,10 @@ use Rattle.pool.specs.Free.{fileCount}
 use Rattle.state.specs.declared.State.{State}
 use Rattle.state.specs.Places.{noChannel, fileAt, channelAt, withFile, withChannel}
 use Rattle.judging.specs.Soundness.{sound}
-use Rattle.opening.specs.Fresh.{freshRefusal, freshState, freshBy}
+use Rattle.starting.specs.Fresh.{freshRefusal, freshState, freshBy}
 use Rattle.opening.specs.Open.{openOn, openChange, openBy}
 use Rattle.opening.specs.Close.{closeOn, closeChange, closeBy}
-use Rattle.opening.specs.Freeze.{stateRows, stateRefusal, frozenState, thawedState, freezeBy, thawBy}
+use Rattle.starting.specs.Freeze.{stateRows, stateRefusal, frozenState, thawedState, freezeBy, thawBy}
 use Rattle.requests.specs.declared.AskChange.{AskChange}
 use Rattle.requests.specs.declared.ReportChange.{ReportChange}
 use Rattle.requests.specs.Changes.{changedState}

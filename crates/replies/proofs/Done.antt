@@ -16,10 +16,10 @@ use Rattle.frame.specs.declared.Masks as frame
 use Rattle.gets.specs.Gets.{gotStart, gotWords}
 use Rattle.pool.specs.Free.{isBound}
 use Rattle.state.specs.declared.State.{State}
-use Rattle.opening.specs.declared.FileChange.{FileChange}
+use Rattle.starting.specs.declared.FileChange.{FileChange}
 use Rattle.opening.specs.declared.Free.{Free}
-use Rattle.opening.specs.declared.Masks.{Masks}
-use Rattle.opening.specs.Fresh.{freshRefusal, freshState}
+use Rattle.starting.specs.declared.Masks.{Masks}
+use Rattle.starting.specs.Fresh.{freshRefusal, freshState}
 use Rattle.opening.specs.Open.{wishOf, freeOf, openOn}
 use Rattle.requests.specs.declared.AskChange.{AskChange}
 use Rattle.requests.specs.declared.ReportChange.{ReportChange}

@@ -14,11 +14,11 @@ use Rattle.frame.specs.Frames.{frameOf}
 use Rattle.state.specs.declared.State.{State}
 use Rattle.state.specs.Places.{withFile, withChannel}
 use Rattle.judging.specs.Soundness.{sound}
-use Rattle.opening.specs.Fresh.{freshBy}
-use Rattle.opening.proofs.FreshTheorems.{fresh-kept}
+use Rattle.starting.specs.Fresh.{freshBy}
+use Rattle.starting.proofs.FreshTheorems.{fresh-kept}
 use Rattle.opening.proofs.OpenTheorems.{open-kept}
 use Rattle.opening.proofs.CloseTheorems.{close-kept}
-use Rattle.opening.proofs.FreezeTheorems.{freeze-kept, thaw-kept}
+use Rattle.starting.proofs.FreezeTheorems.{freeze-kept, thaw-kept}
 use Rattle.requests.proofs.AskTheorems.{ask-kept}
 use Rattle.requests.proofs.ReportTheorems.{report-kept}
 use Rattle.requests.proofs.ReportWords.{report-area-length}

@@ -20,8 +20,8 @@ use Rattle.pool.specs.Free.{fileCount}
 use Rattle.state.specs.declared.State.{State}
 use Rattle.state.specs.Places.{channelCount, noChannel, fileAt, channelAt, withFile, withChannel}
 use Rattle.state.proofs.Lookups.{any-default}
-use Rattle.opening.specs.Fresh.{freshRefusal, freshState}
-use Rattle.opening.specs.Freeze.{frozenState, thawedState}
+use Rattle.starting.specs.Fresh.{freshRefusal, freshState}
+use Rattle.starting.specs.Freeze.{frozenState, thawedState}
 use Rattle.replies.specs.declared.Change.{Change}
 use Rattle.replies.specs.declared.Turned.{Turned}
 use Rattle.replies.specs.Replies.{masksOf}

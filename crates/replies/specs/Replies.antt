@@ -17,11 +17,11 @@ use Rattle.answers.specs.Answers.{answerText}
 use Rattle.gets.specs.declared.Got.{Got}
 use Rattle.gets.specs.declared.Got.the-variants as got
 use Rattle.state.specs.declared.State.{State}
-use Rattle.opening.specs.declared.Masks.{Masks}
-use Rattle.opening.specs.Fresh.{freshBy}
+use Rattle.starting.specs.declared.Masks.{Masks}
+use Rattle.starting.specs.Fresh.{freshBy}
 use Rattle.opening.specs.Open.{openBy}
 use Rattle.opening.specs.Close.{closeBy}
-use Rattle.opening.specs.Freeze.{freezeBy, thawBy}
+use Rattle.starting.specs.Freeze.{freezeBy, thawBy}
 use Rattle.requests.specs.Ask.{askBy}
 use Rattle.requests.specs.Report.{reportBy, reportByArea}
 use Rattle.input.specs.Get.{getBy, getWords}

@@ -15,8 +15,8 @@ use Rattle.files.specs.declared.File.{File}
 use Rattle.pool.specs.Free.{fileCount, servingFile}
 use Rattle.state.specs.declared.State.{State}
 use Rattle.state.specs.Places.{fileAt, channelAt, withFile, withChannel}
-use Rattle.opening.specs.Fresh.{freshRefusal, freshState}
-use Rattle.opening.specs.Freeze.{frozenState, thawedState}
+use Rattle.starting.specs.Fresh.{freshRefusal, freshState}
+use Rattle.starting.specs.Freeze.{frozenState, thawedState}
 use Rattle.requests.specs.Report.{numberOr}
 use Rattle.replies.specs.declared.Change.{Change}
 use Rattle.replies.specs.declared.Turned.{Turned}

@@ -1,7 +1,7 @@
 -- `opening::close` meets its contract, from the contracts of `close_off`, `file_at`, `channel_at`, `close_on` and `with_file`. Assumes nothing.
 use mathlib.Core.Path.{_∙_}
 use Rattle.opening.specs.Close.{closeBy}
-use Rattle.opening.proofs.Answered.{stores-refused, stores-accepted}
+use Rattle.starting.proofs.Answered.{stores-refused, stores-accepted}
 use borrow.Author.Needs.{needs}
 use Rattle.opening.proofs.closing.close.Statement.{statement}
 use Rattle.opening.proofs.closing.close.Tie as tie

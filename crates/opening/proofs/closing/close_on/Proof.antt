@@ -1,6 +1,6 @@
 -- `opening::close_on` meets its contract, from the contracts of `close_refusal` and `closed_file`. Assumes nothing.
 use Rattle.opening.specs.Close.{closeOn}
-use Rattle.opening.proofs.Answered.{changes-refused, changes-accepted}
+use Rattle.starting.proofs.Answered.{changes-refused, changes-accepted}
 use borrow.Author.Needs.{needs}
 use Rattle.opening.proofs.closing.close_on.Statement.{statement}
 use Rattle.opening.proofs.closing.close_on.Tie as tie

@@ -1,7 +1,7 @@
 -- `opening::open` meets its contract, from the contracts of `open_off`, `is_bound`, `file_at`, `channel_at`, `free_of`, `wish_of`, `open_on` and `with_file`. Assumes nothing.
 use mathlib.Core.Path.{_∙_}
 use Rattle.opening.specs.Open.{openBy}
-use Rattle.opening.proofs.Answered.{stores-refused, stores-accepted}
+use Rattle.starting.proofs.Answered.{stores-refused, stores-accepted}
 use borrow.Author.Needs.{needs}
 use Rattle.opening.proofs.opens.open.Statement.{statement}
 use Rattle.opening.proofs.opens.open.Tie as tie

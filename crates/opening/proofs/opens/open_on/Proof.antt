@@ -1,6 +1,6 @@
 -- `opening::open_on` meets its contract, from the contracts of `open_refusal` and `opened_file`. Assumes nothing.
 use Rattle.opening.specs.Open.{openOn}
-use Rattle.opening.proofs.Answered.{changes-refused, changes-accepted}
+use Rattle.starting.proofs.Answered.{changes-refused, changes-accepted}
 use borrow.Author.Needs.{needs}
 use Rattle.opening.proofs.opens.open_on.Statement.{statement}
 use Rattle.opening.proofs.opens.open_on.Tie as tie

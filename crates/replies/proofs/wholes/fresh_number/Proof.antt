@@ -1,7 +1,7 @@
 -- `replies::wholes::fresh_number` meets its contract. Assumes nothing.
 use mathlib.Core.Path.{ap, _∙_}
-use Rattle.opening.specs.declared.Masks.{Masks}
-use Rattle.opening.specs.Fresh.{freshRefusal}
+use Rattle.starting.specs.declared.Masks.{Masks}
+use Rattle.starting.specs.Fresh.{freshRefusal}
 use borrow.Author.Needs.{needs}
 use Rattle.replies.proofs.wholes.fresh_number.Statement.{statement}
 use Rattle.replies.proofs.wholes.fresh_number.Tie as tie

@@ -1,0 +1,4 @@
+pub mod Answered
+pub mod Maps
+pub mod FreshTheorems
+pub mod FreezeTheorems
