@@ -1,21 +1,18 @@
 -- No answer from a sound state shows more than 1,024 words: a room of 10,249 characters takes it. Assumes nothing.
-use mathlib.Core.Path.{_≡_, refl, sym, ap, _∙_, subst}
+use mathlib.Core.Path.{_≡_, refl, ap}
 use mathlib.Core.Bool.{Bool, true, false, cond, _&&_}
-use mathlib.Core.List.{List, []}
+use mathlib.Core.List.{List}
 use Prim.Native.Nat.{ℕ, _+_, _-_, _≤_}
 use native.Mathlib.Omega.{arith}
 use borrow.Author.Tests.{leb-true, leb-false, eqb-true, eqb-false, eq-eqb, ne-eqb}
 use lib.Dec.{leb, ltb, eqb}
-use lib.ListN.{length, take, drop, length-set, length-take}
+use lib.ListN.{length, drop, length-take}
 use Rattle.area.specs.Parts.{partOf, paste, pastedIn}
-use Rattle.area.proofs.Marks.{cond-true, cond-false}
 use Rattle.area.proofs.Walks.{by-test, and-left, and-right, or-either}
 use Rattle.digits.specs.Writes.{placeAfter}
-use Rattle.answers.specs.Answers.{answerText}
 use Rattle.answers.proofs.Laws.Backs.{answer-longest, answer-fits}
-use Rattle.slots.specs.declared.Slot.{Slot}
 use Rattle.files.specs.declared.Side.{Side}
-use Rattle.files.specs.declared.Side.the-variants.{Low, High, Neither}
+use Rattle.files.specs.declared.Side.the-variants.{Neither}
 use Rattle.files.specs.declared.File.{File}
 use Rattle.slots.specs.Slots.{fullWords, fullPlace, fullError}
 use Rattle.files.specs.Sides.{slotAt, startAt, isSide, oldest}
@@ -25,24 +22,23 @@ use Rattle.moves.proofs.Ages.{Aged, noBlock, old, aged}
 use Rattle.frame.specs.declared.Frame.{Frame}
 use Rattle.frame.specs.declared.Frame.the-variants.{Malformed, Fresh, Open, Close, Ask, Report, Get, Put, Seal, Skip, Freeze, Thaw}
 use Rattle.frame.specs.Frames.{frameOf}
-use Rattle.gets.specs.declared.Got.{Got}
 use Rattle.gets.specs.declared.Got.the-variants.{Record, Leftover, Error, End, Nothing}
 use Rattle.gets.specs.Gets.{wordsLeft, found, lookedAt, getFrom, gotStart, gotWords}
-use Rattle.pool.specs.Free.{fileCount, poolSound}
+use Rattle.pool.specs.Free.{poolSound}
 use Rattle.filing.proofs.Facts.{Sound}
 use Rattle.filing.proofs.Changes.{numbers, passed-sound}
 use Rattle.filing.proofs.Inside.{size-fits}
 use Rattle.state.specs.declared.State.{State}
 use Rattle.state.specs.Places.{fileAt, channelAt}
 use Rattle.judging.specs.Soundness.{sound}
-use Rattle.judging.proofs.Facts.{SoundFacts, sound-facts}
+use Rattle.judging.proofs.Facts.{sound-facts}
 use Rattle.requests.specs.declared.Effect.{Effect}
 use Rattle.requests.specs.declared.Effect.the-variants.{Delivers, MeetsMark, GivesBack, Sends, Keeps}
 use Rattle.requests.specs.Report.{effectAt, shownCount, fileOf, reportWrong, reportRefusal, reportOn, reportBy, reportByArea}
 use Rattle.requests.proofs.ReportTheorems.{report-was-sound, isOpen}
 use Rattle.input.specs.Get.{getBy, getWords}
 use Rattle.input.proofs.GetTheorems.{get-refused, get-open, get-state-sound, get-finds}
-use Rattle.replies.specs.Replies.{Reply, masksOf, givenWords, replyTo, answerTo, textOf}
+use Rattle.replies.specs.Replies.{givenWords, replyTo, answerTo, textOf}
 use Rattle.answering.specs.Rooms.{mostWords, mostText}
 use Rattle.replies.proofs.Stores.{Counts}
 

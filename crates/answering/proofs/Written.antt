@@ -1,11 +1,10 @@
 -- What a line's code does with its rooms comes to its definition. Assumes nothing.
 use mathlib.Core.Path.{_≡_, refl, sym, ap, ap₂, _∙_, subst}
 use mathlib.Core.Bool.{Bool, true, false}
-use mathlib.Core.List.{List, []}
-use Prim.Native.Nat.{ℕ, _+_, _≤_}
+use mathlib.Core.List.{List}
+use Prim.Native.Nat.{ℕ, _≤_}
 use native.Mathlib.Omega.{arith}
 use borrow.Author.Tests.{ltb-false}
-use lib.Dec.{ltb}
 use lib.ListN.{length, take, drop, length-take}
 use lib.Seq.{take-all}
 use Rattle.area.specs.Parts.{partOf, paste, pastedIn}
@@ -19,13 +18,12 @@ use Rattle.frame.specs.declared.Frame.{Frame}
 use Rattle.frame.specs.declared.Frame.the-variants.{Malformed, Fresh, Open, Close, Ask, Report, Get, Put, Seal, Skip, Freeze, Thaw}
 use Rattle.frame.specs.Frames.{frameOf, wordsFrom}
 use Rattle.frame.proofs.Laws.Given.{All, report-words, put-words}
-use Rattle.answers.specs.declared.Answer.{Answer}
 use Rattle.answers.specs.Answers.{answerText}
 use Rattle.state.specs.declared.State.{State}
 use Rattle.replies.specs.declared.Turned.{Turned}
 use Rattle.replies.specs.Replies.{Reply, givenWords, textOf}
 use Rattle.replies.specs.Turns.{turnedOn, areaOn, replyOn, answerOn}
-use Rattle.answering.specs.Rooms.{mostWords, mostText, lacksRooms, givenIn, After, afterLine}
+use Rattle.answering.specs.Rooms.{mostWords, lacksRooms, givenIn, After, afterLine}
 
 -- ---- the words of a line
 

@@ -1,5 +1,6 @@
 -- Document 01's marked examples hold: one claim over the whole table. Assumes nothing.
 use mathlib.Core.Path.{_≡_, refl}
+use Prim.Native.Nat.{ℕ}
 use Rattle.area.specs.Lists.{anyOf, allOf, allPairs, countOf, firstAlong, countAlong}
 use Rattle.area.specs.Parts.{paste, pastedIn}
 use Rattle.area.specs.Refusals.{lowest}
@@ -11,7 +12,7 @@ use Rattle.channel.specs.Rules.{rowOf, isAllowed, isPermanent, nextAttempt, end
 use Rattle.channel.specs.Units.{withTurn, freshWith, bitsFrom, freshOf, hasRequest, acceptsAt, operationAt}
 use Rattle.schedule.specs.Scans.{scanFrom, workingIn, priorityIn, ordinaryIn, nextTurn}
 use Rattle.schedule.specs.Turns.{startOf, askOf, judgeOf, goesOn, repeatOf, markAfter, endOf, bookOf}
-use Rattle.files.specs.Sides.{emptySide, takenSide, partSide, oldest, filledAt, emptiedAt, withoutOldest}
+use Rattle.files.specs.Sides.{nextBlock, emptySide, takenSide, partSide, oldest, filledAt, emptiedAt, withoutOldest}
 use Rattle.moves.specs.Input.{tookBuffer, delivered, gaveBack, metMark}
 use Rattle.moves.specs.Output.{putSide, putStart, added, partStart, partLength, isComplete, sealed, afterPut, sendStart, sendWords, afterWrite}
 use Rattle.files.specs.Opening.{openedFile}
@@ -29,6 +30,11 @@ use Rattle.output.specs.Put.{putRows, putRefusal, filledArea, putArea, putOn, p
 use Rattle.histories.specs.Calls.{answerOf}
 use Rattle.demands.specs.Examples.{play, repeatedFrom, table, allShown, allWanted}
 
+-- the next block number is one thing, of a file and of a check word
+pub next-same : (n : ℕ) → nextBlock n ≡ nextNumber n
+unfolding address nextNumber
+next-same n = refl
+
 pub examples : allShown table ≡ allWanted table
-unfolding play repeatedFrom table anyOf allOf allPairs countOf firstAlong countAlong paste pastedIn lowest allFrom carryBack sumFrom logicalSum firstHalf lastHalf folded address checkWord nextNumber blocks.sealRefusal blocks.withCheckWord blocks.sealed blocks.judgeRefusal blocks.errorOf blocks.judged rowOf isAllowed isPermanent nextAttempt endingOf verdictOf withTurn freshWith bitsFrom freshOf hasRequest acceptsAt operationAt scanFrom workingIn priorityIn ordinaryIn nextTurn startOf askOf judgeOf goesOn repeatOf markAfter endOf bookOf emptySide takenSide partSide oldest filledAt emptiedAt withoutOldest tookBuffer delivered gaveBack metMark putSide putStart added partStart partLength isComplete sealed afterPut sendStart sendWords afterWrite openedFile lowestFree freeCount servingFile isBlank beforeStart withFile withChannel numbersInRange noBufferHeldTwice eachHasItsOwn requestsFit channelsWork readsAloneTake writesHaveBlocks fullBlocksRight partBuffersRight placesRight attemptsInLimit sound freshRows freshState freshBy freeOf openRows openOn openBy changedState opOf askRefusal askedFile askedChannel askOn askBy reportRefusal reportedFile reportedArea reportOn reportOnArea reportBy reportByArea sealedIn sealedArea putRows putRefusal filledArea putArea putOn putOnArea putBy putByArea answerOf
+unfolding play repeatedFrom table anyOf allOf allPairs countOf firstAlong countAlong paste pastedIn lowest allFrom carryBack sumFrom logicalSum firstHalf lastHalf folded address checkWord blocks.sealRefusal blocks.withCheckWord blocks.sealed blocks.judgeRefusal blocks.errorOf blocks.judged rowOf isAllowed isPermanent nextAttempt endingOf verdictOf withTurn freshWith bitsFrom freshOf hasRequest acceptsAt operationAt scanFrom workingIn priorityIn ordinaryIn nextTurn startOf askOf judgeOf goesOn repeatOf markAfter endOf bookOf emptySide takenSide partSide oldest filledAt emptiedAt withoutOldest tookBuffer delivered gaveBack metMark putSide putStart added partStart partLength isComplete sealed afterPut sendStart sendWords afterWrite openedFile lowestFree freeCount servingFile isBlank beforeStart withFile withChannel numbersInRange noBufferHeldTwice eachHasItsOwn requestsFit channelsWork readsAloneTake writesHaveBlocks fullBlocksRight partBuffersRight placesRight attemptsInLimit sound freshRows freshState freshBy freeOf openRows openOn openBy changedState opOf askRefusal askedFile askedChannel askOn askBy reportRefusal reportedFile reportedArea reportOn reportOnArea reportBy reportByArea sealedIn sealedArea putRows putRefusal filledArea putArea putOn putOnArea putBy putByArea answerOf
 examples = refl

@@ -14,6 +14,11 @@ lower-cases P true b low high none = low refl
 lower-cases P false true low high none = high refl refl
 lower-cases P false false low high none = none refl refl
 
+pub none-side : (k : Side) → isSide k ≡ false → k ≡ Neither
+none-side Low e = true-not-false refl e
+none-side High e = true-not-false refl e
+none-side Neither e = refl
+
 no-side : {A : Type 0} → isSide Neither ≡ true → A
 no-side e = true-not-false e refl
 

@@ -5,9 +5,9 @@ use mathlib.Core.Bool.{Bool, true, false, cond, _&&_}
 use Prim.Native.Nat.{ℕ, _+_, _-_, _*_, _≤_, _<_}
 use native.Mathlib.Nat.{mul-le-mul-right, suc-mul}
 use native.Mathlib.Omega.{arith}
-use borrow.Author.Tests.{leb-true, ltb-true}
-use lib.Dec.{leb, ltb}
-use Rattle.area.proofs.Walks.{true-not-false, and-right}
+use borrow.Author.Tests.{leb-true, ltb-true, eq-eqb}
+use lib.Dec.{leb, ltb, eqb}
+use Rattle.area.proofs.Walks.{true-not-false, and-right, and-both, or-first, or-second}
 use Rattle.area.proofs.Marks.{cond-true}
 use Rattle.slots.specs.declared.Slot.the-variants.{Full}
 use Rattle.files.specs.declared.Side.{Side}
@@ -21,6 +21,7 @@ use Rattle.moves.proofs.Ages.{Aged, noBlock, old, aged}
 use Rattle.gets.specs.Gets.{foundIn, foundNone, found, lookedAt, getFrom, gotStart, gotWords}
 use Rattle.gets.specs.declared.Got.{Got}
 use Rattle.gets.specs.declared.Got.the-variants.{Record, Leftover, Error}
+use Rattle.pool.specs.Free.{heldBy}
 use Rattle.filing.specs.Soundness.{isNoBuffer}
 use Rattle.filing.proofs.Facts.{Sound}
 use Rattle.filing.proofs.Kept.{owns}
@@ -31,9 +32,17 @@ use Rattle.filing.proofs.Puts.{put-at}
 pub buffer-inside : (m w b n : ℕ) → b < m → n ≤ w → b * w + n ≤ m * w
 buffer-inside m w b n h l = omega (arith, mul-le-mul-right w h, suc-mul b w)
 
+-- an open file holds the buffers that it owns
+pub held-own : (f : File) (k : Side) → f .opened ≡ true → owns f k ≡ true → heldBy (bufferAt f k .number) f ≡ true
+held-own f Low o h = and-both (f .opened) _ o (or-first (eqb (f .low .number) (f .low .number)) _ (eq-eqb (f .low .number) (f .low .number) refl))
+held-own f High o h =
+    and-both (f .opened) _ o (or-second (eqb (f .low .number) (f .high .number)) _
+    (and-both (f .double) _ h (eq-eqb (f .high .number) (f .high .number) refl)))
+held-own f Neither o h = true-not-false h refl
+
 module _ (m w : ℕ) (f : File) (S : Sound m w f) where
   -- the numbers of its buffers are below m
-  number-less : (k : Side) → owns f k ≡ true → bufferAt f k .number < m
+  pub number-less : (k : Side) → owns f k ≡ true → bufferAt f k .number < m
   number-less Low o = S .first
   number-less High o =
       ltb-true (f .high .number) m (and-right (ltb (f .low .number) (f .high .number)) _ (sym (cond-true (ltb (f .low .number) (f .high .number) && ltb (f .high .number) m) (isNoBuffer (f .high)) o) ∙ S .second))

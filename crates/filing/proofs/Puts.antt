@@ -7,12 +7,12 @@ use borrow.Author.Tests.{le-leb, le-ltb, ltb-false}
 use lib.Dec.{leb, ltb}
 use Rattle.area.proofs.Walks.{true-not-false, and-both}
 use Rattle.area.proofs.Marks.{cond-true}
-use Rattle.slots.specs.declared.Slot.{Slot}
-use Rattle.slots.specs.declared.Slot.the-variants.{Empty, Taken, Part, Full}
+use Rattle.slots.proofs.Laws.{empty-words}
+use Rattle.slots.specs.declared.Slot.the-variants.{Part}
 use Rattle.files.specs.declared.Side.{Side}
 use Rattle.files.specs.declared.Side.the-variants.{Low, High, Neither}
 use Rattle.files.specs.declared.File.{File}
-use Rattle.slots.specs.Slots.{isEmpty, isPart, partWords}
+use Rattle.slots.specs.Slots.{isPart, partWords}
 use Rattle.files.specs.Sides.{slotAt, isSide, lower, emptySide, partSide, withSlot, filledAt}
 use Rattle.moves.specs.Output.{putSide, wordsAfter, added, partLength, isComplete, sealed, afterPut}
 use Rattle.files.proofs.Which.{lower-cases, empty-there, part-there}
@@ -30,12 +30,6 @@ pub record PutAt (f : File) (k : Side) : Type 0 where
 one-zero : (b : Bool) → oneIf b ≡ 0 → b ≡ false
 one-zero true e = absurd (omega arith)
 one-zero false e = refl
-
-empty-words : (x : Slot) → isEmpty x ≡ true → partWords x ≡ 0
-empty-words Empty e = refl
-empty-words Taken e = refl
-empty-words (Part n) e = true-not-false e refl
-empty-words (Full n at err) e = refl
 
 -- where no buffer is part-filled, the one beside k is not
 none-part : (f : File) (k : Side) → isSide (partSide f) ≡ false → isPart (other f k) ≡ false

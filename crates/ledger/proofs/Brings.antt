@@ -1,33 +1,31 @@
 -- The ledger of an input file: a block delivered, a block dropped, what get gives. Assumes nothing.
 use mathlib.Core.Path.{_≡_, refl, sym, ap, ap₂, subst, _∙_}
 use mathlib.Core.Logic.{inl, inr}
-use mathlib.Core.Bool.{Bool, true, false, cond, _&&_}
+use mathlib.Core.Bool.{Bool, true, false, cond}
 use mathlib.Core.List.{List, [], _∷_, _++_, map, append-assoc, append-nil}
 use Prim.Native.Nat.{ℕ, zero, suc, _+_, _-_, _*_, _≤_, _<_}
 use native.Mathlib.Omega.{arith}
-use borrow.Author.Tests.{leb-true, leb-false, ltb-true}
-use lib.Dec.{leb, ltb}
+use borrow.Author.Tests.{leb-true, leb-false}
+use lib.Dec.{leb}
 use lib.ListN.{length, length-map}
 use lib.Seq.{drop-append-seam}
 use Rattle.area.specs.Parts.{partOf}
-use Rattle.area.proofs.Walks.{true-not-false, and-right}
-use Rattle.area.proofs.Marks.{cond-true}
+use Rattle.area.proofs.Walks.{true-not-false}
 use Rattle.area.proofs.Pastes.{length-part}
 use Rattle.word.specs.Blocks.{judged}
 use Rattle.slots.specs.declared.Slot.the-variants.{Empty, Full}
 use Rattle.files.specs.declared.Side.{Side}
-use Rattle.files.specs.declared.Side.the-variants.{Low, High, Neither}
+use Rattle.files.specs.declared.Side.the-variants.{Neither}
 use Rattle.files.specs.declared.File.{File}
 use Rattle.slots.specs.Slots.{isEmpty}
 use Rattle.files.specs.Sides.{bufferAt, slotAt, isSide, oldest, withSlot, nextBlock, emptiedAt, withoutOldest}
 use Rattle.moves.specs.Blocks.{Block, line}
 use Rattle.moves.proofs.Ages.{block, Aged, noBlock, old, aged}
 use Rattle.gets.specs.Gets.{isUsedUp, passed}
-use Rattle.filing.specs.Soundness.{isNoBuffer}
 use Rattle.filing.proofs.Facts.{Sound}
-use Rattle.filing.proofs.Kept.{owns, owns-used}
+use Rattle.filing.proofs.Kept.{owns-used}
 use Rattle.filing.proofs.Changes.{numbers}
-use Rattle.filing.proofs.Inside.{size-fits, buffer-inside}
+use Rattle.filing.proofs.Inside.{number-less, size-fits, buffer-inside}
 use Rattle.ledger.specs.Ledgers.{Item, word, wrongs, contentsOf, pastUsed, without, firstOf, restOf}
 use Rattle.ledger.specs.Blocks.{unreadIn, unreadOf, joined, contents}
 use Rattle.ledger.proofs.Told.{All, none, more, UntoldFirst, Brought}
@@ -138,13 +136,6 @@ skip-brought w f xs came gone owed full T = go (oldest f) (aged f) full
 -- ---- what is left of a block
 
 module _ (m w : ℕ) (f : File) (S : Sound m w f) (xs : List ℕ) (long : m * w ≤ length xs) where
-  number-less : (k : Side) → owns f k ≡ true → bufferAt f k .number < m
-  number-less Low o = S .first
-  number-less High o =
-      ltb-true (f .high .number) m (and-right (ltb (f .low .number) (f .high .number)) _
-      (sym (cond-true (ltb (f .low .number) (f .high .number) && ltb (f .high .number) m) (isNoBuffer (f .high)) o) ∙ S .second))
-  number-less Neither o = true-not-false o refl
-
   -- nothing is left of a block that is used up
   used-nothing : (k : Side) (n at e : ℕ) → slotAt f k ≡ Full n at e → UntoldFirst (block (bufferAt f k .number) n at e) → n ≤ at
       → unreadIn w xs (block (bufferAt f k .number) n at e) ≡ []
@@ -166,7 +157,7 @@ module _ (m w : ℕ) (f : File) (S : Sound m w f) (xs : List ℕ) (long : m * w 
       let N = numbers m w f k n at 0 S x in
       let own = owns-used m w f k S s (ap isEmpty x) in
       let inside : bufferAt f k .number * w + n ≤ m * w =
-      buffer-inside m w (bufferAt f k .number) n (number-less k own) (omega (arith, size-fits m w f S, N .fit)) in
+      buffer-inside m w (bufferAt f k .number) n (number-less m w f S k own) (omega (arith, size-fits m w f S, N .fit)) in
       let long-part : length (partOf (bufferAt f k .number * w + at) (n - at) xs) ≡ n - at =
       length-part (bufferAt f k .number * w + at) (n - at) xs (omega arith) in
       omega (arith, length-map (partOf (bufferAt f k .number * w + at) (n - at) xs) word, long-part)

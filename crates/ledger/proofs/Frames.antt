@@ -5,18 +5,16 @@ use mathlib.Core.Bool.{true, false}
 use mathlib.Core.List.{List}
 use Prim.Native.Nat.{ℕ, _*_}
 use native.Mathlib.Decide.{ℕ-discrete}
-use lib.Dec.{eqb}
-use borrow.Author.Tests.{eq-eqb}
 use Rattle.area.specs.Parts.{partOf}
-use Rattle.area.proofs.Walks.{true-not-false, and-both, or-first, or-second}
+use Rattle.area.proofs.Walks.{true-not-false}
 use Rattle.files.specs.declared.Side.{Side}
-use Rattle.files.specs.declared.Side.the-variants.{Low, High, Neither}
 use Rattle.files.specs.declared.File.{File}
 use Rattle.files.specs.Sides.{bufferAt}
 use Rattle.moves.specs.Blocks.{line}
 use Rattle.pool.specs.Free.{heldBy}
 use Rattle.filing.proofs.Facts.{Sound}
 use Rattle.filing.proofs.Kept.{owns}
+use Rattle.filing.proofs.Inside.{held-own}
 use Rattle.filing.proofs.Shares.{apart-holds}
 use Rattle.state.specs.declared.State.{State}
 use Rattle.state.specs.Places.{fileAt}
@@ -90,14 +88,6 @@ told-frame m w f xs zs L S same T = record {
 pub record Kept (s : State) (area : List ℕ) (ledgers : ℕ → Ledger) : Type 0 where
   pub good : Good s
   pub told : (i : ℕ) → Told (s .w) (fileAt s i) area (ledgers i)
-
--- an open file holds the buffers that it owns
-pub held-own : (f : File) (k : Side) → f .opened ≡ true → owns f k ≡ true → heldBy (bufferAt f k .number) f ≡ true
-held-own f Low o h = and-both (f .opened) _ o (or-first (eqb (f .low .number) (f .low .number)) _ (eq-eqb (f .low .number) (f .low .number) refl))
-held-own f High o h =
-    and-both (f .opened) _ o (or-second (eqb (f .low .number) (f .high .number)) _
-    (and-both (f .double) _ h (eq-eqb (f .high .number) (f .high .number) refl)))
-held-own f Neither o h = true-not-false h refl
 
 -- words of a buffer of file j change, and of no other file's
 module _ (s : State) (g : Good s) (j b : ℕ) (held : heldBy b (fileAt s j) ≡ true) (area zs : List ℕ) (only : Only (b * s .w) (s .w) area zs) where

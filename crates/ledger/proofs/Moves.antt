@@ -14,6 +14,7 @@ use Rattle.files.specs.Sides.{bufferAt, slotAt, isSide, partSide, oldest, withS
 use Rattle.moves.specs.Output.{putSide, wordsAfter, partStart, partLength, sealed, afterPut}
 use Rattle.gets.specs.Gets.{isUsedUp, passed, lookedAt, slotAfter, afterFound, getFrom}
 use Rattle.filing.proofs.Facts.{Sound}
+use Rattle.filing.proofs.Inside.{held-own}
 use Rattle.filing.proofs.Puts.{put-at, put-is}
 use Rattle.filing.proofs.Changes.{own-part}
 use Rattle.state.specs.declared.State.{State}
@@ -35,7 +36,7 @@ use Rattle.ledger.proofs.Sides.{Same, same-self, same-then, slot-same}
 use Rattle.ledger.proofs.Writes.{put-wrote, seal-wrote}
 use Rattle.ledger.proofs.Brings.{skip-brought}
 use Rattle.ledger.proofs.Gives.{gives, get-brought}
-use Rattle.ledger.proofs.Frames.{told-out, told-in, Kept, held-own, others-same, kept-file}
+use Rattle.ledger.proofs.Frames.{told-out, told-in, Kept, others-same, kept-file}
 
 -- ---- what a call leaves of the file
 

@@ -7,6 +7,7 @@ use native.Mathlib.Omega.{arith}
 use lib.Dec.{ltb}
 use Rattle.area.specs.Parts.{partOf}
 use Rattle.area.proofs.Walks.{true-not-false}
+use Rattle.slots.proofs.Laws.{empty-words}
 use Rattle.slots.specs.declared.Slot.{Slot}
 use Rattle.slots.specs.declared.Slot.the-variants.{Empty, Taken, Part, Full}
 use Rattle.files.specs.declared.Side.{Side}
@@ -16,7 +17,7 @@ use Rattle.slots.specs.Slots.{isEmpty, isPart, isFull, partWords}
 use Rattle.files.specs.Sides.{bufferAt, slotAt, startAt, isSide, lower, emptySide, partSide, withSlot}
 use Rattle.moves.specs.Output.{putSide, partStart, partLength, isComplete}
 use Rattle.moves.specs.Blocks.{fullIn, fullAt}
-use Rattle.files.proofs.Which.{empty-there, part-there}
+use Rattle.files.proofs.Which.{none-side, empty-there, part-there}
 use Rattle.filing.proofs.Facts.{Sound}
 use Rattle.filing.proofs.Kept.{other, owns, slot-fits}
 use Rattle.filing.proofs.Changes.{own-part, part-numbers}
@@ -150,17 +151,6 @@ module _ (f : File) (k : Side) (s : isSide k ≡ true) (alone : isPart (other f 
       go High s a = ap (λ (p : Bool). partWords (slotAt (withSlot f High (Full n at e) t b) (lower p false))) a
       go Neither s a = true-not-false s refl
 
-empty-words : (x : Slot) → isEmpty x ≡ true → partWords x ≡ 0
-empty-words Empty e = refl
-empty-words Taken e = refl
-empty-words (Part n) e = true-not-false e refl
-empty-words (Full n at err) e = refl
-
-no-side : (k : Side) → isSide k ≡ false → k ≡ Neither
-no-side Low e = true-not-false refl e
-no-side High e = true-not-false refl e
-no-side Neither e = refl
-
 -- the words of the part-filled block are those that the buffer of a put holds
 pub part-had : (w : ℕ) (f : File) (xs : List ℕ) → isSide (putSide f) ≡ true
     → partIn w f xs ≡ partOf (startAt f w (putSide f)) (partWords (slotAt f (putSide f))) xs
@@ -172,7 +162,7 @@ part-had w f xs = go (isSide (partSide f)) refl
         ≡ partOf (startAt f w (cond t (partSide f) (emptySide f))) (partWords (slotAt f (cond t (partSide f) (emptySide f)))) xs
     go true p s = refl
     go false p s =
-        ap (λ (k : Side). partOf (startAt f w k) (partWords (slotAt f k)) xs) (no-side (partSide f) p)
+        ap (λ (k : Side). partOf (startAt f w k) (partWords (slotAt f k)) xs) (none-side (partSide f) p)
         ∙ sym (ap (λ (n : ℕ). partOf (startAt f w (emptySide f)) n xs) (empty-words (slotAt f (emptySide f)) (empty-there f s)))
 
 -- a change in a buffer that is part-filled neither before nor after leaves the part-filled block
@@ -213,5 +203,5 @@ part-same m w f S xs zs same = go (isSide (partSide f)) refl
         same-first w (bufferAt f (partSide f) .number) (partWords (slotAt f (partSide f))) xs zs (omega (arith, size-fits m w f S, N .1))
         (same (partSide f) (own-part m w f S s))
     go false s =
-        ap (λ (k : Side). partOf (startAt f w k) (partWords (slotAt f k)) zs) (no-side (partSide f) s) ∙ sym
-        (ap (λ (k : Side). partOf (startAt f w k) (partWords (slotAt f k)) xs) (no-side (partSide f) s))
+        ap (λ (k : Side). partOf (startAt f w k) (partWords (slotAt f k)) zs) (none-side (partSide f) s) ∙ sym
+        (ap (λ (k : Side). partOf (startAt f w k) (partWords (slotAt f k)) xs) (none-side (partSide f) s))

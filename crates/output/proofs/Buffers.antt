@@ -12,16 +12,16 @@ use Rattle.area.specs.Lists.{allOf}
 use Rattle.area.specs.Parts.{isWord, partOf}
 use Rattle.area.proofs.Walks.{true-not-false}
 use Rattle.area.proofs.Marks.{cond-true, cond-false}
-use Rattle.slots.specs.declared.Slot.{Slot}
-use Rattle.slots.specs.declared.Slot.the-variants.{Empty, Taken, Part, Full}
+use Rattle.slots.proofs.Laws.{empty-words}
+use Rattle.slots.specs.declared.Slot.the-variants.{Part}
 use Rattle.files.specs.declared.Side.{Side}
 use Rattle.files.specs.declared.Side.the-variants.{Low, High, Neither}
 use Rattle.files.specs.declared.File.{File}
-use Rattle.slots.specs.Slots.{isEmpty, isPart, partWords}
+use Rattle.slots.specs.Slots.{isPart, partWords}
 use Rattle.files.specs.Sides.{bufferAt, slotAt, startAt, isSide, lower, emptySide, partSide, withSlot}
 use Rattle.files.specs.Opening.{extra}
 use Rattle.moves.specs.Output.{putSide, wordsAfter, added, partStart, partLength}
-use Rattle.files.proofs.Which.{empty-there}
+use Rattle.files.proofs.Which.{none-side, empty-there}
 use Rattle.filing.proofs.Facts.{Sound}
 use Rattle.filing.proofs.Kept.{other}
 use Rattle.filing.proofs.Changes.{one-record}
@@ -38,17 +38,6 @@ whole-buffer b w m x some h = go (decLt b m)
     go (no l) =
         let less : m ≤ b = omega (arith, l) in
         absurd (omega (arith, mul-le-mul-right w less))
-
-empty-words : (x : Slot) → isEmpty x ≡ true → partWords x ≡ 0
-empty-words Empty e = refl
-empty-words Taken e = refl
-empty-words (Part n) e = true-not-false e refl
-empty-words (Full n at err) e = refl
-
-no-side : (k : Side) → isSide k ≡ false → k ≡ Neither
-no-side Low e = true-not-false refl e
-no-side High e = true-not-false refl e
-no-side Neither e = refl
 
 -- a put adds to the part-filled buffer if there is one
 pub part-first : (f : File) → isSide (partSide f) ≡ true → putSide f ≡ partSide f
@@ -73,7 +62,7 @@ held-is w f area room = go (isSide (partSide f)) refl
         let second : putSide f ≡ emptySide f = cond-false (partSide f) (emptySide f) s in
         let none : partWords (slotAt f (putSide f)) ≡ 0 =
         ap (λ (k : Side). partWords (slotAt f k)) second ∙ empty-words (slotAt f (emptySide f)) (empty-there f (sym (ap isSide second) ∙ room)) in
-        ap (λ (k : Side). allOf isWord (words-of k)) (no-side (partSide f) s) ∙ sym (ap (λ (n : ℕ). allOf isWord (partOf (startAt f w (putSide f)) n area)) none)
+        ap (λ (k : Side). allOf isWord (words-of k)) (none-side (partSide f) s) ∙ sym (ap (λ (n : ℕ). allOf isWord (partOf (startAt f w (putSide f)) n area)) none)
 
 -- ---- the file with n words in buffer k, and no other part-filled
 

@@ -1,5 +1,6 @@
 // The pack: the eleven calls under one roof, with the state that they take and hand back and what each of them answers.
-// This is all that a caller needs to name; the groups below hold the code, the definitions and the proofs.
+// This is all that a caller needs to name in its code; its line of crates.txt also lists the crates below, which declare the types, and hold the code,
+// the definitions and the proofs.
 pub use files::File;
 pub use gets::Got;
 pub use gets::got_error;

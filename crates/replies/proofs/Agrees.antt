@@ -3,9 +3,9 @@ use mathlib.Core.Path.{_≡_, refl, sym, ap, ap₂, _∙_}
 use mathlib.Core.Bool.{Bool, true, false, not, cond}
 use mathlib.Core.List.{List, []}
 use Prim.Native.Nat.{ℕ}
-use borrow.Author.Tests.{ne-eqb, eqb-true, eqb-false}
+use borrow.Author.Tests.{ne-eqb, eqb-false}
 use lib.Dec.{eqb}
-use lib.ListN.{length, getD, set}
+use lib.ListN.{length}
 use lib.Seq.{set-getD}
 use Rattle.area.specs.Parts.{partOf}
 use Rattle.area.specs.Refusals.{lowest}
@@ -29,7 +29,7 @@ use Rattle.judging.specs.Soundness.{sound}
 use Rattle.starting.specs.Fresh.{freshRefusal, freshState, freshBy}
 use Rattle.opening.specs.Open.{openOn, openChange, openBy}
 use Rattle.opening.specs.Close.{closeOn, closeChange, closeBy}
-use Rattle.starting.specs.Freeze.{stateRows, stateRefusal, frozenState, thawedState, freezeBy, thawBy}
+use Rattle.starting.specs.Freeze.{stateRows, frozenState, thawedState, freezeBy, thawBy}
 use Rattle.requests.specs.declared.AskChange.{AskChange}
 use Rattle.requests.specs.declared.ReportChange.{ReportChange}
 use Rattle.requests.specs.Changes.{changedState}
@@ -40,7 +40,7 @@ use Rattle.input.specs.Skip.{skipOn, skipChange, skipBy}
 use Rattle.output.specs.Put.{putOn, putChange, putBy, putByArea}
 use Rattle.output.specs.Seal.{sealOn, sealChange, sealBy, sealByArea}
 use Rattle.gets.specs.Histories.{shown}
-use Rattle.replies.specs.Replies.{Reply, answerOr, quietly, masksOf, gotAnswer, givenWords, replyTo, answerTo}
+use Rattle.replies.specs.Replies.{answerOr, quietly, masksOf, gotAnswer, givenWords, replyTo, answerTo}
 use Rattle.replies.specs.Changes.{openChangeOn, closeChangeOn, askChangeOn, skipChangeOn, reportChangeOn, reportAreaOn, getChangeOn, putChangeOn, putAreaOn, sealChangeOn, sealAreaOn}
 use Rattle.replies.specs.Turns.{stateNumber, wholeOf, changeOf, areaOf, turnedFrom, areaFrom, replyOn, answerOn}
 

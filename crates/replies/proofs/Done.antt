@@ -1,5 +1,5 @@
 -- What each call's code makes of its inner form comes to its definition. Assumes nothing.
-use mathlib.Core.Path.{_≡_, sym, ap, ap₂, _∙_}
+use mathlib.Core.Path.{_≡_, sym, ap, _∙_}
 use mathlib.Core.Bool.{Bool, _||_}
 use mathlib.Core.List.{List}
 use Prim.Native.Nat.{ℕ, _*_}
@@ -34,7 +34,7 @@ use Rattle.output.specs.Seal.{sealOn, sealOnArea}
 use Rattle.frame.specs.declared.Frame.the-variants.{Fresh}
 use Rattle.replies.specs.declared.Change.{Change}
 use Rattle.replies.specs.Replies.{answerOr, gotAnswer, masksOf}
-use Rattle.replies.specs.Changes.{quietChange, openWrong, movesWrong, reportWrongBy, openChangeOn, askChangeOn, reportChangeOn, reportAreaOn, getChangeOn, putChangeOn, putAreaOn, sealChangeOn, sealAreaOn}
+use Rattle.replies.specs.Changes.{quietChange, openWrong, openChangeOn, askChangeOn, reportChangeOn, reportAreaOn, getChangeOn, putChangeOn, putAreaOn, sealChangeOn, sealAreaOn}
 use Rattle.replies.specs.Turns.{wholeOf}
 
 pub opened-as : (unsound : Bool) (m w : ℕ) (files : List File) (f : File) (c : Channel) (file channel unit flags size rlen : ℕ)

@@ -1,7 +1,7 @@
 -- A state that is read and changed where it lies: what the code makes of a frame comes to its definition. Assumes nothing.
 use mathlib.Core.Path.{_≡_, refl, sym, ap, ap₂, _∙_}
 use mathlib.Core.Bool.{Bool, true, false, cond}
-use mathlib.Core.List.{List, map}
+use mathlib.Core.List.{List}
 use Prim.Native.Nat.{ℕ, _≤_, _<_}
 use native.Mathlib.Omega.{arith}
 use borrow.Author.Tests.{ltb-true, ltb-false}
@@ -23,7 +23,6 @@ use Rattle.state.proofs.Lookups.{any-default}
 use Rattle.starting.specs.Fresh.{freshRefusal, freshState}
 use Rattle.starting.specs.Freeze.{frozenState, thawedState}
 use Rattle.replies.specs.declared.Change.{Change}
-use Rattle.replies.specs.declared.Turned.{Turned}
 use Rattle.replies.specs.Replies.{masksOf}
 use Rattle.replies.specs.Turns.{isWhole, wholeOf, fileNumber, channelNumber, changeOf, areaOf, turnedFrom, areaFrom}
 

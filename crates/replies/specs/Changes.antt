@@ -1,7 +1,7 @@
 -- The same by the calls' inner forms: what each call comes to for the one file f and the one channel c that it concerns. `unsound` stands for
 -- the judgement of the state, m and w are its pool. Assumes nothing.
 use Prim.Native.Nat.{ℕ, _*_}
-use mathlib.Core.Bool.{Bool, cond, _||_}
+use mathlib.Core.Bool.{Bool, _||_}
 use mathlib.Core.List.{List}
 use lib.Dec.{leb, ltb}
 use lib.ListN.{length}

@@ -1,4 +1,4 @@
-// A frame: the file and the channel that it concerns, the call, and the state after it.
+// A frame: the call that it makes of the file and the channel that it concerns, and the state after it.
 use crate::Change;
 use crate::Turned;
 use crate::calls::asked;
@@ -6,6 +6,8 @@ use crate::calls::closed;
 use crate::calls::opened;
 use crate::calls::quiet;
 use crate::calls::skipped;
+use crate::concerns::channel_number;
+use crate::concerns::file_number;
 use crate::lending::filled;
 use crate::lending::got;
 use crate::lending::reported;
@@ -19,108 +21,14 @@ use crate::wholes::fresh_number;
 use crate::wholes::is_whole;
 use crate::wholes::state_number;
 use crate::wholes::whole;
-use area::Found;
 use channel::Channel;
 use files::File;
 use frame::Frame;
 use pool::FILES;
-use pool::serving_file;
 use state::CHANNELS;
 use state::State;
 ghost use mathlib.Core.Path.{_≡_};
-ghost use Rattle.pool.specs.Free.{fileCount, servingFile};
-ghost use Rattle.requests.specs.Report.{numberOr};
-ghost use Rattle.replies.specs.Turns.{fileNumber, channelNumber, changeOf, areaOf, turnedOn, areaOn};
-
-// The number of the file that a frame concerns, past the last for none.
-fn file_number(f: Frame, files: [File; FILES]) -> usize
-    ensures { λ r. ⌜ r ≡ fileNumber f files ⌝ }
-{
-    match f {
-        Frame::Malformed => FILES,
-        Frame::Fresh {
-            m: _,
-            w: _,
-            masks: _,
-        } => FILES,
-        Frame::Open {
-            file,
-            channel: _,
-            unit: _,
-            flags: _,
-            size: _,
-            rlen: _,
-        } => file as usize,
-        Frame::Close { file } => file as usize,
-        Frame::Ask {
-            file,
-            op: _,
-            priority: _,
-        } => file as usize,
-        Frame::Report {
-            channel,
-            unit,
-            outcome: _,
-            words: _,
-        } => serving(files, channel, unit),
-        Frame::Get { file } => file as usize,
-        Frame::Put { file, words: _ } => file as usize,
-        Frame::Seal { file } => file as usize,
-        Frame::Skip { file } => file as usize,
-        Frame::Freeze => FILES,
-        Frame::Thaw => FILES,
-    }
-}
-
-// The number of the file that is open on a unit, past the last for none.
-fn serving(files: [File; FILES], channel: u8, unit: u8) -> usize
-    ensures { λ r. ⌜ r ≡ numberOr (servingFile files channel unit) fileCount ⌝ }
-{
-    match serving_file(files, channel, unit) {
-        Found::At(i) => i,
-        Found::Nothing => FILES,
-    }
-}
-
-// The number of the channel that a frame concerns, by the file that it concerns.
-fn channel_number(f: Frame, own: u8) -> usize
-    ensures { λ r. ⌜ r ≡ channelNumber f own ⌝ }
-{
-    match f {
-        Frame::Malformed => own as usize,
-        Frame::Fresh {
-            m: _,
-            w: _,
-            masks: _,
-        } => own as usize,
-        Frame::Open {
-            file: _,
-            channel,
-            unit: _,
-            flags: _,
-            size: _,
-            rlen: _,
-        } => channel as usize,
-        Frame::Close { file: _ } => own as usize,
-        Frame::Ask {
-            file: _,
-            op: _,
-            priority: _,
-        } => own as usize,
-        Frame::Report {
-            channel,
-            unit: _,
-            outcome: _,
-            words: _,
-        } => channel as usize,
-        Frame::Get { file: _ } => own as usize,
-        Frame::Put { file: _, words: _ } => own as usize,
-        Frame::Seal { file: _ } => own as usize,
-        Frame::Skip { file: _ } => own as usize,
-        Frame::Freeze => own as usize,
-        Frame::Thaw => own as usize,
-    }
-}
+ghost use Rattle.replies.specs.Turns.{changeOf, areaOf, turnedOn, areaOn};
 
 // The call that a frame makes of the file f and the channel c.
 fn change_of(

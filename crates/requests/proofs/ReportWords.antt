@@ -14,7 +14,7 @@ use lib.Seq.{getD-take, getD-drop}
 use borrow.Author.Tests.{ne-eqb, eq-eqb, ltb-false}
 use Rattle.area.specs.Lists.{allOf}
 use Rattle.area.specs.Parts.{isWord, partOf, paste}
-use Rattle.area.proofs.Walks.{true-not-false, and-both, or-left, or-right, or-first, or-second}
+use Rattle.area.proofs.Walks.{true-not-false, or-left, or-right}
 use Rattle.area.proofs.Pastes.{length-part, paste-fitting, length-paste, paste-before, paste-after}
 use Rattle.channel.specs.declared.Op.{Op}
 use Rattle.channel.specs.declared.Op.the-variants.{Read, Write, Mark}
@@ -28,16 +28,13 @@ use Rattle.channel.specs.declared.Verdict.{Verdict}
 use Rattle.channel.specs.declared.Verdict.the-variants.{Refused, Repeats, Ends}
 use Rattle.channel.specs.Rules.{resultNumber}
 use Rattle.channel.specs.Units.{turnAt, workOf, operationAt}
-use Rattle.files.specs.declared.Side.{Side}
-use Rattle.files.specs.declared.Side.the-variants.{Low, High, Neither}
 use Rattle.files.specs.declared.File.{File}
 use Rattle.files.specs.Sides.{bufferAt, startAt, isSide, takenSide}
 use Rattle.moves.specs.Input.{hasFull}
 use Rattle.pool.specs.Free.{fileCount, heldBy}
 use Rattle.filing.specs.Soundness.{takenCount}
-use Rattle.filing.proofs.Kept.{owns}
 use Rattle.filing.proofs.Changes.{own-taken}
-use Rattle.filing.proofs.Inside.{size-fits, taken-inside, send-inside}
+use Rattle.filing.proofs.Inside.{size-fits, held-own, taken-inside, send-inside}
 use Rattle.state.specs.declared.State.{State}
 use Rattle.state.specs.Places.{fileAt, channelAt, areaShort}
 use Rattle.judging.specs.Requests.{requested, isReadOp, isWriteOp, isRead, isWrite}
@@ -138,14 +135,6 @@ module _ (c : Channel) (u outcome : ℕ) (f : File) (ready : fileReady (requeste
   by-ending test P none k (ended r e t j) b =
       let here : effectAt c u outcome ≡ opEffect (r .op) e = ap (effectOf (operationAt c u)) j ∙ ap (λ (y : Turn). effectOf (workOf y) (Ends e)) t in
       k (r .op) e (sym (ap (λ (y : Turn). fileReady (requested y) f) t) ∙ ready) (sym (ap test here) ∙ b)
-
--- ---- an open file holds the buffers that it owns
-
-held-own : (f : File) (k : Side) → f .opened ≡ true → owns f k ≡ true → heldBy (bufferAt f k .number) f ≡ true
-held-own f Low o h = and-both (f .opened) _ o (or-first (eqb (f .low .number) (f .low .number)) _ (eq-eqb (f .low .number) (f .low .number) refl))
-held-own f High o h =
-    and-both (f .opened) _ o (or-second (eqb (f .low .number) (f .high .number)) _ (and-both (f .double) _ h (eq-eqb (f .high .number) (f .high .number) refl)))
-held-own f Neither o h = true-not-false h refl
 
 -- ---- a word before or after what is pasted
 

@@ -1,18 +1,17 @@
 -- The line that the machine holds is answered as the line that came: its text goes after what is written. Assumes nothing.
-use mathlib.Core.Path.{_≡_, refl, sym, ap, ap₂, _∙_, subst}
+use mathlib.Core.Path.{_≡_, refl, sym, ap, _∙_, subst}
 use mathlib.Core.Bool.{Bool, true, false, cond}
-use mathlib.Core.List.{List, [], _∷_, _++_}
+use mathlib.Core.List.{List, [], _++_}
 use Prim.Native.Nat.{ℕ, _+_, _-_, _≤_, _<_}
 use native.Mathlib.Omega.{arith}
 use borrow.Author.Tests.{leb-true, leb-false, le-ltb}
 use lib.Dec.{leb}
-use lib.ListN.{length, take, drop, length-drop}
+use lib.ListN.{length, take, drop}
 use lib.Seq.{drop-drop}
 use Rattle.area.specs.Lists.{allOf}
 use Rattle.area.specs.Parts.{paste, pastedIn}
 use Rattle.area.proofs.Pastes.{length-paste}
 use Rattle.area.proofs.Joins.{take-paste}
-use Rattle.area.proofs.Marks.{cond-true, cond-false}
 use Rattle.area.proofs.Walks.{by-test, or-neither}
 use Rattle.digits.specs.Digits.{bytesOf}
 use Rattle.digits.specs.Writes.{placeAfter}
@@ -21,14 +20,14 @@ use Rattle.frame.specs.declared.Frame.the-variants.{Malformed}
 use Rattle.frame.specs.Frames.{longest, isText, sized, freshOf, kindBy, kindOf, frameOf}
 use Rattle.frame.proofs.Laws.Accepts.{frame-long}
 use Rattle.lines.specs.declared.Line.{Line}
-use Rattle.lines.specs.Lines.{Held, Text, Overlong, clip}
+use Rattle.lines.specs.Lines.{Text, Overlong}
 use Rattle.lines.specs.Machine.{heldOf, Holds}
 use Rattle.lines.proofs.Laws.Holding.{clip-text, clip-over}
 use Rattle.state.specs.declared.State.{State}
 use Rattle.judging.specs.Soundness.{sound}
 use Rattle.replies.specs.Replies.{Reply, givenWords, replyTo, answerTo, textOf}
 use Rattle.replies.specs.Turns.{answerOn}
-use Rattle.answering.specs.Rooms.{mostWords, mostText, lacksRooms, givenIn, After, afterLine}
+use Rattle.answering.specs.Rooms.{mostWords, mostText, lacksRooms, After}
 use Rattle.replies.proofs.Stores.{Counts}
 use Rattle.answering.proofs.Written.{IsAfter, given-within, given-all, with-rooms}
 use Rattle.replies.proofs.Agrees.{sound-right}

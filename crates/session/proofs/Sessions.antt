@@ -1,26 +1,25 @@
 -- The player writes the answers of the session's lines, however the session comes in parts and whatever the size of its output. Assumes nothing.
 use mathlib.Core.Path.{_≡_, refl, sym, ap, ap₂, _∙_, subst}
-use mathlib.Core.Bool.{Bool, true, false, cond}
+use mathlib.Core.Bool.{true, false, cond}
 use mathlib.Core.List.{List, [], _∷_, _++_, append-assoc, append-nil}
 use Prim.Native.Nat.{ℕ, zero, suc, _+_, _-_, _≤_, _<_}
 use native.Mathlib.Omega.{arith}
-use borrow.Author.Tests.{leb-true, leb-false, ltb-false, lt-leb, le-ltb}
-use lib.Dec.{leb, ltb}
+use borrow.Author.Tests.{leb-true, leb-false, ltb-false, le-ltb}
+use lib.Dec.{leb}
 use lib.ListN.{length, take, drop, replicate, length-append, length-drop, drop-of-length-le}
 use lib.Seq.{drop-drop, length-take-le}
 use Rattle.area.specs.Parts.{paste}
 use Rattle.area.proofs.Pastes.{length-paste, paste-part}
 use Rattle.area.proofs.Marks.{cond-true, cond-false}
-use Rattle.area.proofs.Walks.{by-test, or-left, or-right, or-neither}
+use Rattle.area.proofs.Walks.{by-test, or-right, or-neither}
 use Rattle.frame.specs.Frames.{longest}
-use Rattle.lines.specs.declared.Line.{Line}
 use Rattle.lines.specs.declared.Step.{Step}
-use Rattle.lines.specs.Lines.{linesOf, feedAt, endedLines, begunLine, lastLine}
-use Rattle.lines.specs.Machine.{noLine, hasBegun, Holds, stepOf, roomOf}
+use Rattle.lines.specs.Lines.{feedAt, endedLines, begunLine, lastLine}
+use Rattle.lines.specs.Machine.{noLine, Holds, stepOf, roomOf}
 use Rattle.lines.specs.Runs.{joined}
 use Rattle.lines.proofs.Laws.Feeds.{ended-append, begun-append, lines-ended}
 use Rattle.lines.proofs.Laws.Holding.{holds-none, begun-none, begun-some}
-use Rattle.lines.proofs.Laws.Steps.{step-length, step-holds, Ended, step-ended, Stopped, step-stopped}
+use Rattle.lines.proofs.Laws.Steps.{step-length, step-holds, step-ended, step-stopped}
 use Rattle.state.specs.declared.State.{State}
 use Rattle.state.specs.Places.{beforeStart}
 use Rattle.judging.specs.Soundness.{sound}
@@ -30,7 +29,7 @@ use Rattle.answering.specs.Rooms.{mostWords, mostText, After}
 use Rattle.replies.proofs.Stores.{Counts}
 use Rattle.replies.proofs.Kept.{answer-kept, answer-counts, answer-area}
 use Rattle.answering.proofs.Fits.{text-longest}
-use Rattle.session.specs.Session.{Course, playLines, areaWords, sessionOf}
+use Rattle.session.specs.Session.{playLines, areaWords, sessionOf}
 use Rattle.session.specs.Player.{Player, afterHeld, answeredTurn, openTurn, turnOf, isDone, playTurns, playPart, endOf, Written, fromFront, after, playCalls, playParts, playSession}
 use Rattle.session.proofs.Answering.{Answered, held-answered, written-after}
 use Rattle.session.proofs.Turning.{not-done, turn-further}

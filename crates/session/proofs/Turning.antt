@@ -1,23 +1,22 @@
 -- One line more, as the code goes, comes to its definition. Assumes nothing.
 use mathlib.Core.Path.{_≡_, refl, sym, ap, ap₂, _∙_, subst}
 use mathlib.Core.Bool.{Bool, true, false, cond}
-use mathlib.Core.List.{List, [], _∷_, _++_, append-nil}
+use mathlib.Core.List.{List, [], _++_, append-nil}
 use Prim.Native.Nat.{ℕ, zero, suc, _+_, _-_, _≤_, _<_}
 use native.Mathlib.Omega.{arith}
-use borrow.Author.Tests.{le-leb, lt-leb, leb-true, leb-false, lt-ltb, le-ltb, ltb-true, ltb-false}
+use borrow.Author.Tests.{le-leb, lt-leb, leb-true, leb-false, lt-ltb, le-ltb, ltb-false}
 use lib.Dec.{leb, ltb}
 use lib.ListN.{length, take, drop, length-append, length-take, length-drop, drop-of-length-le}
 use lib.Seq.{length-take-le}
-use Rattle.area.specs.Parts.{pasteFits, partOf, paste, pastedIn}
+use Rattle.area.specs.Parts.{paste, pastedIn}
 use Rattle.area.proofs.Pastes.{part-all, paste-fitting, paste-misfit, length-paste}
 use Rattle.area.proofs.Marks.{cond-true, cond-false}
-use Rattle.area.proofs.Walks.{by-test, or-left, or-right, or-first, or-second, or-neither}
+use Rattle.area.proofs.Walks.{by-test, or-left, or-first, or-second, or-neither}
 use Rattle.digits.specs.Writes.{placeAfter}
 use Rattle.lines.specs.declared.Line.{Line}
 use Rattle.lines.specs.declared.Step.{Step}
 use Rattle.lines.specs.Lines.{feedAt}
 use Rattle.lines.specs.Machine.{noLine, stepOf, roomOf}
-use Rattle.lines.proofs.Laws.Feeds.{feed-within}
 use Rattle.frame.specs.Frames.{frameOf}
 use Rattle.state.specs.declared.State.{State}
 use Rattle.replies.specs.Replies.{Reply, givenWords, textOf}

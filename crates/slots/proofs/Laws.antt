@@ -1,9 +1,11 @@
--- A slot is of the kind that its number says. Assumes nothing.
+-- A slot is of the kind that its number says; an empty one has no words. Assumes nothing.
 use mathlib.Core.Path.{_≡_, refl}
+use mathlib.Core.Bool.{true}
 use lib.Dec.{eqb}
+use Rattle.area.proofs.Walks.{true-not-false}
 use Rattle.slots.specs.declared.Slot.{Slot}
 use Rattle.slots.specs.declared.Slot.the-variants.{Empty, Taken, Part, Full}
-use Rattle.slots.specs.Slots.{kindOf, isEmpty, isTaken, isPart, isFull}
+use Rattle.slots.specs.Slots.{kindOf, isEmpty, isTaken, isPart, isFull, partWords}
 
 pub kind-empty : (x : Slot) → eqb (kindOf x) 0 ≡ isEmpty x
 kind-empty Empty = refl
@@ -28,3 +30,9 @@ kind-full Empty = refl
 kind-full Taken = refl
 kind-full (Part n) = refl
 kind-full (Full n at e) = refl
+
+pub empty-words : (x : Slot) → isEmpty x ≡ true → partWords x ≡ 0
+empty-words Empty e = refl
+empty-words Taken e = refl
+empty-words (Part n) e = true-not-false e refl
+empty-words (Full n at err) e = refl

@@ -1,7 +1,7 @@
--- `replies::turns::channel_number` meets its contract, a case each. Assumes nothing.
+-- `replies::concerns::channel_number` meets its contract, a case each. Assumes nothing.
 use borrow.Author.Needs.{needs}
-use Rattle.replies.proofs.turns.channel_number.Statement.{statement}
-use Rattle.replies.proofs.turns.channel_number.Tie as tie
+use Rattle.replies.proofs.concerns.channel_number.Statement.{statement}
+use Rattle.replies.proofs.concerns.channel_number.Tie as tie
 
 enum-told : tie.Need-enum-told
 enum-told c = search needs

@@ -1,7 +1,7 @@
--- `replies::turns::serving` meets its contract. Assumes nothing.
+-- `replies::concerns::serving` meets its contract. Assumes nothing.
 use borrow.Author.Needs.{needs}
-use Rattle.replies.proofs.turns.serving.Statement.{statement}
-use Rattle.replies.proofs.turns.serving.Tie as tie
+use Rattle.replies.proofs.concerns.serving.Statement.{statement}
+use Rattle.replies.proofs.concerns.serving.Tie as tie
 
 serving-file-requires : tie.Need-serving-file-requires
 serving-file-requires c κs = search needs

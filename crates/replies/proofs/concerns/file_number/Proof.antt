@@ -1,7 +1,7 @@
--- `replies::turns::file_number` meets its contract, a case each. Assumes nothing.
+-- `replies::concerns::file_number` meets its contract, a case each. Assumes nothing.
 use borrow.Author.Needs.{needs}
-use Rattle.replies.proofs.turns.file_number.Statement.{statement}
-use Rattle.replies.proofs.turns.file_number.Tie as tie
+use Rattle.replies.proofs.concerns.file_number.Statement.{statement}
+use Rattle.replies.proofs.concerns.file_number.Tie as tie
 
 enum-told : tie.Need-enum-told
 enum-told c = search needs
