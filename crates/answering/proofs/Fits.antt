@@ -9,16 +9,16 @@ use lib.Dec.{leb, ltb, eqb}
 use lib.ListN.{length, drop, length-take}
 use Rattle.area.specs.Parts.{partOf, paste, pastedIn}
 use Rattle.area.proofs.Walks.{by-test, and-left, and-right, or-either}
-use Rattle.digits.specs.Writes.{placeAfter}
+use Rattle.figures.specs.Writes.{placeAfter}
 use Rattle.answers.proofs.Laws.Backs.{answer-longest, answer-fits}
 use Rattle.files.specs.declared.Side.{Side}
 use Rattle.files.specs.declared.Side.the-variants.{Neither}
 use Rattle.files.specs.declared.File.{File}
 use Rattle.slots.specs.Slots.{fullWords, fullPlace, fullError}
 use Rattle.files.specs.Sides.{slotAt, startAt, isSide, oldest}
-use Rattle.files.specs.Opening.{extra}
-use Rattle.moves.specs.Output.{sendWords}
-use Rattle.moves.proofs.Ages.{Aged, noBlock, old, aged}
+use Rattle.sizes.specs.Opening.{extra}
+use Rattle.sends.specs.Sends.{sendWords}
+use Rattle.ages.proofs.Ages.{Aged, noBlock, old, aged}
 use Rattle.frame.specs.declared.Frame.{Frame}
 use Rattle.frame.specs.declared.Frame.the-variants.{Malformed, Fresh, Open, Close, Ask, Report, Get, Put, Seal, Skip, Freeze, Thaw}
 use Rattle.frame.specs.Frames.{frameOf}
@@ -32,9 +32,10 @@ use Rattle.state.specs.declared.State.{State}
 use Rattle.state.specs.Places.{fileAt, channelAt}
 use Rattle.judging.specs.Soundness.{sound}
 use Rattle.judging.proofs.Facts.{sound-facts}
-use Rattle.requests.specs.declared.Effect.{Effect}
-use Rattle.requests.specs.declared.Effect.the-variants.{Delivers, MeetsMark, GivesBack, Sends, Keeps}
-use Rattle.requests.specs.Report.{effectAt, shownCount, fileOf, reportWrong, reportRefusal, reportOn, reportBy, reportByArea}
+use Rattle.reporting.specs.declared.Effect.{Effect}
+use Rattle.reporting.specs.declared.Effect.the-variants.{Delivers, MeetsMark, GivesBack, Sends, Keeps}
+use Rattle.reporting.specs.Report.{effectAt, shownCount, reportRefusal, reportOn}
+use Rattle.requests.specs.Calls.{fileOf, reportWrong, reportBy, reportByArea}
 use Rattle.requests.proofs.ReportTheorems.{report-was-sound, isOpen}
 use Rattle.input.specs.Get.{getBy, getWords}
 use Rattle.input.proofs.GetTheorems.{get-refused, get-open, get-state-sound, get-finds}

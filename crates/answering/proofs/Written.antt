@@ -13,7 +13,7 @@ use Rattle.area.proofs.Marks.{cond-true, cond-false}
 use Rattle.area.proofs.Walks.{or-left}
 use Rattle.digits.specs.Digits.{bytesOf}
 use Rattle.digits.specs.Fields.{wordsOf}
-use Rattle.digits.specs.Writes.{placeAfter}
+use Rattle.figures.specs.Writes.{placeAfter}
 use Rattle.frame.specs.declared.Frame.{Frame}
 use Rattle.frame.specs.declared.Frame.the-variants.{Malformed, Fresh, Open, Close, Ask, Report, Get, Put, Seal, Skip, Freeze, Thaw}
 use Rattle.frame.specs.Frames.{frameOf, wordsFrom}

@@ -10,7 +10,7 @@ ghost use Rattle.answers.specs.Leads.{leadIs, leadOf, leadBytes};
 use crate::Answer;
 use crate::Lead;
 use area::Found;
-use digits::put_byte;
+use figures::put_byte;
 
 // The byte that names no unit.
 const NO_UNIT: u8 = 0xff;

@@ -3,7 +3,7 @@ ghost use mathlib.Core.Path.{_≡_};
 ghost use Prim.Native.Nat.{_+_, _*_, _≤_};
 ghost use lib.Dec.{leb};
 ghost use Rattle.area.specs.Parts.{pastedIn};
-ghost use Rattle.digits.specs.Writes.{placeAfter};
+ghost use Rattle.figures.specs.Writes.{placeAfter};
 ghost use Rattle.answers.specs.Answers.{answerText};
 ghost use Rattle.answers.specs.Leads.{shownOf};
 use crate::Answer;
@@ -48,7 +48,7 @@ pub fn write_answer(a: Answer, words: &[u64], out: &mut [u8]) -> usize
         return 0;
     }
     let mid = write_lead(lead, out);
-    let end = digits::put_words(out, mid, part);
+    let end = figures::put_words(out, mid, part);
     out[end] = FEED;
     end + 1
 }

@@ -30,6 +30,11 @@ unfoldable pub firstAlong : (ℕ → ℕ) → (ℕ → Bool) → ℕ → ℕ →
 firstAlong next test zero u = Nothing
 firstAlong next test (suc n) u = cond (test u) (At u) (firstAlong next test n (next u))
 
+-- whether a search found anything
+abbrev pub isFound : Found → Bool
+isFound (At u) = true
+isFound Nothing = false
+
 -- how many of those numbers pass the test
 unfoldable pub countAlong : (ℕ → ℕ) → (ℕ → Bool) → ℕ → ℕ → ℕ
 countAlong next test zero u = 0

@@ -2,13 +2,23 @@
 // Here too is the one home of the general laws on lists that the crates above cite.
 // It knows nothing of blocks, buffers or files.
 ghost use mathlib.Core.Path.{_≡_};
-ghost use Rattle.area.specs.Lists.{allOf};
+ghost use Rattle.area.specs.Lists.{allOf, isFound};
 ghost use Rattle.area.specs.Parts.{isWord, partOf, pasteFits, pastedIn};
 
 // What a search for a number finds.
 pub enum Found {
     At(usize),
     Nothing,
+}
+
+// Whether it found anything.
+pub fn is_found(x: Found) -> bool
+    ensures { λ r. ⌜ r ≡ isFound x ⌝ }
+{
+    match x {
+        Found::At(_) => true,
+        Found::Nothing => false,
+    }
 }
 
 // Whether every word of a slice is below 2^36. All are or'ed, and the bits above are looked at once.

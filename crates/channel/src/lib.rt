@@ -1,13 +1,8 @@
-// One channel as a value: its units with their requests, what can be seen of them, and document 01's table of outcomes and attempts.
-// Every function answers for any channel value and any number. Whose turn it is stands in `schedule`.
+// One channel as a value: its units with their requests, and what can be seen of them.
+// Every function answers for any channel value and any number. What a report comes to stands in `outcomes`, whose turn it is in `schedule`.
 // The crate knows nothing of files, buffers or words.
-mod rules;
 mod units;
 
-pub use rules::attempt_limit;
-pub use rules::refusal_number;
-pub use rules::result_number;
-pub use rules::verdict_of;
 pub use units::accepts;
 pub use units::fresh;
 pub use units::has_request;
@@ -56,21 +51,4 @@ pub struct Channel {
 pub enum Work {
     At(Op),
     Nothing,
-}
-
-// How an operation ends.
-pub enum Ending {
-    Good,
-    Opposite,
-    MarkRead,
-    MediumEnd,
-    LostRedundancy,
-    LostIncomplete,
-}
-
-// What a report comes to: refused with a number, an operation that makes a further attempt, or one that has ended.
-pub enum Verdict {
-    Refused(u8),
-    Repeats(Request),
-    Ends(Ending),
 }

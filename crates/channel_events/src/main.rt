@@ -41,14 +41,14 @@ fn ask_for(c: Channel, unit: usize, op: Op, priority: u64, frozen: bool) -> Chan
     let d = asked.channel;
     let told = if asked.accepted { 1 } else { 0 };
     answer(told);
-    number(schedule::working_number(d) as u64);
+    number(scanning::working_number(d) as u64);
     end_line();
     d
 }
 
 fn refuse(c: Channel) -> Channel {
     answer(0);
-    number(schedule::working_number(c) as u64);
+    number(scanning::working_number(c) as u64);
     end_line();
     c
 }
@@ -86,9 +86,9 @@ fn report(text: &[u8], p: Desk) -> Desk {
     let told = schedule::report(c, unit.value as usize, small(outcome.value), p.frozen);
     let d = told.channel;
     let v = told.verdict;
-    answer(channel::refusal_number(v) as u64);
-    number(channel::result_number(v) as u64);
-    number(schedule::working_number(d) as u64);
+    answer(outcomes::refusal_number(v) as u64);
+    number(outcomes::result_number(v) as u64);
+    number(scanning::working_number(d) as u64);
     end_line();
     Desk {
         channel: d,
@@ -100,7 +100,7 @@ fn report(text: &[u8], p: Desk) -> Desk {
 fn hold(p: Desk, frozen: bool) -> Desk {
     let c = p.channel;
     let d = if frozen { c } else { schedule::thaw(c) };
-    answer(schedule::working_number(d) as u64);
+    answer(scanning::working_number(d) as u64);
     end_line();
     Desk {
         channel: d,

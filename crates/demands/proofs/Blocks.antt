@@ -5,12 +5,12 @@ use mathlib.Core.Bool.{true, false}
 use mathlib.Core.List.{List, []}
 use Prim.Native.Nat.{ℕ, _+_, _%_}
 use lib.ListN.{length}
-use Rattle.word.specs.Blocks.{judged}
+use Rattle.sealing.specs.Blocks.{judged}
 use Rattle.files.specs.Sides.{blockNumbers}
 use Rattle.pool.specs.Free.{serves}
 use Rattle.state.specs.declared.State.{State}
 use Rattle.state.specs.Places.{fileAt}
-use Rattle.requests.specs.Report.{fileOf}
+use Rattle.requests.specs.Calls.{fileOf}
 use Rattle.requests.proofs.ReportTheorems.{report-books-own}
 use Rattle.histories.specs.Calls.{close, report, answerOf}
 use Rattle.ledger.specs.Ledgers.{Ledger, errorOf}

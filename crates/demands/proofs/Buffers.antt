@@ -8,7 +8,7 @@ use native.Mathlib.Decide.{ℕ-discrete}
 use Rattle.area.proofs.Walks.{true-not-false}
 use Rattle.area.proofs.Marks.{cond-true}
 use Rattle.files.specs.declared.File.{File}
-use Rattle.files.specs.Opening.{openedFile}
+use Rattle.sizes.specs.Opening.{openedFile}
 use Rattle.pool.specs.Free.{heldBy}
 use Rattle.filing.proofs.Shares.{apart-holds}
 use Rattle.state.specs.declared.State.{State}
@@ -18,9 +18,9 @@ use Rattle.judging.proofs.Facts.{sound-facts}
 use Rattle.judging.proofs.Buffers.{held-once, free-and-held}
 use Rattle.opening.specs.Open.{openBy}
 use Rattle.opening.proofs.OpenTheorems.{lowOf, highOf, open-lowest, open-next, open-file, open-sound}
-use Rattle.opening.proofs.CloseTheorems.{close-frees}
+use Rattle.closing.proofs.CloseTheorems.{close-frees}
 use Rattle.opening.proofs.Frees.{Lowest}
-use Rattle.requests.specs.Report.{fileOf}
+use Rattle.requests.specs.Calls.{fileOf}
 use Rattle.requests.proofs.ReportTheorems.{report-books-own}
 use Rattle.histories.specs.Calls.{opening, close, report, answerOf}
 use Rattle.histories.proofs.Kept.{Good}

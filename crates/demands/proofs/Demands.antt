@@ -6,7 +6,7 @@ use mathlib.Core.List.{List, []}
 use Prim.Native.Nat.{ℕ, _+_, _%_}
 use lib.ListN.{length}
 use Rattle.word.specs.CheckWords.{checkWord, IsCheckWord}
-use Rattle.word.specs.Blocks.{judged}
+use Rattle.sealing.specs.Blocks.{judged}
 use Rattle.word.proofs.Laws.CheckWord.{check-word-is, check-word-only}
 use Rattle.files.specs.declared.File.{File}
 use Rattle.files.specs.Sides.{blockNumbers}
@@ -14,7 +14,7 @@ use Rattle.pool.specs.Free.{serves}
 use Rattle.state.specs.declared.State.{State}
 use Rattle.state.specs.Places.{beforeStart, fileAt}
 use Rattle.starting.specs.declared.Masks.{Masks}
-use Rattle.requests.specs.Ask.{isPriority}
+use Rattle.asking.specs.Ask.{isPriority}
 use Rattle.histories.specs.Calls.{Call, fresh, opening, close, ask, report, answerOf}
 use Rattle.histories.specs.Histories.{Lent, after, count, freshStart, declaredOn}
 use Rattle.histories.proofs.Kept.{Good, good-before, good-start, history-kept}

@@ -7,15 +7,16 @@ use Rattle.area.specs.Refusals.{lowest}
 use Rattle.area.specs.Numbered.{allFrom}
 use Rattle.word.specs.Sums.{carryBack, sumFrom, logicalSum, firstHalf, lastHalf, folded}
 use Rattle.word.specs.CheckWords.{address, checkWord, nextNumber}
-use Rattle.word.specs.Blocks as blocks
-use Rattle.channel.specs.Rules.{rowOf, isAllowed, isPermanent, nextAttempt, endingOf, verdictOf}
+use Rattle.sealing.specs.Blocks as blocks
+use Rattle.outcomes.specs.Rules.{rowOf, isAllowed, isPermanent, nextAttempt, endingOf, verdictOf}
 use Rattle.channel.specs.Units.{withTurn, freshWith, bitsFrom, freshOf, hasRequest, acceptsAt, operationAt}
-use Rattle.schedule.specs.Scans.{scanFrom, workingIn, priorityIn, ordinaryIn, nextTurn}
+use Rattle.scanning.specs.Scans.{scanFrom, workingIn, priorityIn, ordinaryIn, nextTurn}
 use Rattle.schedule.specs.Turns.{startOf, askOf, judgeOf, goesOn, repeatOf, markAfter, endOf, bookOf}
 use Rattle.files.specs.Sides.{nextBlock, emptySide, takenSide, partSide, oldest, filledAt, emptiedAt, withoutOldest}
-use Rattle.moves.specs.Input.{tookBuffer, delivered, gaveBack, metMark}
-use Rattle.moves.specs.Output.{putSide, putStart, added, partStart, partLength, isComplete, sealed, afterPut, sendStart, sendWords, afterWrite}
-use Rattle.files.specs.Opening.{openedFile}
+use Rattle.reads.specs.Input.{tookBuffer, delivered, gaveBack, metMark}
+use Rattle.puts.specs.Output.{putSide, putStart, added, partStart, partLength, isComplete, sealed, afterPut}
+use Rattle.sends.specs.Sends.{sendStart, sendWords, afterWrite}
+use Rattle.sizes.specs.Opening.{openedFile}
 use Rattle.pool.specs.Free.{lowestFree, freeCount, servingFile}
 use Rattle.filing.specs.Soundness.{isBlank}
 use Rattle.state.specs.Places.{beforeStart, withFile, withChannel}
@@ -23,8 +24,10 @@ use Rattle.judging.specs.Soundness.{numbersInRange, noBufferHeldTwice, eachHasI
 use Rattle.starting.specs.Fresh.{freshRows, freshState, freshBy}
 use Rattle.opening.specs.Open.{freeOf, openRows, openOn, openBy}
 use Rattle.requests.specs.Changes.{changedState}
-use Rattle.requests.specs.Ask.{opOf, askRefusal, askedFile, askedChannel, askOn, askBy}
-use Rattle.requests.specs.Report.{reportRefusal, reportedFile, reportedArea, reportOn, reportOnArea, reportBy, reportByArea}
+use Rattle.asking.specs.Ask.{opOf, askRefusal, askedFile, askedChannel, askOn}
+use Rattle.requests.specs.Calls.{askBy}
+use Rattle.reporting.specs.Report.{reportRefusal, reportedFile, reportedArea, reportOn, reportOnArea}
+use Rattle.requests.specs.Calls.{reportBy, reportByArea}
 use Rattle.output.specs.Blocks.{sealedIn, sealedArea}
 use Rattle.output.specs.Put.{putRows, putRefusal, filledArea, putArea, putOn, putOnArea, putBy, putByArea}
 use Rattle.histories.specs.Calls.{answerOf}

@@ -7,7 +7,7 @@ use Prim.Native.Nat.{ℕ, _+_, _*_, _<_}
 use native.Mathlib.Omega.{arith}
 use borrow.Author.Tests.{eq-eqb}
 use Rattle.channel.specs.declared.Op.{Op}
-use Rattle.channel.specs.Rules.{mostReports}
+use Rattle.outcomes.specs.Rules.{mostReports}
 use Rattle.service.specs.History as history
 use Rattle.service.specs.History.{accepted, aReport, aPriority, aRequestOf, anAnswerTo, urgentIn, isAlive}
 use Rattle.service.specs.Lifted.{runIn, KeptIn}
@@ -16,7 +16,7 @@ use Rattle.state.specs.Places.{fileAt, channelAt}
 use Rattle.starting.specs.declared.Masks.{Masks}
 use Rattle.starting.specs.Fresh.{freshState}
 use Rattle.starting.proofs.FreshTheorems.{fresh-accepted}
-use Rattle.requests.specs.Ask.{opOf, isPriority}
+use Rattle.asking.specs.Ask.{opOf, isPriority}
 use Rattle.histories.specs.Calls.{fresh, ask, answerOf}
 use Rattle.histories.specs.Histories.{Lent, after, count, freshStart, reportOn, answerFor, priorityOn, requestOf, declaredOn}
 use Rattle.histories.proofs.Kept.{Good, good-start, history-kept, call-kept}

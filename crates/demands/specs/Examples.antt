@@ -11,9 +11,9 @@ use Rattle.word.specs.CheckWords.{checkWord}
 use Rattle.channel.specs.declared.Turn.{Turn}
 use Rattle.channel.specs.declared.Turn.the-variants.{Idle, Waiting, Displaced, Working}
 use Rattle.channel.specs.declared.Channel.{Channel}
-use Rattle.channel.specs.Rules.{good, redundancy}
+use Rattle.outcomes.specs.Rules.{good, redundancy}
 use Rattle.channel.specs.Units.{turnAt}
-use Rattle.schedule.specs.Scans.{workingIn}
+use Rattle.scanning.specs.Scans.{workingIn}
 use Rattle.files.specs.Sides.{nextBlock}
 use Rattle.state.specs.declared.State.{State}
 use Rattle.state.specs.Places.{beforeStart, channelAt}

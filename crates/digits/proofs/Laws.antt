@@ -1,4 +1,2 @@
 pub mod Values
 pub mod Bytes
-pub mod Writes
-pub mod Trips

@@ -4,11 +4,11 @@
 mod print;
 
 use files::File;
-use files::Wish;
 use libc::STDIN_FILENO;
 use numbers::next;
 use print::number;
 use print::whole;
+use sizes::Wish;
 
 // The file, the words of a buffer, and where the next event is read.
 struct Desk {
@@ -47,46 +47,46 @@ fn open(text: &[u8], p: Desk) -> Desk {
         rlen: size(r.value),
     };
     Desk {
-        file: files::opened_file(q, byte(low.value), byte(high.value)),
+        file: sizes::opened_file(q, byte(low.value), byte(high.value)),
         w: size(w.value),
         at: high.at,
     }
 }
 
 fn take(f: File, w: u16) -> File {
-    let g = moves::took_buffer(f);
-    number(moves::taken_start(g, w) as u64);
+    let g = reads::took_buffer(f);
+    number(reads::taken_start(g, w) as u64);
     g
 }
 
 fn get(f: File, w: u16) -> File {
     let r = gets::get(f, w);
     let g = r.got;
-    number(gets::got_number(g) as u64);
-    number(gets::got_start(g) as u64);
-    number(gets::got_words(g) as u64);
-    number(gets::got_error(g) as u64);
+    number(showing::got_number(g) as u64);
+    number(showing::got_start(g) as u64);
+    number(showing::got_words(g) as u64);
+    number(showing::got_error(g) as u64);
     r.file
 }
 
 fn put(f: File, w: u16) -> File {
-    let g = moves::added(f);
-    number(moves::put_start(f, w) as u64);
-    number(moves::part_length(g) as u64);
-    let sealed = if moves::is_complete(g) { 1 } else { 0 };
+    let g = puts::added(f);
+    number(puts::put_start(f, w) as u64);
+    number(puts::part_length(g) as u64);
+    let sealed = if puts::is_complete(g) { 1 } else { 0 };
     number(sealed);
-    moves::after_put(f)
+    puts::after_put(f)
 }
 
 fn seal(f: File, w: u16) -> File {
-    number(moves::part_start(f, w) as u64);
-    number(moves::part_length(f) as u64);
-    moves::sealed(f)
+    number(puts::part_start(f, w) as u64);
+    number(puts::part_length(f) as u64);
+    puts::sealed(f)
 }
 
 fn send(f: File, w: u16) -> File {
-    number(moves::send_start(f, w) as u64);
-    number(moves::send_words(f) as u64);
+    number(sends::send_start(f, w) as u64);
+    number(sends::send_words(f) as u64);
     f
 }
 
@@ -94,15 +94,15 @@ fn send(f: File, w: u16) -> File {
 fn after(kind: u64, f: File, w: u16) -> File {
     match kind {
         2 => take(f, w),
-        4 => moves::gave_back(f),
-        5 => moves::met_mark(f),
+        4 => reads::gave_back(f),
+        5 => reads::met_mark(f),
         6 => get(f, w),
         7 => files::without_oldest(f),
         8 => put(f, w),
         9 => seal(f, w),
         10 => send(f, w),
-        11 => moves::after_write(f, true),
-        _ => moves::after_write(f, false),
+        11 => sends::after_write(f, true),
+        _ => sends::after_write(f, false),
     }
 }
 
@@ -111,7 +111,7 @@ fn deliver(text: &[u8], p: Desk) -> Desk {
     let error = next(text, n.at);
     let f = p.file;
     Desk {
-        file: moves::delivered(f, size(n.value), byte(error.value)),
+        file: reads::delivered(f, size(n.value), byte(error.value)),
         w: p.w,
         at: error.at,
     }
@@ -137,7 +137,7 @@ fn event(text: &[u8], kind: u64, p: Desk) -> Desk {
 // Plays the whole text. There are no more events than bytes.
 fn play(text: &[u8]) {
     let mut p = Desk {
-        file: files::closed_file(),
+        file: sizes::closed_file(),
         w: 0,
         at: 0,
     };

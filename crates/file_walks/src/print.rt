@@ -22,7 +22,7 @@ fn flag(b: bool) -> u64
 
 // The oldest full block, if there is one: its buffer, data words, the place of get in it, and its check error that was not told.
 fn block(f: File) {
-    if moves::has_full(f) {
+    if reads::has_full(f) {
         let k = files::oldest(f);
         let x = files::slot_at(f, k);
         number(files::start_at(f, 1, k) as u64);
@@ -39,25 +39,25 @@ fn taken(f: File) {
     let x = low.slot;
     let y = high.slot;
     if slots::is_taken(x) | slots::is_taken(y) {
-        return number(moves::taken_start(f, 1) as u64);
+        return number(reads::taken_start(f, 1) as u64);
     }
     number(255)
 }
 
 // The part-filled buffer and its words, 255 and 0 for none.
 fn part(f: File) {
-    if moves::has_part(f) {
-        number(moves::part_start(f, 1) as u64);
+    if puts::has_part(f) {
+        number(puts::part_start(f, 1) as u64);
     } else {
         number(255);
     }
-    number(moves::part_length(f) as u64);
+    number(puts::part_length(f) as u64);
 }
 
 // The whole file: its full blocks, the oldest first, the taken and the part-filled buffer, the next block number and the mark.
 pub fn whole(f: File) {
     let rest = files::without_oldest(f);
-    number(flag(moves::has_full(f)) + flag(moves::has_full(rest)));
+    number(flag(reads::has_full(f)) + flag(reads::has_full(rest)));
     block(f);
     block(rest);
     taken(f);

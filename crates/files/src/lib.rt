@@ -1,7 +1,6 @@
-// One file by value: its sizes, its one or two buffers and what each of them holds, which of them is meant, and the file with something
+// One file by value: its one or two buffers and what each of them holds, which of them is meant, and the file with something
 // else in one of them. It only numbers the buffers and knows nothing of channels, of other files, or of the words of an area.
 mod sides;
-mod wishes;
 
 pub use sides::emptied_at;
 pub use sides::empty_side;
@@ -15,11 +14,6 @@ pub use sides::taken_side;
 pub use sides::with_slot;
 pub use sides::without_oldest;
 use slots::Slot;
-pub use wishes::buffers_for;
-pub use wishes::closed_file;
-pub use wishes::extra;
-pub use wishes::opened_file;
-pub use wishes::sizes_fit;
 
 // Block numbers are below this; check errors are up to the other.
 pub const BLOCK_NUMBERS: u32 = 32768;
@@ -56,16 +50,4 @@ pub enum Side {
     Low,
     High,
     Neither,
-}
-
-// What an open asks for.
-pub struct Wish {
-    pub channel: u8,
-    pub unit: u8,
-    pub output: bool,
-    pub double: bool,
-    pub sequence: bool,
-    pub check: bool,
-    pub size: u16,
-    pub rlen: u16,
 }

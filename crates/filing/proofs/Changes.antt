@@ -11,14 +11,15 @@ use Rattle.slots.specs.declared.Slot.the-variants.{Empty, Taken, Part, Full}
 use Rattle.files.specs.declared.Side.{Side}
 use Rattle.files.specs.declared.Side.the-variants.{Low, High, Neither}
 use Rattle.files.specs.declared.File.{File}
-use Rattle.files.specs.declared.Wish.{Wish}
+use Rattle.sizes.specs.declared.Wish.{Wish}
 use Rattle.slots.specs.Slots.{isEmpty, isTaken, isPart, isFull, partWords}
 use Rattle.files.specs.Sides.{slotAt, isSide, emptySide, takenSide, partSide, oldest, withSlot, emptiedAt, withoutOldest}
-use Rattle.files.specs.Opening.{sizesFit, openedFile}
-use Rattle.moves.specs.Input.{tookBuffer, delivered, gaveBack, withMark, metMark}
-use Rattle.moves.specs.Output.{partLength, sealed, afterWrite}
+use Rattle.sizes.specs.Opening.{sizesFit, openedFile}
+use Rattle.reads.specs.Input.{tookBuffer, delivered, gaveBack, withMark, metMark}
+use Rattle.puts.specs.Output.{partLength, sealed}
+use Rattle.sends.specs.Sends.{afterWrite}
 use Rattle.files.proofs.Which.{lower-cases, taken-there, part-there, full-there}
-use Rattle.moves.proofs.Ages.{Aged, noBlock, old, aged}
+use Rattle.ages.proofs.Ages.{Aged, noBlock, old, aged}
 use Rattle.gets.specs.Gets.{isUsedUp, passed, lookedAt, wordsGiven, slotAfter, afterFound, getFrom}
 use Rattle.filing.specs.Soundness.{oneIf, takenCount}
 use Rattle.filing.proofs.Facts.{slotFits, Sound, fits}

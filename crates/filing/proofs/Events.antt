@@ -7,8 +7,8 @@ use Rattle.files.specs.declared.Side.{Side}
 use Rattle.slots.specs.declared.Slot.the-variants.{Taken, Part, Full, Empty}
 use Rattle.files.specs.declared.File.{File}
 use Rattle.files.specs.Sides.{slotAt, isSide, emptySide, takenSide, partSide, oldest, turnedBy, nextBlock, filledAt, emptiedAt, withoutOldest, withSlot}
-use Rattle.moves.specs.Input.{hasEmpty, tookBuffer, delivered, gaveBack, withMark, metMark}
-use Rattle.moves.specs.Output.{putSide, hasRoom, hasPart, wordsAfter, added, isComplete, partLength, sealed, afterPut}
+use Rattle.reads.specs.Input.{hasEmpty, tookBuffer, delivered, gaveBack, withMark, metMark}
+use Rattle.puts.specs.Output.{putSide, hasRoom, hasPart, wordsAfter, added, isComplete, partLength, sealed, afterPut}
 use Rattle.gets.specs.Gets.{isUsedUp, passed, lookedAt, slotAfter, afterFound}
 use Rattle.gets.specs.Histories.{Event, read, giveBack, mark, get, skip, put, seal, send, deliver, after}
 use Rattle.filing.specs.Soundness.{takenCount, fileSound}

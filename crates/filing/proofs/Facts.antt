@@ -12,7 +12,7 @@ use Rattle.files.specs.declared.Buffer.{Buffer}
 use Rattle.files.specs.declared.File.{File}
 use Rattle.slots.specs.Slots.{isEmpty, isFull, fullError}
 use Rattle.files.specs.Sides.{noBuffer, blockNumbers}
-use Rattle.files.specs.Opening.{sizesFit, closedFile}
+use Rattle.sizes.specs.Opening.{sizesFit, closedFile}
 use Rattle.filing.specs.Soundness.{inRange, isNoBuffer, hasBuffers, oneIf, takenCount, takenRight, fullFits, fullRight, partsHeld, partFits, partRight, placeFits, placeRight, isUnread, openSound, isBlank, fileSound}
 
 -- what one buffer of a file may hold, by the file's direction and sizes

@@ -15,9 +15,10 @@ use Rattle.files.specs.declared.Side.the-variants.{Low, High, Neither}
 use Rattle.files.specs.declared.File.{File}
 use Rattle.slots.specs.Slots.{fullWords}
 use Rattle.files.specs.Sides.{bufferAt, slotAt, startAt, isSide, takenSide, oldest}
-use Rattle.files.specs.Opening.{extra}
-use Rattle.moves.specs.Output.{putSide, wordsAfter, sendStart, sendWords}
-use Rattle.moves.proofs.Ages.{Aged, noBlock, old, aged}
+use Rattle.sizes.specs.Opening.{extra}
+use Rattle.puts.specs.Output.{putSide, wordsAfter}
+use Rattle.sends.specs.Sends.{sendStart, sendWords}
+use Rattle.ages.proofs.Ages.{Aged, noBlock, old, aged}
 use Rattle.gets.specs.Gets.{foundIn, foundNone, found, lookedAt, getFrom, gotStart, gotWords}
 use Rattle.gets.specs.declared.Got.{Got}
 use Rattle.gets.specs.declared.Got.the-variants.{Record, Leftover, Error}

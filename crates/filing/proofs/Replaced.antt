@@ -10,7 +10,7 @@ use lib.Dec.{eqb}
 use lib.ListN.{length, getD, set, replicate}
 use Rattle.area.specs.declared.Found.{Found}
 use Rattle.area.specs.declared.Found.the-variants.{At, Nothing}
-use Rattle.area.specs.Lists.{allOf, allPairs, along}
+use Rattle.area.specs.Lists.{allOf, allPairs, along, isFound}
 use Rattle.area.proofs.Walks.{true-not-false, and-left, and-right, and-both, or-either, at-all, none-at}
 use Rattle.area.proofs.Firsts.{first-misses}
 use Rattle.area.proofs.Marks.{along-suc, all-set, pairs-set, pairs-alike}
@@ -18,10 +18,10 @@ use Rattle.slots.specs.declared.Slot.{Slot}
 use Rattle.files.specs.declared.Side.{Side}
 use Rattle.files.specs.declared.Side.the-variants.{Low, High, Neither}
 use Rattle.files.specs.declared.File.{File}
-use Rattle.files.specs.declared.Wish.{Wish}
+use Rattle.sizes.specs.declared.Wish.{Wish}
 use Rattle.files.specs.Sides.{withSlot}
-use Rattle.files.specs.Opening.{secondNumber, openedFile, closedFile}
-use Rattle.pool.specs.Free.{fileCount, heldBy, isHeld, isFree, serves, servingFile, isFound, isBound}
+use Rattle.sizes.specs.Opening.{secondNumber, openedFile, closedFile}
+use Rattle.pool.specs.Free.{fileCount, heldBy, isHeld, isFree, serves, servingFile, isBound}
 use Rattle.filing.specs.Soundness.{shareBuffer, shareUnit, apart, isBlank, fileSound, filesSound}
 use Rattle.filing.proofs.Shares.{held-shared}
 

@@ -11,7 +11,7 @@ use Rattle.area.specs.Lists.{anyOf, allOf, allPairs, countAlong}
 use Rattle.area.proofs.Walks.{by-test, true-not-false, and-left, and-right, and-both, or-either}
 use Rattle.area.proofs.Marks.{cond-true, count-rest, count-zero, count-either, count-one, any-none, count-alone}
 use Rattle.files.specs.declared.File.{File}
-use Rattle.files.specs.Opening.{buffersFor}
+use Rattle.sizes.specs.Opening.{buffersFor}
 use Rattle.pool.specs.Free.{heldBy, isHeld, isFree, freeCount, holders, holding, allHolding}
 use Rattle.filing.specs.Soundness.{isNoBuffer, shareBuffer, apart, fileSound, filesSound}
 use Rattle.filing.proofs.Facts.{Sound, facts}

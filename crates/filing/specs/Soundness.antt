@@ -11,7 +11,7 @@ use Rattle.files.specs.declared.Buffer.{Buffer}
 use Rattle.files.specs.declared.File.{File}
 use Rattle.slots.specs.Slots.{isEmpty, isTaken, isPart, isFull, fullPlace, fullError}
 use Rattle.files.specs.Sides.{blockNumbers}
-use Rattle.files.specs.Opening.{sizesFit}
+use Rattle.sizes.specs.Opening.{sizesFit}
 use Rattle.pool.specs.Free.{heldBy, serves}
 
 -- "Error 1 is sequence, 2 check sum, 3 both."

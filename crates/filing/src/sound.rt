@@ -8,7 +8,7 @@ use crate::clauses::place_fits;
 use files::BLOCK_NUMBERS;
 use files::File;
 use files::LAST_ERROR;
-use files::sizes_fit;
+use sizes::sizes_fit;
 use slots::full_error;
 use slots::is_full;
 use slots::is_part;

@@ -14,13 +14,13 @@ use Rattle.slots.specs.declared.Slot.the-variants.{Empty, Taken, Part, Full}
 use Rattle.files.specs.declared.Side.{Side}
 use Rattle.files.specs.declared.Side.the-variants.{Low, High, Neither}
 use Rattle.files.specs.declared.File.{File}
-use Rattle.files.specs.declared.Wish.{Wish}
+use Rattle.sizes.specs.declared.Wish.{Wish}
 use Rattle.files.specs.Sides.{bufferAt, slotAt, isSide, takenSide, partSide, oldest, withSlot, filledAt, withoutOldest}
-use Rattle.moves.specs.Input.{tookBuffer, delivered, gaveBack, metMark}
-use Rattle.moves.specs.Output.{added, isComplete, partLength, sealed, afterPut}
-use Rattle.files.specs.Opening.{openedFile}
-use Rattle.moves.specs.Blocks.{Block, fullIn, fullAt, inOrder, line}
-use Rattle.moves.proofs.Ages.{block, taken-none, part-none, young, Aged, noBlock, old, aged, opened-line, took-line, back-line, met-line, added-line, oldest-leaves}
+use Rattle.reads.specs.Input.{tookBuffer, delivered, gaveBack, metMark}
+use Rattle.puts.specs.Output.{added, isComplete, partLength, sealed, afterPut}
+use Rattle.sizes.specs.Opening.{openedFile}
+use Rattle.ages.specs.Blocks.{Block, fullIn, fullAt, inOrder, line}
+use Rattle.ages.proofs.Ages.{block, taken-none, part-none, young, Aged, noBlock, old, aged, opened-line, took-line, back-line, met-line, added-line, oldest-leaves}
 use Rattle.gets.specs.Gets.{isUsedUp, passed, lookedAt, slotAfter, wordsGiven, afterFound}
 use Rattle.gets.specs.Histories.{Event, read, giveBack, mark, get, skip, put, seal, send, deliver, after, buffersInLine, numberOf, becomesFull, one, becomeEmpty, afterAll, allFilled, allEmptied}
 use Rattle.gets.proofs.Onces.{passed-same}

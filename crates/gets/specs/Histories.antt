@@ -6,9 +6,9 @@ use Rattle.area.specs.Parts.{partOf}
 use Rattle.files.specs.declared.Side.{Side}
 use Rattle.files.specs.declared.File.{File}
 use Rattle.files.specs.Sides.{bufferAt, slotAt, isSide, takenSide, partSide, oldest, withoutOldest}
-use Rattle.moves.specs.Input.{tookBuffer, delivered, gaveBack, metMark}
-use Rattle.moves.specs.Output.{added, isComplete, sealed, afterPut}
-use Rattle.moves.specs.Blocks.{Block, line}
+use Rattle.reads.specs.Input.{tookBuffer, delivered, gaveBack, metMark}
+use Rattle.puts.specs.Output.{added, isComplete, sealed, afterPut}
+use Rattle.ages.specs.Blocks.{Block, line}
 use Rattle.gets.specs.declared.Got.{Got}
 use Rattle.gets.specs.Gets.{isUsedUp, passed, lookedAt, afterFound, getFrom, gotStart, gotWords}
 

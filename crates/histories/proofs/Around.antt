@@ -5,7 +5,7 @@ use mathlib.Core.List.{List, [], _∷_}
 use Prim.Native.Nat.{ℕ}
 use native.Mathlib.Omega.{arith}
 use borrow.Author.Tests.{eq-eqb}
-use Rattle.channel.specs.declared.Ending.the-variants.{Good}
+use Rattle.outcomes.specs.declared.Ending.the-variants.{Good}
 use Rattle.service.specs.History as history
 use Rattle.service.specs.Lifted.{System, runIn, countShown, countIn}
 use Rattle.state.specs.declared.State.{State}

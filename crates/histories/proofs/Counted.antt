@@ -5,18 +5,19 @@ use mathlib.Core.List.{List}
 use Prim.Native.Nat.{ℕ}
 use lib.Dec.{eqb}
 use borrow.Author.Tests.{eqb-true}
-use Rattle.channel.specs.declared.Ending.the-variants.{Good, Opposite, MarkRead, MediumEnd, LostRedundancy, LostIncomplete}
-use Rattle.channel.specs.declared.Verdict.{Verdict}
-use Rattle.channel.specs.declared.Verdict.the-variants.{Refused, Repeats, Ends}
-use Rattle.channel.specs.Rules.{resultNumber}
+use Rattle.outcomes.specs.declared.Ending.the-variants.{Good, Opposite, MarkRead, MediumEnd, LostRedundancy, LostIncomplete}
+use Rattle.outcomes.specs.declared.Verdict.{Verdict}
+use Rattle.outcomes.specs.declared.Verdict.the-variants.{Refused, Repeats, Ends}
+use Rattle.outcomes.specs.Rules.{resultNumber}
 use Rattle.schedule.specs.Turns.{judgeOf}
 use Rattle.service.specs.History as history
 use Rattle.service.specs.History.{accepted, reportAnswer, aReport, aPriority, aRequestOf, anAnswerTo, isAnswered}
 use Rattle.service.specs.Lifted.{countShown}
 use Rattle.state.specs.declared.State.{State}
 use Rattle.state.specs.Places.{fileAt, channelAt}
-use Rattle.requests.specs.Ask.{opOf, isPriority}
-use Rattle.requests.specs.Report.{reportRefusal, reportOn, reportBy}
+use Rattle.asking.specs.Ask.{opOf, isPriority}
+use Rattle.reporting.specs.Report.{reportRefusal, reportOn}
+use Rattle.requests.specs.Calls.{reportBy}
 use Rattle.requests.proofs.ReportTheorems.{report-exactly, report-event}
 use Rattle.histories.specs.Calls.{Call, fresh, opening, close, ask, report, get, put, seal, skip, freeze, thaw, Answer, answerOf}
 use Rattle.histories.specs.Histories as h

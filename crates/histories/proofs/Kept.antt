@@ -15,14 +15,14 @@ use Rattle.judging.proofs.Wholes.{before-start-sound}
 use Rattle.starting.specs.declared.Masks.{Masks}
 use Rattle.starting.specs.Fresh.{freshState, freshBy}
 use Rattle.opening.specs.Open.{openChange, openBy}
-use Rattle.opening.specs.Close.{closeChange, closeBy}
+use Rattle.closing.specs.Close.{closeChange, closeBy}
 use Rattle.input.specs.Get.{getChange, getBy}
 use Rattle.input.specs.Skip.{skipChange, skipBy}
 use Rattle.output.specs.Put.{putChange, putBy}
 use Rattle.output.specs.Seal.{sealChange, sealBy}
 use Rattle.starting.proofs.FreshTheorems.{fresh-refused, fresh-accepted, fresh-kept}
 use Rattle.opening.proofs.OpenTheorems.{open-kept}
-use Rattle.opening.proofs.CloseTheorems.{close-kept}
+use Rattle.closing.proofs.CloseTheorems.{close-kept}
 use Rattle.starting.proofs.FreezeTheorems.{freeze-kept, freeze-frame, thaw-kept, thaw-frame}
 use Rattle.requests.proofs.AskTheorems.{ask-kept, ask-frame}
 use Rattle.requests.proofs.ReportTheorems.{report-kept, report-frame}

@@ -14,7 +14,7 @@ use Rattle.state.specs.declared.State.{State}
 use Rattle.starting.specs.declared.Called.{Called}
 use Rattle.starting.specs.Fresh.{freshRows}
 use Rattle.opening.specs.Open.{openRows}
-use Rattle.opening.specs.Close.{closeRows}
+use Rattle.closing.specs.Close.{closeRows}
 use Rattle.starting.specs.Freeze.{stateRows}
 use Rattle.input.specs.Get.{getRows}
 use Rattle.input.specs.Skip.{skipRows}
@@ -22,7 +22,7 @@ use Rattle.output.specs.Put.{putRows}
 use Rattle.output.specs.Seal.{sealRows}
 use Rattle.starting.proofs.FreshTheorems.{fresh-exactly, fresh-refused}
 use Rattle.opening.proofs.OpenTheorems.{open-exactly, open-refused}
-use Rattle.opening.proofs.CloseTheorems.{close-exactly, close-refused}
+use Rattle.closing.proofs.CloseTheorems.{close-exactly, close-refused}
 use Rattle.starting.proofs.FreezeTheorems.{freeze-exactly, freeze-refused, thaw-exactly, thaw-refused}
 use Rattle.requests.proofs.AskTheorems.{ask-exactly}
 use Rattle.requests.proofs.ReportTheorems.{report-exactly}

@@ -10,7 +10,7 @@ use borrow.Author.Tests.{eq-eqb, ne-eqb}
 use Rattle.area.specs.Lists.{firstAlong}
 use Rattle.channel.specs.declared.Channel.{Channel}
 use Rattle.channel.specs.Units.{freshWith, bitsFrom, freshOf}
-use Rattle.schedule.specs.Scans.{scanFrom, workingIn, priorityIn, ordinaryIn, nextTurn}
+use Rattle.scanning.specs.Scans.{scanFrom, workingIn, priorityIn, ordinaryIn, nextTurn}
 use Rattle.schedule.specs.Turns.{startOf, thawOf, judgeOf}
 use Rattle.service.specs.History as history
 use Rattle.service.specs.History.{Station, station, accepted, reportAnswer, step}
@@ -18,10 +18,11 @@ use Rattle.service.specs.Lifted.{Shown, Agrees}
 use Rattle.state.specs.declared.State.{State}
 use Rattle.state.specs.Places.{noChannel, fileAt, channelIn, channelAt}
 use Rattle.starting.specs.Freeze.{frozenState, thawedState, freezeBy, thawBy}
-use Rattle.requests.specs.Ask.{opOf, isPriority, askBy}
-use Rattle.requests.specs.Report.{reportBy}
+use Rattle.asking.specs.Ask.{opOf, isPriority}
+use Rattle.requests.specs.Calls.{askBy}
+use Rattle.requests.specs.Calls.{reportBy}
 use Rattle.opening.proofs.OpenTheorems.{open-frame}
-use Rattle.opening.proofs.CloseTheorems.{close-frame}
+use Rattle.closing.proofs.CloseTheorems.{close-frame}
 use Rattle.starting.proofs.FreezeTheorems.{freeze-refused, freeze-state, thaw-refused, thaw-state}
 use Rattle.requests.proofs.AskTheorems.{ask-exactly, ask-frame, ask-event}
 use Rattle.requests.proofs.ReportTheorems.{report-exactly, report-frame, report-event}

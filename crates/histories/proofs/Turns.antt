@@ -5,7 +5,7 @@ use mathlib.Core.Option.{some}
 use mathlib.Core.List.{List, [], _∷_}
 use Prim.Native.Nat.{ℕ, zero, suc, _+_}
 use Rattle.area.specs.Lists.{countOf}
-use Rattle.channel.specs.declared.Ending.the-variants.{Good}
+use Rattle.outcomes.specs.declared.Ending.the-variants.{Good}
 use Rattle.channel.specs.declared.Unit.{Unit}
 use Rattle.channel.specs.declared.Channel.{Channel}
 use Rattle.channel.specs.Units.{unitCount, freshWith, bitsFrom, freshOf}

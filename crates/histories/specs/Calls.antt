@@ -10,12 +10,12 @@ use Rattle.starting.specs.declared.Called.{Called}
 use Rattle.starting.specs.declared.Masks.{Masks}
 use Rattle.starting.specs.Fresh.{freshBy}
 use Rattle.opening.specs.Open.{openBy}
-use Rattle.opening.specs.Close.{closeBy}
+use Rattle.closing.specs.Close.{closeBy}
 use Rattle.starting.specs.Freeze.{freezeBy, thawBy}
 use Rattle.requests.specs.declared.Asking.{Asking}
 use Rattle.requests.specs.declared.Reporting.{Reporting}
-use Rattle.requests.specs.Ask.{askBy}
-use Rattle.requests.specs.Report.{reportBy, reportByArea}
+use Rattle.requests.specs.Calls.{askBy}
+use Rattle.requests.specs.Calls.{reportBy, reportByArea}
 use Rattle.input.specs.declared.Getting.{Getting}
 use Rattle.input.specs.declared.Skipping.{Skipping}
 use Rattle.input.specs.Get.{noAnswer, getBy, getWords}

@@ -7,7 +7,7 @@ use Rattle.area.specs.Lists.{countOf}
 use Rattle.channel.specs.declared.Unit.{Unit}
 use Rattle.state.specs.declared.State.{State}
 use Rattle.state.specs.Places.{fileAt, channelAt}
-use Rattle.requests.specs.Ask.{isPriority}
+use Rattle.asking.specs.Ask.{isPriority}
 use Rattle.histories.specs.Calls.{Call, fresh, opening, close, ask, report, get, put, seal, skip, freeze, thaw, Added, nothing, working, reported, got, Answer, answerOf}
 
 -- a call, with the area as the caller lends it then: the caller may write it between calls

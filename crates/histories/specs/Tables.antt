@@ -14,10 +14,12 @@ use Rattle.state.specs.Places.{fileAt, channelAt}
 use Rattle.judging.specs.Misused.{misused}
 use Rattle.starting.specs.Fresh.{freshRows}
 use Rattle.opening.specs.Open.{wishOf, freeOf, openOff, openRows}
-use Rattle.opening.specs.Close.{closeOff, closeRows}
+use Rattle.closing.specs.Close.{closeOff, closeRows}
 use Rattle.starting.specs.Freeze.{stateRows}
-use Rattle.requests.specs.Ask.{askWrong, askRows}
-use Rattle.requests.specs.Report.{fileOf, reportWrong, reportRows}
+use Rattle.asking.specs.Ask.{askRows}
+use Rattle.requests.specs.Calls.{askWrong}
+use Rattle.reporting.specs.Report.{reportRows}
+use Rattle.requests.specs.Calls.{fileOf, reportWrong}
 use Rattle.input.specs.Get as gets
 use Rattle.input.specs.Skip.{skipMisused, skipRows}
 use Rattle.output.specs.Put.{putRows}

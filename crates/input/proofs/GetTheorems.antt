@@ -16,7 +16,7 @@ use Rattle.area.specs.Refusals.{Rows, lowest}
 use Rattle.area.proofs.Walks.{or-left, or-right, true-not-false}
 use Rattle.area.proofs.Exactly.{Exactly, NoneApplies, here, later, exactly}
 use Rattle.files.specs.declared.File.{File}
-use Rattle.files.specs.Opening.{closedFile}
+use Rattle.sizes.specs.Opening.{closedFile}
 use Rattle.gets.specs.declared.Got.{Got}
 use Rattle.gets.specs.Gets.{getFrom, gotStart, gotWords}
 use Rattle.gets.specs.Histories.{shown, get}

@@ -15,8 +15,8 @@ use Rattle.files.specs.declared.Side.the-variants.{Low, High, Neither}
 use Rattle.files.specs.declared.File.{File}
 use Rattle.slots.specs.Slots.{isTaken}
 use Rattle.files.specs.Sides.{slotAt, oldest, withSlot, emptiedAt, withoutOldest}
-use Rattle.moves.specs.Input.{hasFull}
-use Rattle.moves.proofs.Ages.{Aged, noBlock, old, aged}
+use Rattle.reads.specs.Input.{hasFull}
+use Rattle.ages.proofs.Ages.{Aged, noBlock, old, aged}
 use Rattle.gets.specs.Gets.{isUsedUp, passed, lookedAt, slotAfter, afterFound, getFrom}
 use Rattle.filing.specs.Soundness.{oneIf, takenCount}
 use Rattle.judging.specs.Requests.{isRead, isWrite, fitsOutput}

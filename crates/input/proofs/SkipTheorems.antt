@@ -12,11 +12,11 @@ use Rattle.area.specs.Refusals.{Rows, lowest}
 use Rattle.area.proofs.Walks.{or-right, true-not-false}
 use Rattle.area.proofs.Exactly.{Exactly, NoneApplies, here, later, exactly}
 use Rattle.files.specs.declared.File.{File}
-use Rattle.files.specs.Opening.{closedFile}
+use Rattle.sizes.specs.Opening.{closedFile}
 use Rattle.files.specs.Sides.{withoutOldest}
-use Rattle.moves.specs.Input.{hasFull}
-use Rattle.moves.specs.Blocks.{line}
-use Rattle.moves.proofs.Ages.{oldest-leaves}
+use Rattle.reads.specs.Input.{hasFull}
+use Rattle.ages.specs.Blocks.{line}
+use Rattle.ages.proofs.Ages.{oldest-leaves}
 use Rattle.gets.specs.Histories.{skip}
 use Rattle.filing.proofs.Changes.{dropped-sound}
 use Rattle.filing.proofs.Events.{event-alike}

@@ -12,7 +12,7 @@ use Rattle.area.proofs.Walks.{or-neither}
 use Rattle.area.specs.Refusals.{Rows, lowest}
 use Rattle.files.specs.declared.File.{File}
 use Rattle.files.specs.Sides.{withoutOldest}
-use Rattle.moves.specs.Input.{hasFull}
+use Rattle.reads.specs.Input.{hasFull}
 use Rattle.gets.specs.declared.Got.{Got}
 use Rattle.gets.specs.declared.Finding.{Finding}
 use Rattle.gets.specs.Gets.{getFrom}

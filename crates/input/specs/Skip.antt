@@ -6,7 +6,7 @@ use lib.Dec.{ltb, eqb}
 use Rattle.area.specs.Refusals.{Rows, lowest}
 use Rattle.files.specs.declared.File.{File}
 use Rattle.files.specs.Sides.{withoutOldest}
-use Rattle.moves.specs.Input.{hasFull}
+use Rattle.reads.specs.Input.{hasFull}
 use Rattle.state.specs.declared.State.{State}
 use Rattle.state.specs.Places.{fileAt, withFile}
 use Rattle.judging.specs.Soundness.{sound}

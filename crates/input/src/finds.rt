@@ -3,11 +3,11 @@ use crate::GetChange;
 use crate::Getting;
 use files::File;
 use gets::Got;
-use gets::got_start;
 use judging::is_misused;
+use refusing::lowest_of;
+use showing::got_start;
 use state::State;
 use state::file_at;
-use state::lowest_of;
 use state::with_file;
 ghost use mathlib.Core.Path.{_≡_};
 ghost use lib.ListN.{length};
@@ -19,7 +19,7 @@ pub fn got_words<'a>(area: &'a [u64], g: Got) -> &'a [u64]
     ensures { λ r. ⌜ now r ≡ shown (now (area .entry)) g ⌝ }
 {
     let at = got_start(g);
-    let n = gets::got_words(g);
+    let n = showing::got_words(g);
     area::part(area, at, n)
 }
 
@@ -99,9 +99,9 @@ pub fn get(s: State, area: &[u64], file: u8) -> Getting
 pub fn get_words<'a>(s: State, area: &'a [u64], file: u8) -> &'a [u64]
     ensures { λ r. ⌜ now r ≡ getWords s (now (area .entry)) file ⌝ }
 {
-    let c1 = is_misused(s, area.len(), file);
+    let wrong = is_misused(s, area.len(), file);
     let f = file_at(s, file as usize);
-    let x = get_on(c1, f, s.w, area);
+    let x = get_on(wrong, f, s.w, area);
     let g = x.got;
     got_words(area, g)
 }

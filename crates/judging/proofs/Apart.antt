@@ -6,7 +6,7 @@ use lib.Dec.{eqb}
 use borrow.Author.Tests.{eqb-true, eq-eqb, not-true}
 use Rattle.area.proofs.Walks.{true-not-false, and-left, and-right, and-both, or-either, or-first, or-second}
 use Rattle.files.specs.declared.File.{File}
-use Rattle.files.specs.Opening.{closedFile}
+use Rattle.sizes.specs.Opening.{closedFile}
 use Rattle.pool.specs.Free.{heldBy, serves}
 use Rattle.filing.specs.Soundness.{shareBuffer, shareUnit, apart}
 use Rattle.filing.proofs.Shares.{held-shared}

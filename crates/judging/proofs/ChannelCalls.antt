@@ -18,15 +18,16 @@ use Rattle.channel.specs.declared.Channel.{Channel}
 use Rattle.channel.specs.declared.Work.{Work}
 use Rattle.channel.specs.declared.Work.the-variants.{At, Nothing}
 use Rattle.schedule.specs.declared.Asked.{Asked}
-use Rattle.channel.specs.declared.Ending.{Ending}
-use Rattle.channel.specs.declared.Verdict.{Verdict}
-use Rattle.channel.specs.declared.Verdict.the-variants.{Refused, Repeats, Ends}
-use Rattle.channel.specs.Rules.{verdictOf}
+use Rattle.outcomes.specs.declared.Ending.{Ending}
+use Rattle.outcomes.specs.declared.Verdict.{Verdict}
+use Rattle.outcomes.specs.declared.Verdict.the-variants.{Refused, Repeats, Ends}
+use Rattle.outcomes.specs.Rules.{verdictOf}
 use Rattle.channel.specs.Units.{size, idleUnit, unitAt, declaredAt, turnAt, withTurn, withMark, isIdle, acceptsAt}
-use Rattle.schedule.specs.Scans.{nextUnit, workingIn, isFound}
+use Rattle.scanning.specs.Scans.{nextUnit, workingIn}
+use Rattle.area.specs.Lists.{isFound}
 use Rattle.schedule.specs.Turns.{startOf, thawOf, newRequest, askOf, judgeTurn, judgeOf, goesOn, incompleteTurn, repeatOf, isOrdinary, markAfter, endOf, bookOf, reportOf}
 use Rattle.service.specs.History.{Station, station, Event, ask, report, freeze, thaw, Step, step}
-use Rattle.schedule.proofs.Laws.Scans.{next-below}
+use Rattle.scanning.proofs.Laws.Scans.{next-below}
 use Rattle.schedule.proofs.Laws.Turns.{ask-taken}
 use Rattle.service.proofs.Theorems.Turning.{held, size-with, at-set, busy-inside, declared-inside}
 use Rattle.service.proofs.Theorems.Starts.{Begins, Started, isFrozen, isBusy, isQuiet, begins, started, start-alive}

@@ -10,7 +10,7 @@ use lib.Dec.{T, leb, ltb, eqb}
 use lib.ListN.{length, getD, List·getD-map}
 use borrow.Author.Tests.{leb-true, le-leb, ltb-true, lt-ltb, eqb-true, eq-eqb, not-true}
 use Rattle.area.specs.declared.Found.{Found}
-use Rattle.area.specs.Lists.{anyOf, allOf, countOf}
+use Rattle.area.specs.Lists.{anyOf, allOf, countOf, isFound}
 use Rattle.area.proofs.Walks.{by-test, true-not-false, and-left, and-right, and-both, or-either, or-first, or-second, at-all, none-at}
 use Rattle.area.proofs.Marks.{unless, unless-so}
 use Rattle.area.proofs.Bools.{both, any-at, at-any, Somewhere}
@@ -19,9 +19,9 @@ use Rattle.channel.specs.declared.Turn.{Turn}
 use Rattle.channel.specs.declared.Turn.the-variants.{Idle, Waiting, Displaced, Working}
 use Rattle.channel.specs.declared.Unit.{Unit}
 use Rattle.channel.specs.declared.Channel.{Channel}
-use Rattle.channel.specs.Rules.{rowOf}
+use Rattle.outcomes.specs.Rules.{rowOf}
 use Rattle.channel.specs.Units.{size, idleUnit, unitAt, declaredAt, turnAt, freshWith, bitsFrom, freshOf, isIdle}
-use Rattle.schedule.specs.Scans.{beginOf, workingIn, isFound, Scanned, finds, misses}
+use Rattle.scanning.specs.Scans.{beginOf, workingIn, Scanned, finds, misses}
 use Rattle.channel.specs.Units.{isWorking, unitWorks}
 use Rattle.service.proofs.Theorems.Turning.{held, working-scan}
 use Rattle.service.proofs.Theorems.Starts.{works-found}

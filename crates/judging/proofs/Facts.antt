@@ -24,8 +24,8 @@ use Rattle.channel.specs.declared.Work.{Work}
 use Rattle.channel.specs.declared.Work.the-variants.{At, Nothing}
 use Rattle.channel.specs.Units.{size, idleUnit, unitAt, declaredAt, turnAt}
 use Rattle.files.specs.declared.File.{File}
-use Rattle.files.specs.Opening.{closedFile}
-use Rattle.moves.specs.Input.{hasFull}
+use Rattle.sizes.specs.Opening.{closedFile}
+use Rattle.reads.specs.Input.{hasFull}
 use Rattle.pool.specs.Free.{poolSound, serves}
 use Rattle.filing.specs.Soundness.{inRange, hasBuffers, oneIf, takenCount, takenRight, fullRight, partRight, placeRight, restIsZero, openSound, isBlank, fileSound, shareBuffer, shareUnit, apart, filesSound}
 use Rattle.filing.proofs.Facts.{Sound, facts}

@@ -18,7 +18,7 @@ use Rattle.channel.specs.declared.Work.{Work}
 use Rattle.channel.specs.declared.Work.the-variants.{At, Nothing}
 use Rattle.channel.specs.Units.{declaredAt, turnAt}
 use Rattle.files.specs.declared.File.{File}
-use Rattle.files.specs.Opening.{closedFile}
+use Rattle.sizes.specs.Opening.{closedFile}
 use Rattle.pool.specs.Free.{heldBy, isHeld, isFree, serves}
 use Rattle.filing.specs.Soundness.{takenCount, isBlank, shareBuffer, shareUnit, apart}
 use Rattle.filing.proofs.Facts.{Sound}

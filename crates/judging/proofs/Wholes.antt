@@ -15,7 +15,7 @@ use Rattle.channel.specs.declared.Work.{Work}
 use Rattle.channel.specs.Units.{size, declaredAt, turnAt, freshWith, bitsFrom, freshOf}
 use Rattle.schedule.specs.Turns.{thawOf}
 use Rattle.files.specs.declared.File.{File}
-use Rattle.files.specs.Opening.{closedFile}
+use Rattle.sizes.specs.Opening.{closedFile}
 use Rattle.pool.specs.Free.{fileCount, poolSound}
 use Rattle.filing.specs.Soundness.{isBlank}
 use Rattle.state.specs.declared.State.{State}

@@ -14,7 +14,7 @@ use Rattle.channel.specs.declared.Channel.{Channel}
 use Rattle.channel.specs.declared.Work.{Work}
 use Rattle.channel.specs.Units.{size, declaredAt}
 use Rattle.files.specs.declared.File.{File}
-use Rattle.moves.specs.Input.{hasFull}
+use Rattle.reads.specs.Input.{hasFull}
 use Rattle.pool.specs.Free.{poolSound, serves}
 use Rattle.filing.specs.Soundness.{oneIf, takenCount, filesSound}
 use Rattle.state.specs.declared.State.{State}

@@ -12,11 +12,11 @@ use Rattle.channel.specs.declared.Turn.the-variants.{Idle, Waiting, Displaced, 
 use Rattle.channel.specs.declared.Unit.{Unit}
 use Rattle.channel.specs.declared.Channel.{Channel}
 use Rattle.channel.specs.declared.Work.{Work}
-use Rattle.channel.specs.Rules.{rowOf}
+use Rattle.outcomes.specs.Rules.{rowOf}
 use Rattle.channel.specs.Units.{unitWorks}
 use Rattle.channel.specs.Units.{size, declaredAt, turnAt}
 use Rattle.files.specs.declared.File.{File}
-use Rattle.moves.specs.Input.{hasFull}
+use Rattle.reads.specs.Input.{hasFull}
 use Rattle.pool.specs.Free.{poolSound, serves}
 use Rattle.filing.specs.Soundness.{inRange, hasBuffers, oneIf, takenCount, fullRight, partRight, placeRight, restIsZero, isBlank, shareBuffer, shareUnit}
 use Rattle.state.specs.declared.State.{State}

@@ -6,7 +6,7 @@ use channel::Unit;
 use channel::Work;
 ghost use mathlib.Core.Path.{_≡_};
 ghost use mathlib.Core.Bool.{_&&_};
-ghost use Rattle.channel.specs.Rules.{rowOf};
+ghost use Rattle.outcomes.specs.Rules.{rowOf};
 ghost use Rattle.channel.specs.Units.{isWorking};
 ghost use Rattle.judging.specs.Requests.{requested as requestedOf, isNone, isReadOp, isWriteOp, opFits, isRead, isWrite, fitsOutput, isWaiting};
 ghost use Rattle.judging.specs.Soundness.{inLimit};

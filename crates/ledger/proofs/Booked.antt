@@ -10,7 +10,7 @@ use lib.Seq.{take-take}
 use Rattle.area.specs.Parts.{partOf, pastedIn}
 use Rattle.area.proofs.Walks.{true-not-false}
 use Rattle.area.proofs.Pastes.{length-part}
-use Rattle.word.specs.Blocks.{judged}
+use Rattle.sealing.specs.Blocks.{judged}
 use Rattle.slots.specs.declared.Slot.{Slot}
 use Rattle.slots.specs.declared.Slot.the-variants.{Empty, Taken, Part, Full}
 use Rattle.files.specs.declared.Side.{Side}
@@ -18,16 +18,17 @@ use Rattle.files.specs.declared.Side.the-variants.{Low, High, Neither}
 use Rattle.files.specs.declared.File.{File}
 use Rattle.slots.specs.Slots.{isTaken, isPart, isFull, partWords, fullWords}
 use Rattle.files.specs.Sides.{bufferAt, slotAt, startAt, isSide, lower, takenSide, partSide, oldest, withSlot, turnedBy, nextBlock, filledAt, emptiedAt, withoutOldest}
-use Rattle.files.specs.Opening.{extra}
-use Rattle.moves.specs.Input.{blockFits, delivered, gaveBack, withMark, metMark}
-use Rattle.moves.specs.Output.{partStart, partLength, sendStart, sendWords}
-use Rattle.moves.specs.Blocks.{line}
-use Rattle.moves.proofs.Ages.{block, Aged, noBlock, old, aged, delivered-line, back-line}
+use Rattle.sizes.specs.Opening.{extra}
+use Rattle.reads.specs.Input.{blockFits, delivered, gaveBack, withMark, metMark}
+use Rattle.puts.specs.Output.{partStart, partLength}
+use Rattle.sends.specs.Sends.{sendStart, sendWords}
+use Rattle.ages.specs.Blocks.{line}
+use Rattle.ages.proofs.Ages.{block, Aged, noBlock, old, aged, delivered-line, back-line}
 use Rattle.files.proofs.Which.{taken-there}
 use Rattle.filing.proofs.Facts.{Sound}
 use Rattle.filing.proofs.Changes.{numbers, own-taken, taken-input}
 use Rattle.filing.proofs.Inside.{send-inside}
-use Rattle.requests.proofs.Found.{fits-bounds}
+use Rattle.reporting.proofs.Found.{fits-bounds}
 use Rattle.output.proofs.Written.{only-wider, pasted-only, pasted-part}
 use Rattle.ledger.specs.Ledgers.{Item, word, wrongs, Ledger, asBlock, contentsOf, owedFor}
 use Rattle.ledger.specs.Blocks.{partIn}

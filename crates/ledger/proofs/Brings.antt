@@ -12,15 +12,15 @@ use lib.Seq.{drop-append-seam}
 use Rattle.area.specs.Parts.{partOf}
 use Rattle.area.proofs.Walks.{true-not-false}
 use Rattle.area.proofs.Pastes.{length-part}
-use Rattle.word.specs.Blocks.{judged}
+use Rattle.sealing.specs.Blocks.{judged}
 use Rattle.slots.specs.declared.Slot.the-variants.{Empty, Full}
 use Rattle.files.specs.declared.Side.{Side}
 use Rattle.files.specs.declared.Side.the-variants.{Neither}
 use Rattle.files.specs.declared.File.{File}
 use Rattle.slots.specs.Slots.{isEmpty}
 use Rattle.files.specs.Sides.{bufferAt, slotAt, isSide, oldest, withSlot, nextBlock, emptiedAt, withoutOldest}
-use Rattle.moves.specs.Blocks.{Block, line}
-use Rattle.moves.proofs.Ages.{block, Aged, noBlock, old, aged}
+use Rattle.ages.specs.Blocks.{Block, line}
+use Rattle.ages.proofs.Ages.{block, Aged, noBlock, old, aged}
 use Rattle.gets.specs.Gets.{isUsedUp, passed}
 use Rattle.filing.proofs.Facts.{Sound}
 use Rattle.filing.proofs.Kept.{owns-used}

@@ -9,14 +9,15 @@ use Rattle.files.specs.declared.Side.the-variants.{Low, High}
 use Rattle.files.specs.declared.File.{File}
 use Rattle.slots.specs.Slots.{isPart, isFull, partWords}
 use Rattle.files.specs.Sides.{slotAt, startAt, lower, partSide}
-use Rattle.files.specs.Opening.{extra}
-use Rattle.moves.specs.Output.{partStart, partLength, hasUnsent}
-use Rattle.moves.specs.Blocks.{Block, inOrder, line}
+use Rattle.sizes.specs.Opening.{extra}
+use Rattle.puts.specs.Output.{partStart, partLength}
+use Rattle.sends.specs.Sends.{hasUnsent}
+use Rattle.ages.specs.Blocks.{Block, inOrder, line}
 use Rattle.area.specs.Parts.{partOf}
 use Rattle.state.specs.declared.State.{State}
 use Rattle.state.specs.Places.{fileAt}
-use Rattle.opening.specs.Close.{closeRows, closeBy}
-use Rattle.opening.proofs.CloseTheorems.{close-exactly}
+use Rattle.closing.specs.Close.{closeRows, closeBy}
+use Rattle.closing.proofs.CloseTheorems.{close-exactly}
 use Rattle.ledger.specs.Ledgers.{dataOf}
 use Rattle.ledger.specs.Blocks.{blockIn, partIn, joined}
 use Rattle.ledger.proofs.Told.{Wrote}

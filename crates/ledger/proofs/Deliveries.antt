@@ -17,18 +17,18 @@ use Rattle.channel.specs.declared.Turn.{Turn}
 use Rattle.channel.specs.declared.Turn.the-variants.{Idle, Waiting, Displaced, Working}
 use Rattle.channel.specs.declared.Channel.{Channel}
 use Rattle.channel.specs.declared.Work.the-variants as work
-use Rattle.channel.specs.declared.Verdict.{Verdict}
-use Rattle.channel.specs.declared.Verdict.the-variants.{Ends}
-use Rattle.channel.specs.declared.Ending.the-variants.{Good, Opposite}
-use Rattle.channel.specs.Rules.{rowOf, isAllowed, endingOf, verdictOf}
+use Rattle.outcomes.specs.declared.Verdict.{Verdict}
+use Rattle.outcomes.specs.declared.Verdict.the-variants.{Ends}
+use Rattle.outcomes.specs.declared.Ending.the-variants.{Good, Opposite}
+use Rattle.outcomes.specs.Rules.{rowOf, isAllowed, endingOf, verdictOf}
 use Rattle.channel.specs.Units.{turnAt, workOf, operationAt}
 use Rattle.schedule.specs.Turns.{judgeTurn, judgeOf}
 use Rattle.files.specs.declared.File.{File}
-use Rattle.moves.specs.Input.{hasFull}
+use Rattle.reads.specs.Input.{hasFull}
 use Rattle.judging.specs.Requests.{requested, isWrite, isWriteOp}
 use Rattle.judging.specs.Judged.{fileReady}
-use Rattle.requests.specs.Effects.{effectOf, isDelivery}
-use Rattle.requests.specs.Report.{isIdleFor, takesNoWords, effectAt}
+use Rattle.reporting.specs.Effects.{effectOf, isDelivery}
+use Rattle.reporting.specs.Report.{isIdleFor, takesNoWords, effectAt}
 use Rattle.requests.proofs.Ready.{ready-facts}
 
 -- ---- words come with a block that is delivered, and with nothing else

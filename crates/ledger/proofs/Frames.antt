@@ -10,7 +10,7 @@ use Rattle.area.proofs.Walks.{true-not-false}
 use Rattle.files.specs.declared.Side.{Side}
 use Rattle.files.specs.declared.File.{File}
 use Rattle.files.specs.Sides.{bufferAt}
-use Rattle.moves.specs.Blocks.{line}
+use Rattle.ages.specs.Blocks.{line}
 use Rattle.pool.specs.Free.{heldBy}
 use Rattle.filing.proofs.Facts.{Sound}
 use Rattle.filing.proofs.Kept.{owns}

@@ -17,7 +17,7 @@ use Rattle.files.specs.declared.Side.{Side}
 use Rattle.files.specs.declared.Side.the-variants.{Neither}
 use Rattle.files.specs.declared.File.{File}
 use Rattle.files.specs.Sides.{bufferAt, slotAt, startAt, isSide, oldest, withSlot}
-use Rattle.moves.proofs.Ages.{block, Aged, noBlock, old, aged}
+use Rattle.ages.proofs.Ages.{block, Aged, noBlock, old, aged}
 use Rattle.gets.specs.declared.Got.{Got}
 use Rattle.gets.specs.declared.Got.the-variants.{Record, Leftover, Error}
 use Rattle.gets.specs.Gets.{passed, lookedAt, wordsGiven, slotAfter, foundIn, foundNone, found, afterFound, getFrom}

@@ -19,9 +19,9 @@ use Rattle.files.specs.declared.Side.the-variants.{Low, High, Neither}
 use Rattle.files.specs.declared.File.{File}
 use Rattle.slots.specs.Slots.{isEmpty, isFull}
 use Rattle.files.specs.Sides.{bufferAt, slotAt, isSide}
-use Rattle.files.specs.Opening.{extra}
-use Rattle.moves.specs.Blocks.{Block, fullIn, fullAt, inOrder, line}
-use Rattle.moves.proofs.Ages.{block}
+use Rattle.sizes.specs.Opening.{extra}
+use Rattle.ages.specs.Blocks.{Block, fullIn, fullAt, inOrder, line}
+use Rattle.ages.proofs.Ages.{block}
 use Rattle.filing.specs.Soundness.{isNoBuffer}
 use Rattle.filing.proofs.Facts.{Sound}
 use Rattle.filing.proofs.Kept.{owns, owns-used}

@@ -4,7 +4,7 @@ use mathlib.Core.Bool.{Bool}
 use mathlib.Core.List.{List, [], _∷_, _++_, map, append-assoc, append-nil}
 use Prim.Native.Nat.{ℕ}
 use Rattle.files.specs.Sides.{nextBlock}
-use Rattle.word.specs.Blocks.{judged}
+use Rattle.sealing.specs.Blocks.{judged}
 use Rattle.ledger.specs.Ledgers.{contentsOf}
 use Rattle.ledger.specs.Blocks.{checked, allChecked, joined, contents, numberAfter}
 use Rattle.ledger.proofs.Told.{All, none, more}

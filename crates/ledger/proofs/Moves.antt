@@ -11,7 +11,7 @@ use Rattle.area.proofs.Marks.{cond-true, cond-false}
 use Rattle.slots.specs.declared.Slot.the-variants.{Empty, Part, Full}
 use Rattle.files.specs.declared.File.{File}
 use Rattle.files.specs.Sides.{bufferAt, slotAt, isSide, partSide, oldest, withSlot, turnedBy, nextBlock, filledAt, emptiedAt, withoutOldest}
-use Rattle.moves.specs.Output.{putSide, wordsAfter, partStart, partLength, sealed, afterPut}
+use Rattle.puts.specs.Output.{putSide, wordsAfter, partStart, partLength, sealed, afterPut}
 use Rattle.gets.specs.Gets.{isUsedUp, passed, lookedAt, slotAfter, afterFound, getFrom}
 use Rattle.filing.proofs.Facts.{Sound}
 use Rattle.filing.proofs.Inside.{held-own}

@@ -12,17 +12,17 @@ use Rattle.area.specs.Parts.{partOf, pastedIn}
 use Rattle.area.proofs.Walks.{and-left, or-left, or-right}
 use Rattle.area.proofs.Marks.{cond-true, cond-false}
 use Rattle.area.proofs.Exactly.{here}
-use Rattle.word.specs.Blocks.{judged}
+use Rattle.sealing.specs.Blocks.{judged}
 use Rattle.channel.specs.declared.Channel.{Channel}
-use Rattle.channel.specs.Rules.{resultNumber}
-use Rattle.schedule.specs.Scans.{workingIn, unitNumber}
+use Rattle.outcomes.specs.Rules.{resultNumber}
+use Rattle.scanning.specs.Scans.{workingIn, unitNumber}
 use Rattle.channel.specs.Units.{turnAt, operationAt}
 use Rattle.schedule.specs.Turns.{judgeOf, bookOf}
 use Rattle.files.specs.declared.Side.{Side}
 use Rattle.files.specs.declared.File.{File}
 use Rattle.files.specs.Sides.{bufferAt, startAt, takenSide, withoutOldest}
-use Rattle.moves.specs.Input.{hasFull, gaveBack, metMark}
-use Rattle.moves.specs.Output.{sendStart, sendWords, afterWrite}
+use Rattle.reads.specs.Input.{hasFull, gaveBack, metMark}
+use Rattle.sends.specs.Sends.{sendStart, sendWords, afterWrite}
 use Rattle.pool.specs.Free.{serves}
 use Rattle.filing.proofs.Facts.{Sound}
 use Rattle.filing.proofs.Kept.{owns}
@@ -33,11 +33,12 @@ use Rattle.judging.specs.Requests.{isWrite}
 use Rattle.judging.specs.Soundness.{sound}
 use Rattle.judging.proofs.Facts.{sound-facts}
 use Rattle.judging.proofs.Kept.{place-of}
-use Rattle.requests.specs.declared.Effect.{Effect}
-use Rattle.requests.specs.declared.Effect.the-variants.{Delivers, MeetsMark, GivesBack, Sends, Keeps}
-use Rattle.requests.specs.declared.ReportChange.{ReportChange}
-use Rattle.requests.specs.Effects.{isDelivery}
-use Rattle.requests.specs.Report.{effectAt, shownStart, shownCount, reportRefusal, deliveryError, reportedFile, reportedArea, reportOn, reportOnArea, fileOf, reportWrong, reportChange, reportBy, reportByArea}
+use Rattle.reporting.specs.declared.Effect.{Effect}
+use Rattle.reporting.specs.declared.Effect.the-variants.{Delivers, MeetsMark, GivesBack, Sends, Keeps}
+use Rattle.reporting.specs.declared.ReportChange.{ReportChange}
+use Rattle.reporting.specs.Effects.{isDelivery}
+use Rattle.reporting.specs.Report.{effectAt, shownStart, shownCount, reportRefusal, deliveryError, reportedFile, reportedArea, reportOn, reportOnArea}
+use Rattle.requests.specs.Calls.{fileOf, reportWrong, reportChange, reportBy, reportByArea}
 use Rattle.requests.proofs.Changed.{here-file}
 use Rattle.requests.proofs.ReportTheorems.{ReportReady, report-ready, report-exactly, report-frame, isOpen, requested-ready, report-books-own}
 use Rattle.requests.proofs.ReportWords.{isSending, sends-exactly, report-delivers}

@@ -15,8 +15,8 @@ use Rattle.files.specs.declared.Side.the-variants.{Low, High, Neither}
 use Rattle.files.specs.declared.File.{File}
 use Rattle.slots.specs.Slots.{isEmpty, isPart, isFull, partWords}
 use Rattle.files.specs.Sides.{bufferAt, slotAt, startAt, isSide, lower, emptySide, partSide, withSlot}
-use Rattle.moves.specs.Output.{putSide, partStart, partLength, isComplete}
-use Rattle.moves.specs.Blocks.{fullIn, fullAt}
+use Rattle.puts.specs.Output.{putSide, partStart, partLength, isComplete}
+use Rattle.ages.specs.Blocks.{fullIn, fullAt}
 use Rattle.files.proofs.Which.{none-side, empty-there, part-there}
 use Rattle.filing.proofs.Facts.{Sound}
 use Rattle.filing.proofs.Kept.{other, owns, slot-fits}

@@ -10,14 +10,14 @@ use Rattle.slots.specs.declared.Slot.the-variants.{Empty, Taken, Part, Full}
 use Rattle.files.specs.declared.Side.{Side}
 use Rattle.files.specs.declared.Side.the-variants.{Low, High, Neither}
 use Rattle.files.specs.declared.File.{File}
-use Rattle.files.specs.declared.Wish.{Wish}
+use Rattle.sizes.specs.declared.Wish.{Wish}
 use Rattle.slots.specs.Slots.{isEmpty, isPart}
 use Rattle.files.specs.Sides.{slotAt, isSide, emptySide, partSide, withSlot}
-use Rattle.files.specs.Opening.{openedFile, closedFile}
-use Rattle.moves.specs.Input.{tookBuffer}
-use Rattle.moves.specs.Output.{partStart, partLength}
-use Rattle.moves.specs.Blocks.{line}
-use Rattle.moves.proofs.Ages.{took-line}
+use Rattle.sizes.specs.Opening.{openedFile, closedFile}
+use Rattle.reads.specs.Input.{tookBuffer}
+use Rattle.puts.specs.Output.{partStart, partLength}
+use Rattle.ages.specs.Blocks.{line}
+use Rattle.ages.proofs.Ages.{took-line}
 use Rattle.files.proofs.Which.{empty-there}
 use Rattle.pool.specs.Free.{fileCount}
 use Rattle.state.specs.declared.State.{State}
@@ -26,15 +26,16 @@ use Rattle.judging.proofs.Kept.{place-of}
 use Rattle.starting.specs.declared.Masks.{Masks}
 use Rattle.starting.specs.Fresh.{freshState, freshBy}
 use Rattle.opening.specs.Open.{isSet, wishOf, openBy}
-use Rattle.opening.specs.Close.{closeBy}
+use Rattle.closing.specs.Close.{closeBy}
 use Rattle.starting.specs.Freeze.{freezeBy, thawBy}
 use Rattle.starting.proofs.FreshTheorems.{fresh-accepted}
 use Rattle.opening.proofs.OpenTheorems.{lowOf, highOf, open-file, open-frame}
-use Rattle.opening.proofs.CloseTheorems.{close-file, close-frame}
+use Rattle.closing.proofs.CloseTheorems.{close-file, close-frame}
 use Rattle.starting.proofs.FreezeTheorems.{OnlyTurns, freeze-frame, thaw-frame}
-use Rattle.requests.specs.declared.AskChange.{AskChange}
-use Rattle.requests.specs.Ask.{isReading, askRefusal, askedFile, askWrong, askChange, askBy}
-use Rattle.requests.proofs.Found.{ask-taken}
+use Rattle.asking.specs.declared.AskChange.{AskChange}
+use Rattle.asking.specs.Ask.{isReading, askRefusal, askedFile}
+use Rattle.requests.specs.Calls.{askWrong, askChange, askBy}
+use Rattle.asking.proofs.AskFound.{ask-taken}
 use Rattle.requests.proofs.Changed.{here-file}
 use Rattle.requests.proofs.AskTheorems.{ask-ready, ask-exactly, ask-frame}
 use Rattle.histories.specs.Calls.{opening, close, ask, freeze, thaw, answerOf}

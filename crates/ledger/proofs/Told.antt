@@ -5,7 +5,7 @@ use mathlib.Core.Bool.{Bool, true, false}
 use mathlib.Core.List.{List, [], _∷_, _++_}
 use Prim.Native.Nat.{ℕ}
 use Rattle.files.specs.declared.File.{File}
-use Rattle.moves.specs.Blocks.{Block, line}
+use Rattle.ages.specs.Blocks.{Block, line}
 use Rattle.ledger.specs.Ledgers.{Item, Ledger}
 use Rattle.ledger.specs.Blocks.{blocksIn, unreadOf, partIn, allChecked, joined, contents, numberAfter}
 

@@ -14,10 +14,11 @@ use Rattle.files.specs.declared.Side.the-variants.{Neither}
 use Rattle.files.specs.declared.File.{File}
 use Rattle.slots.specs.Slots.{isPart, partWords, fullWords}
 use Rattle.files.specs.Sides.{bufferAt, slotAt, startAt, isSide, partSide, oldest, withSlot, turnedBy, nextBlock, filledAt, emptiedAt, withoutOldest}
-use Rattle.files.specs.Opening.{extra}
-use Rattle.moves.specs.Output.{putSide, wordsAfter, added, partStart, partLength, isComplete, sealed, afterPut, sendStart, sendWords}
-use Rattle.moves.specs.Blocks.{Block, line}
-use Rattle.moves.proofs.Ages.{block, young, Aged, noBlock, old, aged, added-line}
+use Rattle.sizes.specs.Opening.{extra}
+use Rattle.puts.specs.Output.{putSide, wordsAfter, added, partStart, partLength, isComplete, sealed, afterPut}
+use Rattle.sends.specs.Sends.{sendStart, sendWords}
+use Rattle.ages.specs.Blocks.{Block, line}
+use Rattle.ages.proofs.Ages.{block, young, Aged, noBlock, old, aged, added-line}
 use Rattle.filing.proofs.Facts.{Sound}
 use Rattle.filing.proofs.Kept.{owns}
 use Rattle.filing.proofs.Puts.{PutAt, put-at, put-is}

@@ -5,12 +5,12 @@ use mathlib.Core.List.{List, [], _∷_, _++_, map}
 use Rattle.area.specs.Parts.{partOf}
 use Rattle.word.specs.Sums.{logicalSum}
 use Rattle.word.specs.CheckWords.{checkWord}
-use Rattle.word.specs.Blocks.{judged}
+use Rattle.sealing.specs.Blocks.{judged}
 use Rattle.files.specs.declared.File.{File}
 use Rattle.files.specs.Sides.{nextBlock}
-use Rattle.files.specs.Opening.{extra}
-use Rattle.moves.specs.Output.{partStart, partLength}
-use Rattle.moves.specs.Blocks.{Block, line}
+use Rattle.sizes.specs.Opening.{extra}
+use Rattle.puts.specs.Output.{partStart, partLength}
+use Rattle.ages.specs.Blocks.{Block, line}
 use Rattle.ledger.specs.Ledgers.{Item, word, wrongs, contentsOf}
 
 -- ---- in the area: "Buffer i is words i×W up to (i+1)×W."

@@ -8,7 +8,7 @@ use lib.Dec.{eqb}
 use lib.Seq.{getD-set-other}
 use Rattle.channel.specs.declared.Channel.{Channel}
 use Rattle.files.specs.declared.File.{File}
-use Rattle.files.specs.Opening.{closedFile}
+use Rattle.sizes.specs.Opening.{closedFile}
 use Rattle.state.specs.declared.State.{State}
 use Rattle.state.specs.Places.{fileAt, withFile}
 use Rattle.starting.specs.Answers.{called}

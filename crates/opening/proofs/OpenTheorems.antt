@@ -17,8 +17,8 @@ use Rattle.area.proofs.Marks.{cond-true}
 use Rattle.area.proofs.Exactly.{Exactly, NoneApplies, here, later, exactly}
 use Rattle.channel.specs.Units.{unitCount, declaredAt}
 use Rattle.files.specs.declared.File.{File}
-use Rattle.files.specs.declared.Wish.{Wish}
-use Rattle.files.specs.Opening.{sizesFit, buffersFor, openedFile, closedFile}
+use Rattle.sizes.specs.declared.Wish.{Wish}
+use Rattle.sizes.specs.Opening.{sizesFit, buffersFor, openedFile, closedFile}
 use Rattle.pool.specs.Free.{fileCount, heldBy, isHeld, isFree, freeCount, serves, isBound}
 use Rattle.filing.proofs.Changes.{opened-sound}
 use Rattle.filing.proofs.Replaced.{unbound}

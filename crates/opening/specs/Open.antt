@@ -9,8 +9,8 @@ use Rattle.area.specs.Refusals.{Rows, lowest}
 use Rattle.channel.specs.declared.Channel.{Channel}
 use Rattle.channel.specs.Units.{unitCount, declaredAt}
 use Rattle.files.specs.declared.File.{File}
-use Rattle.files.specs.declared.Wish.{Wish}
-use Rattle.files.specs.Opening.{sizesFit, buffersFor, openedFile}
+use Rattle.sizes.specs.declared.Wish.{Wish}
+use Rattle.sizes.specs.Opening.{sizesFit, buffersFor, openedFile}
 use Rattle.pool.specs.Free.{fileCount, lowestFree, freeCount, isBound}
 use Rattle.state.specs.declared.State.{State}
 use Rattle.state.specs.Places.{channelCount, fileAt, channelAt, withFile}

@@ -1,10 +1,7 @@
-// Open and close: each judges its rows of the refusal table and answers the state after it.
-// Each has an inner form too, which takes the one file, its channel and a few numbers and answers what changed. No call here writes a word.
-mod closing;
+// Open: it judges its rows of the refusal table and answers the state after it. Its inner form takes the one file, its channel and a few
+// numbers and answers what changed. It writes no word.
 mod opens;
 
-pub use closing::close;
-pub use closing::close_on;
 pub use opens::free_of;
 pub use opens::open;
 pub use opens::open_on;

@@ -19,8 +19,8 @@ use Rattle.files.specs.declared.Side.the-variants.{Low, High, Neither}
 use Rattle.files.specs.declared.File.{File}
 use Rattle.slots.specs.Slots.{isPart, partWords}
 use Rattle.files.specs.Sides.{bufferAt, slotAt, startAt, isSide, lower, emptySide, partSide, withSlot}
-use Rattle.files.specs.Opening.{extra}
-use Rattle.moves.specs.Output.{putSide, wordsAfter, added, partStart, partLength}
+use Rattle.sizes.specs.Opening.{extra}
+use Rattle.puts.specs.Output.{putSide, wordsAfter, added, partStart, partLength}
 use Rattle.files.proofs.Which.{none-side, empty-there}
 use Rattle.filing.proofs.Facts.{Sound}
 use Rattle.filing.proofs.Kept.{other}

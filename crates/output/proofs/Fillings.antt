@@ -15,8 +15,8 @@ use Rattle.word.proofs.Laws.CheckWord.{check-word-is}
 use Rattle.files.specs.declared.File.{File}
 use Rattle.slots.specs.Slots.{partWords}
 use Rattle.files.specs.Sides.{slotAt, startAt, isSide, partSide}
-use Rattle.files.specs.Opening.{extra}
-use Rattle.moves.specs.Output.{putSide, putStart, wordsAfter, added, isComplete, partStart, partLength}
+use Rattle.sizes.specs.Opening.{extra}
+use Rattle.puts.specs.Output.{putSide, putStart, wordsAfter, added, isComplete, partStart, partLength}
 use Rattle.filing.proofs.Facts.{Sound}
 use Rattle.output.specs.Only.{Only}
 use Rattle.output.specs.Blocks.{heldRight, sealedArea}

@@ -17,8 +17,8 @@ use Rattle.area.proofs.Exactly.{Exactly, NoneApplies, here, later, exactly}
 use Rattle.files.specs.declared.File.{File}
 use Rattle.slots.specs.Slots.{partWords}
 use Rattle.files.specs.Sides.{bufferAt, slotAt, startAt}
-use Rattle.files.specs.Opening.{closedFile, extra}
-use Rattle.moves.specs.Output.{putSide, hasRoom, putStart, wordsAfter, added, isComplete, afterPut}
+use Rattle.sizes.specs.Opening.{closedFile, extra}
+use Rattle.puts.specs.Output.{putSide, hasRoom, putStart, wordsAfter, added, isComplete, afterPut}
 use Rattle.gets.specs.Histories as histories
 use Rattle.filing.proofs.Facts.{Sound}
 use Rattle.filing.proofs.Puts.{put-sound}

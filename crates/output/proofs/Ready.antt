@@ -15,10 +15,10 @@ use Rattle.files.specs.declared.Side.the-variants.{Low, High, Neither}
 use Rattle.files.specs.declared.File.{File}
 use Rattle.slots.specs.Slots.{isFull}
 use Rattle.files.specs.Sides.{isSide, lower, oldest, partSide, withSlot, turnedBy, filledAt}
-use Rattle.moves.specs.Input.{hasFull}
-use Rattle.moves.specs.Output.{putSide, wordsAfter, added, partLength, sealed, afterPut}
-use Rattle.moves.specs.Blocks.{line}
-use Rattle.moves.proofs.Ages.{Aged, noBlock, old, aged, added-line}
+use Rattle.reads.specs.Input.{hasFull}
+use Rattle.puts.specs.Output.{putSide, wordsAfter, added, partLength, sealed, afterPut}
+use Rattle.ages.specs.Blocks.{line}
+use Rattle.ages.proofs.Ages.{Aged, noBlock, old, aged, added-line}
 use Rattle.filing.specs.Soundness.{oneIf, takenCount}
 use Rattle.filing.proofs.Facts.{Sound}
 use Rattle.filing.proofs.Puts.{PutAt, put-at, put-is}

@@ -15,8 +15,8 @@ use Rattle.area.proofs.Walks.{or-left, or-right, true-not-false, and-both}
 use Rattle.area.proofs.Exactly.{Exactly, NoneApplies, here, later, exactly}
 use Rattle.files.specs.declared.File.{File}
 use Rattle.files.specs.Sides.{bufferAt, partSide}
-use Rattle.files.specs.Opening.{closedFile, extra}
-use Rattle.moves.specs.Output.{hasPart, partStart, partLength, sealed}
+use Rattle.sizes.specs.Opening.{closedFile, extra}
+use Rattle.puts.specs.Output.{hasPart, partStart, partLength, sealed}
 use Rattle.gets.specs.Histories as histories
 use Rattle.filing.proofs.Facts.{Sound}
 use Rattle.filing.proofs.Changes.{sealed-sound}

@@ -11,7 +11,7 @@ use Rattle.area.specs.Parts.{partOf, paste}
 use Rattle.area.proofs.Pastes.{length-part, part-past, part-all, paste-nothing}
 use Rattle.word.specs.Sums.{logicalSum}
 use Rattle.word.specs.CheckWords.{checkWord}
-use Rattle.word.specs.Blocks.{sealRefusal, withCheckWord, sealed}
+use Rattle.sealing.specs.Blocks.{sealRefusal, withCheckWord, sealed}
 use Rattle.output.specs.Blocks.{sealedIn}
 
 module _ (n : ℕ) (sequence check : Bool) (number : ℕ) where

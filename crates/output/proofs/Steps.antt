@@ -11,7 +11,7 @@ use Rattle.area.specs.Parts.{isWord}
 use Rattle.area.proofs.Walks.{or-neither}
 use Rattle.area.specs.Refusals.{Rows, lowest}
 use Rattle.files.specs.declared.File.{File}
-use Rattle.moves.specs.Output.{hasRoom, hasPart, added, isComplete, sealed, afterPut}
+use Rattle.puts.specs.Output.{hasRoom, hasPart, added, isComplete, sealed, afterPut}
 use Rattle.state.specs.declared.State.{State}
 use Rattle.state.specs.Places.{fileAt, withFile}
 use Rattle.judging.specs.Misused.{misused}

@@ -5,9 +5,9 @@ use mathlib.Core.List.{List}
 use lib.Dec.{ltb}
 use Rattle.area.specs.Lists.{allOf}
 use Rattle.area.specs.Parts.{isWord, partOf, paste}
-use Rattle.word.specs.Blocks.{sealed}
+use Rattle.sealing.specs.Blocks.{sealed}
 use Rattle.files.specs.declared.File.{File}
-use Rattle.moves.specs.Output.{partStart, partLength}
+use Rattle.puts.specs.Output.{partStart, partLength}
 use Rattle.state.specs.declared.State.{State}
 use Rattle.state.specs.Places.{areaShort}
 use Rattle.judging.specs.Soundness.{sound}

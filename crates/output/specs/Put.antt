@@ -8,7 +8,7 @@ use Rattle.area.specs.Lists.{allOf}
 use Rattle.area.specs.Parts.{isWord, pastedIn}
 use Rattle.area.specs.Refusals.{Rows, lowest}
 use Rattle.files.specs.declared.File.{File}
-use Rattle.moves.specs.Output.{hasRoom, putStart, added, isComplete, afterPut}
+use Rattle.puts.specs.Output.{hasRoom, putStart, added, isComplete, afterPut}
 use Rattle.state.specs.declared.State.{State}
 use Rattle.state.specs.Places.{fileAt, withFile}
 use Rattle.judging.specs.Misused.{misused}

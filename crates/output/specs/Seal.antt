@@ -6,7 +6,7 @@ use lib.Dec.{eqb}
 use lib.ListN.{length}
 use Rattle.area.specs.Refusals.{Rows, lowest}
 use Rattle.files.specs.declared.File.{File}
-use Rattle.moves.specs.Output.{hasPart, sealed}
+use Rattle.puts.specs.Output.{hasPart, sealed}
 use Rattle.state.specs.declared.State.{State}
 use Rattle.state.specs.Places.{fileAt, withFile}
 use Rattle.judging.specs.Misused.{misused}

@@ -1,7 +1,7 @@
 // What put and seal share: the words that a part-filled buffer holds, and a block sealed where it lies in the area.
 use files::File;
-use moves::part_length;
-use moves::part_start;
+use puts::part_length;
+use puts::part_start;
 ghost use mathlib.Core.Path.{_≡_};
 ghost use mathlib.Core.Bool.{not, _&&_};
 ghost use Rattle.output.specs.Blocks.{heldRight, sealedIn, sealedArea};
@@ -35,11 +35,11 @@ pub fn seal_in(
         return;
     }
     if area.len() - at <= w as usize {
-        word::seal(&mut area[at..], n as usize, sequence, check, number);
+        sealing::seal(&mut area[at..], n as usize, sequence, check, number);
         return;
     }
     let end = at + w as usize;
-    word::seal(&mut area[at..end], n as usize, sequence, check, number);
+    sealing::seal(&mut area[at..end], n as usize, sequence, check, number);
 }
 
 // Seals the part-filled block of a file where it lies.

@@ -5,7 +5,6 @@ mod blocks;
 mod closes;
 mod fills;
 
-pub use blocks::seal_in;
 pub use closes::seal;
 pub use closes::seal_on;
 use files::File;

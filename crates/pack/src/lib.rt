@@ -1,12 +1,9 @@
 // The pack: the eleven calls under one roof, with the state that they take and hand back and what each of them answers.
 // This is all that a caller needs to name in its code; its line of crates.txt also lists the crates below, which declare the types, and hold the code,
 // the definitions and the proofs.
+pub use closing::close;
 pub use files::File;
 pub use gets::Got;
-pub use gets::got_error;
-pub use gets::got_number;
-pub use gets::got_start;
-pub use gets::got_words as got_count;
 pub use input::Getting;
 pub use input::Skipping;
 pub use input::get;
@@ -14,7 +11,6 @@ pub use input::get_words;
 pub use input::got_words;
 pub use input::skip;
 pub use judging::is_sound;
-pub use opening::close;
 pub use opening::open;
 pub use output::Putting;
 pub use output::Sealing;
@@ -25,6 +21,10 @@ pub use requests::Reporting;
 pub use requests::ask;
 pub use requests::report;
 pub use requests::reported_words;
+pub use showing::got_error;
+pub use showing::got_number;
+pub use showing::got_start;
+pub use showing::got_words as got_count;
 pub use starting::Called;
 pub use starting::Masks;
 pub use starting::freeze;

@@ -5,10 +5,9 @@ use mathlib.Core.List.{List, [], _∷_}
 use lib.Dec.{leb, eqb}
 use lib.ListN.{getD}
 use Rattle.area.specs.declared.Found.{Found}
-use Rattle.area.specs.declared.Found.the-variants.{At, Nothing}
-use Rattle.area.specs.Lists.{anyOf, countOf, firstAlong, countAlong}
+use Rattle.area.specs.Lists.{anyOf, countOf, firstAlong, isFound, countAlong}
 use Rattle.files.specs.declared.File.{File}
-use Rattle.files.specs.Opening.{buffersFor, closedFile}
+use Rattle.sizes.specs.Opening.{buffersFor, closedFile}
 
 -- "Files 0 to 15."
 abbrev pub fileCount : ℕ
@@ -54,10 +53,6 @@ serves channel unit f = f .opened && (eqb (f .channel) channel && eqb (f .unit) 
 -- the file number that serves a unit
 unfoldable pub servingFile : List File → ℕ → ℕ → Found
 servingFile fs channel unit = firstAlong suc (λ i. serves channel unit (getD fs i closedFile)) fileCount 0
-
-abbrev pub isFound : Found → Bool
-isFound (At i) = true
-isFound Nothing = false
 
 -- refusal 4, "unit already bound"
 abbrev pub isBound : List File → ℕ → ℕ → Bool

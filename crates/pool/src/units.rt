@@ -1,9 +1,10 @@
 // Which file serves a unit of a channel.
 use crate::FILES;
 use area::Found;
+use area::is_found;
 use files::File;
 ghost use mathlib.Core.Path.{_≡_};
-ghost use Rattle.pool.specs.Free.{serves as servesUnit, servingFile, isFound, isBound};
+ghost use Rattle.pool.specs.Free.{serves as servesUnit, servingFile, isBound};
 
 // Whether the file is open on that unit.
 pub fn serves(f: File, channel: u8, unit: u8) -> bool
@@ -25,15 +26,6 @@ pub fn serving_file(files: [File; FILES], channel: u8, unit: u8) -> Found
         i += 1;
     }
     Found::Nothing
-}
-
-fn is_found(x: Found) -> bool
-    ensures { λ r. ⌜ r ≡ isFound x ⌝ }
-{
-    match x {
-        Found::At(_) => true,
-        Found::Nothing => false,
-    }
 }
 
 // Whether a file is open on that unit.

@@ -13,11 +13,11 @@ use Rattle.area.proofs.Marks.{cond-true, cond-false}
 use Rattle.area.proofs.Walks.{by-test}
 use Rattle.answers.specs.declared.Answer.the-variants as answer
 use Rattle.channel.specs.declared.Channel.{Channel}
-use Rattle.channel.specs.Rules.{resultNumber}
-use Rattle.schedule.specs.Scans.{workingIn, unitNumber}
+use Rattle.outcomes.specs.Rules.{resultNumber}
+use Rattle.scanning.specs.Scans.{workingIn, unitNumber}
 use Rattle.schedule.specs.Turns.{judgeOf, bookOf}
 use Rattle.files.specs.declared.File.{File}
-use Rattle.files.specs.Opening.{closedFile}
+use Rattle.sizes.specs.Opening.{closedFile}
 use Rattle.frame.specs.declared.Masks as frame
 use Rattle.frame.specs.declared.Frame.{Frame}
 use Rattle.frame.specs.declared.Frame.the-variants.{Malformed, Fresh, Open, Close, Ask, Report, Get, Put, Seal, Skip, Freeze, Thaw}
@@ -28,13 +28,15 @@ use Rattle.state.specs.Places.{noChannel, fileAt, channelAt, withFile, withChan
 use Rattle.judging.specs.Soundness.{sound}
 use Rattle.starting.specs.Fresh.{freshRefusal, freshState, freshBy}
 use Rattle.opening.specs.Open.{openOn, openChange, openBy}
-use Rattle.opening.specs.Close.{closeOn, closeChange, closeBy}
+use Rattle.closing.specs.Close.{closeOn, closeChange, closeBy}
 use Rattle.starting.specs.Freeze.{stateRows, frozenState, thawedState, freezeBy, thawBy}
-use Rattle.requests.specs.declared.AskChange.{AskChange}
-use Rattle.requests.specs.declared.ReportChange.{ReportChange}
+use Rattle.asking.specs.declared.AskChange.{AskChange}
+use Rattle.reporting.specs.declared.ReportChange.{ReportChange}
 use Rattle.requests.specs.Changes.{changedState}
-use Rattle.requests.specs.Ask.{askRefusal, askedFile, askedChannel, askOn, askChange, askBy}
-use Rattle.requests.specs.Report.{effectAt, deliveryError, shownStart, shownCount, reportedFile, reportRefusal, refusedReport, fileOf, reportOn, reportChange, reportBy, reportByArea}
+use Rattle.asking.specs.Ask.{askRefusal, askedFile, askedChannel, askOn}
+use Rattle.requests.specs.Calls.{askChange, askBy}
+use Rattle.reporting.specs.Report.{effectAt, deliveryError, shownStart, shownCount, reportedFile, reportRefusal, refusedReport, reportOn}
+use Rattle.requests.specs.Calls.{fileOf, reportChange, reportBy, reportByArea}
 use Rattle.input.specs.Get.{getOn, getChange, getBy, getWords}
 use Rattle.input.specs.Skip.{skipOn, skipChange, skipBy}
 use Rattle.output.specs.Put.{putOn, putChange, putBy, putByArea}

@@ -11,7 +11,7 @@ use Rattle.answers.specs.declared.Answer.{Answer}
 use Rattle.answers.specs.declared.Answer.the-variants as answer
 use Rattle.channel.specs.declared.Channel.{Channel}
 use Rattle.files.specs.declared.File.{File}
-use Rattle.files.specs.declared.Wish.{Wish}
+use Rattle.sizes.specs.declared.Wish.{Wish}
 use Rattle.frame.specs.declared.Masks as frame
 use Rattle.gets.specs.Gets.{gotStart, gotWords}
 use Rattle.pool.specs.Free.{isBound}
@@ -21,10 +21,10 @@ use Rattle.opening.specs.declared.Free.{Free}
 use Rattle.starting.specs.declared.Masks.{Masks}
 use Rattle.starting.specs.Fresh.{freshRefusal, freshState}
 use Rattle.opening.specs.Open.{wishOf, freeOf, openOn}
-use Rattle.requests.specs.declared.AskChange.{AskChange}
-use Rattle.requests.specs.declared.ReportChange.{ReportChange}
-use Rattle.requests.specs.Ask.{askOn}
-use Rattle.requests.specs.Report.{reportOn, reportOnArea}
+use Rattle.asking.specs.declared.AskChange.{AskChange}
+use Rattle.reporting.specs.declared.ReportChange.{ReportChange}
+use Rattle.asking.specs.Ask.{askOn}
+use Rattle.reporting.specs.Report.{reportOn, reportOnArea}
 use Rattle.input.specs.declared.GetChange.{GetChange}
 use Rattle.input.specs.Get.{getOn}
 use Rattle.output.specs.declared.PutChange.{PutChange}

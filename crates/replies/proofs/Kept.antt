@@ -17,7 +17,7 @@ use Rattle.judging.specs.Soundness.{sound}
 use Rattle.starting.specs.Fresh.{freshBy}
 use Rattle.starting.proofs.FreshTheorems.{fresh-kept}
 use Rattle.opening.proofs.OpenTheorems.{open-kept}
-use Rattle.opening.proofs.CloseTheorems.{close-kept}
+use Rattle.closing.proofs.CloseTheorems.{close-kept}
 use Rattle.starting.proofs.FreezeTheorems.{freeze-kept, thaw-kept}
 use Rattle.requests.proofs.AskTheorems.{ask-kept}
 use Rattle.requests.proofs.ReportTheorems.{report-kept}

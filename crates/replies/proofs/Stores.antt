@@ -13,7 +13,7 @@ use Rattle.area.proofs.Walks.{by-test}
 use Rattle.channel.specs.declared.Channel.{Channel}
 use Rattle.schedule.specs.Turns.{thawOf}
 use Rattle.files.specs.declared.File.{File}
-use Rattle.files.specs.Opening.{closedFile}
+use Rattle.sizes.specs.Opening.{closedFile}
 use Rattle.frame.specs.declared.Frame.{Frame}
 use Rattle.frame.specs.declared.Frame.the-variants.{Malformed, Fresh, Open, Close, Ask, Report, Get, Put, Seal, Skip, Freeze, Thaw}
 use Rattle.pool.specs.Free.{fileCount}

@@ -13,9 +13,9 @@ use Rattle.gets.specs.Gets.{gotStart, gotWords}
 use Rattle.pool.specs.Free.{fileCount, isBound}
 use Rattle.state.specs.Places.{channelCount}
 use Rattle.opening.specs.Open.{wishOf, freeOf, openOn}
-use Rattle.opening.specs.Close.{closeOn}
-use Rattle.requests.specs.Ask.{askOn}
-use Rattle.requests.specs.Report.{reportOn, reportOnArea}
+use Rattle.closing.specs.Close.{closeOn}
+use Rattle.asking.specs.Ask.{askOn}
+use Rattle.reporting.specs.Report.{reportOn, reportOnArea}
 use Rattle.input.specs.Get.{getOn}
 use Rattle.input.specs.Skip.{skipOn}
 use Rattle.output.specs.Put.{putOn, putOnArea}

@@ -20,10 +20,10 @@ use Rattle.state.specs.declared.State.{State}
 use Rattle.starting.specs.declared.Masks.{Masks}
 use Rattle.starting.specs.Fresh.{freshBy}
 use Rattle.opening.specs.Open.{openBy}
-use Rattle.opening.specs.Close.{closeBy}
+use Rattle.closing.specs.Close.{closeBy}
 use Rattle.starting.specs.Freeze.{freezeBy, thawBy}
-use Rattle.requests.specs.Ask.{askBy}
-use Rattle.requests.specs.Report.{reportBy, reportByArea}
+use Rattle.requests.specs.Calls.{askBy}
+use Rattle.requests.specs.Calls.{reportBy, reportByArea}
 use Rattle.input.specs.Get.{getBy, getWords}
 use Rattle.input.specs.Skip.{skipBy}
 use Rattle.output.specs.Put.{putBy, putByArea}

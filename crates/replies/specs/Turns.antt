@@ -16,7 +16,7 @@ use Rattle.state.specs.declared.State.{State}
 use Rattle.state.specs.Places.{fileAt, channelAt, withFile, withChannel}
 use Rattle.starting.specs.Fresh.{freshRefusal, freshState}
 use Rattle.starting.specs.Freeze.{frozenState, thawedState}
-use Rattle.requests.specs.Report.{numberOr}
+use Rattle.requests.specs.Calls.{numberOr}
 use Rattle.replies.specs.declared.Change.{Change}
 use Rattle.replies.specs.declared.Turned.{Turned}
 use Rattle.replies.specs.Replies.{Reply, masksOf, givenWords}

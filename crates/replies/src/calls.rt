@@ -2,17 +2,17 @@
 // of the state.
 use crate::Change;
 use answers::Answer;
+use asking::ask_on;
 use channel::Channel;
 use channel::UNITS;
+use closing::close_on;
 use files::File;
 use input::skip_on;
-use opening::close_on;
 use opening::free_of;
 use opening::open_on;
 use opening::wish_of;
 use pool::FILES;
 use pool::is_bound;
-use requests::ask_on;
 use state::CHANNELS;
 ghost use mathlib.Core.Path.{_≡_};
 ghost use Rattle.replies.specs.Replies.{answerOr};

@@ -6,7 +6,7 @@ use pool::FILES;
 use pool::serving_file;
 ghost use mathlib.Core.Path.{_≡_};
 ghost use Rattle.pool.specs.Free.{fileCount, servingFile};
-ghost use Rattle.requests.specs.Report.{numberOr};
+ghost use Rattle.requests.specs.Calls.{numberOr};
 ghost use Rattle.replies.specs.Turns.{fileNumber, channelNumber};
 
 // The number of the file that a frame concerns, past the last for none.

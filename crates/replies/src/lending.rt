@@ -7,11 +7,11 @@ use answers::Answer;
 use channel::Channel;
 use files::File;
 use gets::Got;
-use gets::got_start;
 use input::get_on;
 use output::put_on;
 use output::seal_on;
-use requests::report_on;
+use reporting::report_on;
+use showing::got_start;
 ghost use mathlib.Core.Path.{_≡_};
 ghost use Prim.Native.Nat.{_*_};
 ghost use lib.Dec.{ltb};
@@ -89,7 +89,7 @@ pub fn got(unsound: bool, m: u8, w: u16, f: File, c: Channel, file: u8, area: &[
     let told = got_answer(found);
     let answer = answer_or(x.refusal, told);
     let start = got_start(found);
-    let count = gets::got_words(found);
+    let count = showing::got_words(found);
     Change {
         answer,
         start,

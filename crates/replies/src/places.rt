@@ -2,14 +2,14 @@
 // and nothing is stored there.
 use channel::Channel;
 use files::File;
-use files::closed_file;
 use pool::FILES;
+use sizes::closed_file;
 use state::CHANNELS;
 ghost use mathlib.Core.Path.{_≡_};
 ghost use mathlib.Core.Bool.{cond};
 ghost use Prim.Native.Nat.{_<_};
 ghost use lib.Dec.{ltb};
-ghost use Rattle.files.specs.Opening.{closedFile};
+ghost use Rattle.sizes.specs.Opening.{closedFile};
 ghost use Rattle.pool.specs.Free.{fileCount};
 ghost use Rattle.state.specs.Places.{channelCount, noChannel};
 

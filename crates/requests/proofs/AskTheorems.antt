@@ -20,8 +20,8 @@ use Rattle.service.specs.History.{station, ask, accepted, stepTo, askStep, step
 use Rattle.service.specs.Lifted.{Agrees}
 use Rattle.schedule.proofs.Laws.Turns as turns
 use Rattle.files.specs.declared.File.{File}
-use Rattle.moves.specs.Input.{hasEmpty, hasFull}
-use Rattle.moves.specs.Output.{hasUnsent}
+use Rattle.reads.specs.Input.{hasEmpty, hasFull}
+use Rattle.sends.specs.Sends.{hasUnsent}
 use Rattle.filing.specs.Soundness.{oneIf, takenCount}
 use Rattle.state.specs.declared.State.{State}
 use Rattle.state.specs.Places.{fileAt, channelAt, withFile, withChannel}
@@ -30,10 +30,11 @@ use Rattle.judging.specs.Soundness.{sound}
 use Rattle.judging.proofs.Facts.{SoundFacts, sound-facts, facts-sound}
 use Rattle.judging.proofs.ChannelCalls.{ask-moved}
 use Rattle.judging.proofs.Kept.{line-of}
-use Rattle.requests.specs.declared.AskChange.{AskChange}
+use Rattle.asking.specs.declared.AskChange.{AskChange}
 use Rattle.requests.specs.declared.Asking.{Asking}
-use Rattle.requests.specs.Ask.{isReading, isWriting, isMarking, isPriority, opOf, askRows, askRefusal, askedFile, askedChannel, askOn, askWrong, askBy}
-use Rattle.requests.proofs.Found.{ask-refused, ask-taken}
+use Rattle.asking.specs.Ask.{isReading, isWriting, isMarking, isPriority, opOf, askRows, askRefusal, askedFile, askedChannel, askOn}
+use Rattle.requests.specs.Calls.{askWrong, askBy}
+use Rattle.asking.proofs.AskFound.{ask-refused, ask-taken}
 use Rattle.requests.proofs.Ready.{not-false, ready-facts, kind, asked-file}
 use Rattle.requests.proofs.Changed.{Frame, changed-refused, changed-taken, changed-frame, here-channel, became-sound}
 

@@ -1,4 +1,3 @@
-pub mod Found
 pub mod Wholes
 pub mod Ready
 pub mod Changed

@@ -11,8 +11,8 @@ use Rattle.channel.specs.declared.Op.{Op}
 use Rattle.channel.specs.declared.Op.the-variants.{Read, Write, Mark}
 use Rattle.channel.specs.declared.Work.{Work}
 use Rattle.channel.specs.declared.Work.the-variants.{At, Nothing}
-use Rattle.channel.specs.declared.Ending.{Ending}
-use Rattle.channel.specs.declared.Ending.the-variants.{Good, Opposite, MarkRead, MediumEnd, LostRedundancy, LostIncomplete}
+use Rattle.outcomes.specs.declared.Ending.{Ending}
+use Rattle.outcomes.specs.declared.Ending.the-variants.{Good, Opposite, MarkRead, MediumEnd, LostRedundancy, LostIncomplete}
 use Rattle.slots.specs.declared.Slot.{Slot}
 use Rattle.slots.specs.declared.Slot.the-variants.{Empty, Taken, Full}
 use Rattle.files.specs.declared.Side.{Side}
@@ -20,9 +20,9 @@ use Rattle.files.specs.declared.Side.the-variants.{Low, High, Neither}
 use Rattle.files.specs.declared.File.{File}
 use Rattle.slots.specs.Slots.{isTaken}
 use Rattle.files.specs.Sides.{slotAt, isSide, lower, emptySide, takenSide, oldest, withSlot, turnedBy, nextBlock, filledAt, emptiedAt, withoutOldest}
-use Rattle.files.specs.Opening.{extra}
-use Rattle.moves.specs.Input.{hasEmpty, hasFull, blockFits, tookBuffer, delivered, gaveBack, metMark}
-use Rattle.moves.specs.Output.{hasUnsent, afterWrite}
+use Rattle.sizes.specs.Opening.{extra}
+use Rattle.reads.specs.Input.{hasEmpty, hasFull, blockFits, tookBuffer, delivered, gaveBack, metMark}
+use Rattle.sends.specs.Sends.{hasUnsent, afterWrite}
 use Rattle.files.proofs.Which.{taken-there}
 use Rattle.gets.specs.Histories.{read, giveBack, mark, send, deliver}
 use Rattle.filing.specs.Soundness.{oneIf, takenCount}
@@ -33,10 +33,10 @@ use Rattle.filing.proofs.Replaced.{Alike, alike-self}
 use Rattle.filing.proofs.Events.{event-alike}
 use Rattle.judging.specs.Requests.{isRead, isWrite, fitsOutput}
 use Rattle.judging.specs.Judged.{fileReady}
-use Rattle.requests.specs.Ask.{isReading, isWriting, isMarking, opOf, askedFile}
-use Rattle.requests.specs.Effects.{isDelivery, opEffect}
-use Rattle.requests.specs.Report.{reportedFile}
-use Rattle.requests.proofs.Found.{fits-bounds}
+use Rattle.asking.specs.Ask.{isReading, isWriting, isMarking, opOf, askedFile}
+use Rattle.reporting.specs.Effects.{isDelivery, opEffect}
+use Rattle.reporting.specs.Report.{reportedFile}
+use Rattle.reporting.proofs.Found.{fits-bounds}
 
 -- ---- how many buffers are taken
 

@@ -12,7 +12,7 @@ use lib.ListN.{length, take, getD}
 use borrow.Author.Tests.{not-true, ne-eqb, eq-eqb, eqb-true}
 use Rattle.area.specs.declared.Found.{Found}
 use Rattle.area.specs.declared.Found.the-variants as found
-use Rattle.area.specs.Lists.{allOf}
+use Rattle.area.specs.Lists.{allOf, isFound}
 use Rattle.area.specs.Parts.{isWord}
 use Rattle.area.specs.Refusals.{Rows, lowest}
 use Rattle.area.proofs.Walks.{true-not-false, and-left, and-right, and-both, or-left, or-right}
@@ -25,19 +25,19 @@ use Rattle.channel.specs.declared.Turn.the-variants.{Idle, Waiting, Displaced, 
 use Rattle.channel.specs.declared.Channel.{Channel}
 use Rattle.channel.specs.declared.Work.{Work}
 use Rattle.channel.specs.declared.Work.the-variants.{At, Nothing}
-use Rattle.channel.specs.declared.Ending.{Ending}
-use Rattle.channel.specs.declared.Verdict.{Verdict}
-use Rattle.channel.specs.declared.Verdict.the-variants.{Repeats, Ends}
-use Rattle.channel.specs.Rules.{isAllowed, isFailure, isPermanent, nextAttempt, endingOf, verdictOf, resultNumber}
+use Rattle.outcomes.specs.declared.Ending.{Ending}
+use Rattle.outcomes.specs.declared.Verdict.{Verdict}
+use Rattle.outcomes.specs.declared.Verdict.the-variants.{Repeats, Ends}
+use Rattle.outcomes.specs.Rules.{isAllowed, isFailure, isPermanent, nextAttempt, endingOf, verdictOf, resultNumber}
 use Rattle.channel.specs.Units.{turnAt, workOf, operationAt}
-use Rattle.schedule.specs.Scans.{workingIn, unitNumber}
+use Rattle.scanning.specs.Scans.{workingIn, unitNumber}
 use Rattle.schedule.specs.Turns.{judgeTurn, judgeOf, bookOf, reportOf}
 use Rattle.service.specs.History.{station, report, stepTo, reportAnswer, step, aReport}
 use Rattle.service.specs.Lifted.{Agrees}
 use Rattle.files.specs.declared.File.{File}
-use Rattle.files.specs.Opening.{closedFile}
-use Rattle.moves.specs.Input.{blockFits}
-use Rattle.pool.specs.Free.{fileCount, serves, servingFile, isFound}
+use Rattle.sizes.specs.Opening.{closedFile}
+use Rattle.reads.specs.Input.{blockFits}
+use Rattle.pool.specs.Free.{fileCount, serves, servingFile}
 use Rattle.filing.specs.Soundness.{shareBuffer, shareUnit, apart}
 use Rattle.filing.proofs.Replaced.{alike-self, unbound}
 use Rattle.state.specs.declared.State.{State}
@@ -51,12 +51,13 @@ use Rattle.judging.proofs.ChannelCalls.{repeat-moved, end-moved}
 use Rattle.judging.proofs.Kept.{line-of}
 use Rattle.word.specs.CheckWords.{address, chosen}
 use Rattle.word.specs.Sums.{logicalSum, firstHalf, folded}
-use Rattle.word.specs.Blocks.{dataWords, judgeRefusal, judged, errorOf}
-use Rattle.requests.specs.declared.Effect.{Effect}
-use Rattle.requests.specs.declared.ReportChange.{ReportChange}
+use Rattle.sealing.specs.Blocks.{dataWords, judgeRefusal, judged, errorOf}
+use Rattle.reporting.specs.declared.Effect.{Effect}
+use Rattle.reporting.specs.declared.ReportChange.{ReportChange}
 use Rattle.requests.specs.declared.Reporting.{Reporting}
-use Rattle.requests.specs.Effects.{effectOf, opEffect, isDelivery}
-use Rattle.requests.specs.Report.{isIdleFor, takesNoWords, isForbidden, shownStart, shownCount, shownBlock, effectAt, reportRows, reportRefusal, deliveryError, reportedFile, refusedReport, reportOn, reportOnArea, numberOr, fileOf, reportWrong, reportBy, reportByArea}
+use Rattle.reporting.specs.Effects.{effectOf, opEffect, isDelivery}
+use Rattle.reporting.specs.Report.{isIdleFor, takesNoWords, isForbidden, shownStart, shownCount, shownBlock, effectAt, reportRows, reportRefusal, deliveryError, reportedFile, refusedReport, reportOn, reportOnArea}
+use Rattle.requests.specs.Calls.{numberOr, fileOf, reportWrong, reportBy, reportByArea}
 use Rattle.requests.proofs.Ready.{not-false, ended-file}
 use Rattle.requests.proofs.Changed.{Frame, changed-refused, changed-taken, changed-frame, here-channel, became-sound}
 

@@ -22,15 +22,15 @@ use Rattle.channel.specs.declared.Turn.{Turn}
 use Rattle.channel.specs.declared.Channel.{Channel}
 use Rattle.channel.specs.declared.Work.{Work}
 use Rattle.channel.specs.declared.Work.the-variants.{At, Nothing}
-use Rattle.channel.specs.declared.Ending.{Ending}
-use Rattle.channel.specs.declared.Ending.the-variants.{Good, Opposite, MarkRead, MediumEnd, LostRedundancy, LostIncomplete}
-use Rattle.channel.specs.declared.Verdict.{Verdict}
-use Rattle.channel.specs.declared.Verdict.the-variants.{Refused, Repeats, Ends}
-use Rattle.channel.specs.Rules.{resultNumber}
+use Rattle.outcomes.specs.declared.Ending.{Ending}
+use Rattle.outcomes.specs.declared.Ending.the-variants.{Good, Opposite, MarkRead, MediumEnd, LostRedundancy, LostIncomplete}
+use Rattle.outcomes.specs.declared.Verdict.{Verdict}
+use Rattle.outcomes.specs.declared.Verdict.the-variants.{Refused, Repeats, Ends}
+use Rattle.outcomes.specs.Rules.{resultNumber}
 use Rattle.channel.specs.Units.{turnAt, workOf, operationAt}
 use Rattle.files.specs.declared.File.{File}
 use Rattle.files.specs.Sides.{bufferAt, startAt, isSide, takenSide}
-use Rattle.moves.specs.Input.{hasFull}
+use Rattle.reads.specs.Input.{hasFull}
 use Rattle.pool.specs.Free.{fileCount, heldBy}
 use Rattle.filing.specs.Soundness.{takenCount}
 use Rattle.filing.proofs.Changes.{own-taken}
@@ -40,11 +40,12 @@ use Rattle.state.specs.Places.{fileAt, channelAt, areaShort}
 use Rattle.judging.specs.Requests.{requested, isReadOp, isWriteOp, isRead, isWrite}
 use Rattle.judging.specs.Soundness.{sound}
 use Rattle.judging.specs.Judged.{fileReady}
-use Rattle.requests.specs.declared.Effect.{Effect}
-use Rattle.requests.specs.declared.Effect.the-variants.{Delivers, MeetsMark, GivesBack, Sends, Keeps}
-use Rattle.requests.specs.Effects.{effectOf, opEffect, isDelivery}
-use Rattle.requests.specs.Report.{effectAt, shownStart, shownCount, reportRefusal, reportedArea, reportOnArea, fileOf, reportWrong, reportByArea}
-use Rattle.requests.proofs.Found.{fits-bounds}
+use Rattle.reporting.specs.declared.Effect.{Effect}
+use Rattle.reporting.specs.declared.Effect.the-variants.{Delivers, MeetsMark, GivesBack, Sends, Keeps}
+use Rattle.reporting.specs.Effects.{effectOf, opEffect, isDelivery}
+use Rattle.reporting.specs.Report.{effectAt, shownStart, shownCount, reportRefusal, reportedArea, reportOnArea}
+use Rattle.requests.specs.Calls.{fileOf, reportWrong, reportByArea}
+use Rattle.reporting.proofs.Found.{fits-bounds}
 use Rattle.requests.proofs.Ready.{ready-facts, some-taken}
 use Rattle.requests.proofs.ReportTheorems.{Booked, again, ended, ReportReady, report-ready, facts, view, isOpen, requested-ready}
 

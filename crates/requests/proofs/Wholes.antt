@@ -10,13 +10,15 @@ use Rattle.files.specs.declared.File.{File}
 use Rattle.state.specs.declared.State.{State}
 use Rattle.state.specs.Places.{fileAt, channelAt, areaShort}
 use Rattle.judging.specs.Soundness.{sound}
-use Rattle.requests.specs.declared.AskChange.{AskChange}
+use Rattle.asking.specs.declared.AskChange.{AskChange}
 use Rattle.requests.specs.declared.Asking.{Asking}
-use Rattle.requests.specs.declared.ReportChange.{ReportChange}
+use Rattle.reporting.specs.declared.ReportChange.{ReportChange}
 use Rattle.requests.specs.declared.Reporting.{Reporting}
 use Rattle.requests.specs.Changes.{changedState}
-use Rattle.requests.specs.Ask.{askOn, askBy}
-use Rattle.requests.specs.Report.{fileOf, reportOn, reportOnArea, reportBy, reportByArea}
+use Rattle.asking.specs.Ask.{askOn}
+use Rattle.requests.specs.Calls.{askBy}
+use Rattle.reporting.specs.Report.{reportOn, reportOnArea}
+use Rattle.requests.specs.Calls.{fileOf, reportBy, reportByArea}
 
 pub ask-whole : (s : State) (file op priority : ℕ) (f : File) (c : Channel) (whole : Bool) (x : AskChange) (t : State)
     → f ≡ fileAt s file → c ≡ channelAt s (f .channel) → whole ≡ sound s → x ≡ askOn (not whole || ltb 15 file) f c op priority (s .frozen)

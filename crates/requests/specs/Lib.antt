@@ -1,4 +1,2 @@
 pub mod Changes
-pub mod Ask
-pub mod Effects
-pub mod Report
+pub mod Calls

@@ -1,22 +1,22 @@
 // Ask and report on a whole state.
 use crate::Asking;
 use crate::Reporting;
-use crate::asks::ask_on;
 use crate::changes::changed_state;
-use crate::reports::report_on;
 use area::Found;
 use area::part;
+use asking::ask_on;
 use judging::is_sound;
 use pool::FILES;
 use pool::serving_file;
+use reporting::report_on;
 use state::State;
 use state::area_short;
 use state::channel_at;
 use state::file_at;
 ghost use mathlib.Core.Path.{_≡_};
 ghost use Rattle.area.specs.Parts.{partOf};
-ghost use Rattle.requests.specs.Ask.{askBy};
-ghost use Rattle.requests.specs.Report.{fileOf, reportBy, reportByArea};
+ghost use Rattle.requests.specs.Calls.{askBy};
+ghost use Rattle.requests.specs.Calls.{fileOf, reportBy, reportByArea};
 
 // An ask of a file: operation 0 read, 1 write, 2 mark, priority 0 or 1. A refusal gives the state that was passed.
 pub fn ask(s: State, file: u8, op: u8, priority: u8) -> Asking

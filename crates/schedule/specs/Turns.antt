@@ -8,12 +8,13 @@ use Rattle.channel.specs.declared.Request.{Request}
 use Rattle.channel.specs.declared.Turn.{Turn}
 use Rattle.channel.specs.declared.Turn.the-variants.{Idle, Waiting, Displaced, Working}
 use Rattle.channel.specs.declared.Channel.{Channel}
-use Rattle.channel.specs.declared.Verdict.{Verdict}
-use Rattle.channel.specs.declared.Verdict.the-variants.{Refused, Repeats, Ends}
+use Rattle.outcomes.specs.declared.Verdict.{Verdict}
+use Rattle.outcomes.specs.declared.Verdict.the-variants.{Refused, Repeats, Ends}
 use Rattle.schedule.specs.declared.Asked.{Asked}
 use Rattle.schedule.specs.declared.Reported.{Reported}
-use Rattle.channel.specs.Rules.{verdictOf}
-use Rattle.schedule.specs.Scans.{nextUnit, workingIn, priorityIn, nextTurn, isFound}
+use Rattle.outcomes.specs.Rules.{verdictOf}
+use Rattle.scanning.specs.Scans.{nextUnit, workingIn, priorityIn, nextTurn}
+use Rattle.area.specs.Lists.{isFound}
 use Rattle.channel.specs.Units.{size, turnAt, withTurn, withMark, acceptsAt}
 
 -- ---- a start

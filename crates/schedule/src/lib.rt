@@ -1,21 +1,15 @@
 // Whose turn it is on one channel: an ask, a report, a start, and who is worked for next.
 // A channel goes in and comes out by value, and every function answers for any channel value and any number.
 // Whether the pack is frozen is a parameter. The crate knows nothing of files, buffers or words.
-mod scans;
 mod turns;
 
 use channel::Channel;
-use channel::UNITS;
-use channel::Verdict;
-pub use scans::working_number;
+use outcomes::Verdict;
 pub use turns::ask;
 pub use turns::book;
 pub use turns::judge;
 pub use turns::report;
 pub use turns::thaw;
-
-// The number of the last unit.
-const LAST: usize = UNITS - 1;
 
 // The answer to an ask, and the channel after it.
 pub struct Asked {

@@ -1,21 +1,21 @@
 // What is done to a channel: an ask, a report, a start. Each call changes one unit, and then starts what is due.
 use crate::Asked;
 use crate::Reported;
-use crate::scans::first_priority;
-use crate::scans::is_found;
-use crate::scans::next_turn;
-use crate::scans::next_unit;
-use crate::scans::working_unit;
 use area::Found;
+use area::is_found;
 use channel::Channel;
 use channel::Op;
 use channel::Request;
 use channel::Turn;
-use channel::Verdict;
 use channel::accepts;
 use channel::turn_of;
-use channel::verdict_of;
 use channel::with_turn;
+use outcomes::Verdict;
+use outcomes::verdict_of;
+use scanning::first_priority;
+use scanning::next_turn;
+use scanning::next_unit;
+use scanning::working_unit;
 ghost use mathlib.Core.Path.{_≡_};
 ghost use Rattle.schedule.specs.Turns.{begunTurn, begunAt, startOf, thawOf, askOf, judgeTurn, judgeOf, goesOn, incompleteTurn, repeatOf, isOrdinary, markAfter, endOf, bookOf, reportOf};
 

@@ -3,7 +3,7 @@ use mathlib.Core.Bool.{true, false}
 use mathlib.Core.List.{List, [], _∷_, _++_}
 use lib.ListN.{replicate}
 use Rattle.channel.specs.declared.Op.the-variants.{Read}
-use Rattle.channel.specs.Rules.{redundancy}
+use Rattle.outcomes.specs.Rules.{redundancy}
 use Rattle.service.specs.History.{Station, Event, ask, report, fresh, run}
 
 -- 101 × (U + P), with U = 2 and P = 0: two units are declared, 0 and then 1 ask, and no report has been made

@@ -4,19 +4,19 @@ use mathlib.Core.Bool.{Bool, true, false, _&&_, _||_}
 use mathlib.Core.List.{List, [], _∷_}
 use Prim.Native.Nat.{ℕ, _+_, _*_, _≤_, _<_}
 use lib.Dec.{eqb}
-use Rattle.area.specs.Lists.{countOf}
+use Rattle.area.specs.Lists.{countOf, isFound}
 use Rattle.channel.specs.declared.Op.{Op}
 use Rattle.channel.specs.declared.Turn.{Turn}
 use Rattle.channel.specs.declared.Turn.the-variants.{Idle, Waiting, Displaced, Working}
 use Rattle.channel.specs.declared.Unit.{Unit}
 use Rattle.channel.specs.declared.Channel.{Channel}
-use Rattle.channel.specs.declared.Verdict.{Verdict}
-use Rattle.channel.specs.declared.Verdict.the-variants.{Refused, Repeats, Ends}
+use Rattle.outcomes.specs.declared.Verdict.{Verdict}
+use Rattle.outcomes.specs.declared.Verdict.the-variants.{Refused, Repeats, Ends}
 use Rattle.schedule.specs.declared.Asked.{Asked}
 use Rattle.schedule.specs.declared.Reported.{Reported}
-use Rattle.channel.specs.Rules.{mostReports}
+use Rattle.outcomes.specs.Rules.{mostReports}
 use Rattle.channel.specs.Units.{freshWith}
-use Rattle.schedule.specs.Scans.{workingIn, isFound}
+use Rattle.scanning.specs.Scans.{workingIn}
 use Rattle.schedule.specs.Turns.{thawOf, askOf, reportOf}
 
 -- ---- what is done to a channel

@@ -5,7 +5,7 @@ use mathlib.Core.Bool.{Bool, true}
 use mathlib.Core.Option.{Option, none, some}
 use mathlib.Core.List.{List, [], _∷_}
 use Prim.Native.Nat.{ℕ, _+_, _*_, _≤_, _<_}
-use Rattle.channel.specs.Rules.{mostReports}
+use Rattle.outcomes.specs.Rules.{mostReports}
 use Rattle.service.specs.History.{Station, Event, Answer, stepTo, step, oneIf, aReport, aPriority, aRequestOf, anAnswerTo, isAlive, urgentIn}
 
 -- what a call of the system is to the channel: an event, and the answer that it got

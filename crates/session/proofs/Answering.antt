@@ -14,7 +14,7 @@ use Rattle.area.proofs.Pastes.{length-paste}
 use Rattle.area.proofs.Joins.{take-paste}
 use Rattle.area.proofs.Walks.{by-test, or-neither}
 use Rattle.digits.specs.Digits.{bytesOf}
-use Rattle.digits.specs.Writes.{placeAfter}
+use Rattle.figures.specs.Writes.{placeAfter}
 use Rattle.frame.specs.declared.Frame.{Frame}
 use Rattle.frame.specs.declared.Frame.the-variants.{Malformed}
 use Rattle.frame.specs.Frames.{longest, isText, sized, freshOf, kindBy, kindOf, frameOf}

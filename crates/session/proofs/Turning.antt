@@ -12,7 +12,7 @@ use Rattle.area.specs.Parts.{paste, pastedIn}
 use Rattle.area.proofs.Pastes.{part-all, paste-fitting, paste-misfit, length-paste}
 use Rattle.area.proofs.Marks.{cond-true, cond-false}
 use Rattle.area.proofs.Walks.{by-test, or-left, or-first, or-second, or-neither}
-use Rattle.digits.specs.Writes.{placeAfter}
+use Rattle.figures.specs.Writes.{placeAfter}
 use Rattle.lines.specs.declared.Line.{Line}
 use Rattle.lines.specs.declared.Step.{Step}
 use Rattle.lines.specs.Lines.{feedAt}

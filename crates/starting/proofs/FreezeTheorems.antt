@@ -15,7 +15,8 @@ use Rattle.channel.specs.declared.Turn.{Turn}
 use Rattle.channel.specs.declared.Turn.the-variants.{Idle, Waiting, Displaced, Working}
 use Rattle.channel.specs.declared.Channel.{Channel}
 use Rattle.channel.specs.Units.{isIdle, turnAt}
-use Rattle.schedule.specs.Scans.{workingIn, isFound}
+use Rattle.scanning.specs.Scans.{workingIn}
+use Rattle.area.specs.Lists.{isFound}
 use Rattle.channel.specs.Units.{isWorking}
 use Rattle.schedule.specs.Turns.{startOf, thawOf}
 use Rattle.service.proofs.Theorems.Turning.{held, at-set}

@@ -6,7 +6,7 @@ use lib.Dec.{ltb}
 use lib.ListN.{replicate}
 use Rattle.area.specs.Refusals.{Rows, lowest}
 use Rattle.channel.specs.Units.{unitCount, freshOf}
-use Rattle.files.specs.Opening.{closedFile}
+use Rattle.sizes.specs.Opening.{closedFile}
 use Rattle.pool.specs.Free.{fileCount, poolFits}
 use Rattle.state.specs.declared.State.{State}
 use Rattle.starting.specs.declared.Called.{Called}

@@ -2,11 +2,11 @@
 use crate::Called;
 use crate::Masks;
 use channel::UNITS;
-use files::closed_file;
 use pool::FILES;
 use pool::pool_fits;
+use refusing::lowest_of;
+use sizes::closed_file;
 use state::State;
-use state::lowest_of;
 ghost use mathlib.Core.Path.{_≡_};
 ghost use lib.ListN.{length};
 ghost use Rattle.starting.specs.Fresh.{isMask, areMasks, freshRefusal, freshState, freshBy};

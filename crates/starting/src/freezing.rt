@@ -2,9 +2,9 @@
 use crate::Called;
 use channel::Channel;
 use judging::is_sound;
+use refusing::lowest_of;
 use state::CHANNELS;
 use state::State;
-use state::lowest_of;
 ghost use mathlib.Core.Path.{_≡_};
 ghost use mathlib.Core.List.{map};
 ghost use Rattle.schedule.specs.Turns.{thawOf};
@@ -84,10 +84,10 @@ pub fn freeze(s: State) -> Called
             state: s,
         };
     }
-    let t = frozen_state(s);
+    let frozen = frozen_state(s);
     Called {
         refusal: 0,
-        state: t,
+        state: frozen,
     }
 }
 
@@ -102,9 +102,9 @@ pub fn thaw(s: State) -> Called
             state: s,
         };
     }
-    let t = thawed_state(s);
+    let thawed = thawed_state(s);
     Called {
         refusal: 0,
-        state: t,
+        state: thawed,
     }
 }

@@ -7,7 +7,7 @@ use lib.ListN.{getD, set, replicate}
 use Rattle.channel.specs.declared.Channel.{Channel}
 use Rattle.channel.specs.Units.{freshOf}
 use Rattle.files.specs.declared.File.{File}
-use Rattle.files.specs.Opening.{closedFile}
+use Rattle.sizes.specs.Opening.{closedFile}
 use Rattle.pool.specs.Free.{fileCount}
 use Rattle.state.specs.declared.State.{State}
 

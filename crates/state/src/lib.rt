@@ -1,8 +1,6 @@
 // The whole state of a pack: the pool's two numbers, the freeze, five channels and sixteen files, by value.
-// It looks a file or a channel up, replaces one, and gives the lowest refusal that applies. Whether a state is sound stands in `judging`.
-// It knows nothing of what a call does.
+// It looks a file or a channel up, and replaces one. Whether a state is sound stands in `judging`. It knows nothing of what a call does.
 mod places;
-mod refusals;
 
 use channel::Channel;
 use files::File;
@@ -14,7 +12,6 @@ pub use places::file_at;
 pub use places::with_channel;
 pub use places::with_file;
 use pool::FILES;
-pub use refusals::lowest_of;
 
 // How many channels there are: the manual's A to E.
 pub const CHANNELS: usize = 5;

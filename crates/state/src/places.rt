@@ -4,8 +4,8 @@ use crate::State;
 use channel::Channel;
 use channel::fresh;
 use files::File;
-use files::closed_file;
 use pool::FILES;
+use sizes::closed_file;
 ghost use mathlib.Core.Path.{_≡_};
 ghost use Rattle.state.specs.Places.{beforeStart, channelIn, fileAt, channelAt, withFile, withChannel, areaShort};
 

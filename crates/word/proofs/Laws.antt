@@ -1,5 +1,3 @@
 pub mod Carry
 pub mod Sum
 pub mod CheckWord
-pub mod Block
-pub mod Agree

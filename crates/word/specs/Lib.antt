@@ -1,4 +1,3 @@
 pub mod Sums
 pub mod CheckWords
-pub mod Blocks
 pub mod Totals

@@ -97,7 +97,7 @@ fn play_check_word(head: &[u64]) {
 // `3 len n sequence check number words`: sealing, the refusal and every word of the slice afterwards.
 fn play_seal(head: &[u64], block: &mut [u64]) {
     let n = count(head, 1);
-    let refusal = word::seal(
+    let refusal = sealing::seal(
         block,
         n,
         chosen(head, 2),
@@ -114,7 +114,7 @@ fn play_seal(head: &[u64], block: &mut [u64]) {
 
 // `4 sequence check number len words`: judging a block as delivered, the refusal and the error.
 fn play_judge(head: &[u64], block: &[u64]) {
-    let j = word::judge(
+    let j = sealing::judge(
         block,
         chosen(head, 0),
         chosen(head, 1),

@@ -13,8 +13,8 @@ use Rattle.area.proofs.Pastes.{paste-fitting}
 use Rattle.area.proofs.Walks.{and-both, and-left, and-right, all-append}
 use Rattle.digits.specs.Digits.{isByte, isDigit, bytesOf, byteDigits, concatMap}
 use Rattle.digits.specs.Fields.{isFive, wordBytes, wordsOf}
-use Rattle.digits.specs.Writes.{placeAfter}
-use Rattle.digits.proofs.Laws.Trips.{bytes-back, words-back, word-bytes-are, digits-are}
+use Rattle.figures.specs.Writes.{placeAfter}
+use Rattle.figures.proofs.Laws.Trips.{bytes-back, words-back, word-bytes-are, digits-are}
 use Rattle.answers.specs.declared.Answer.{Answer}
 use Rattle.answers.specs.Answers.{answerBytes, answerText, answerLine}
 use Rattle.answers.specs.Leads.{leadOf, leadBytes, shownOf}

@@ -12,9 +12,9 @@ use Rattle.area.proofs.Pastes.{paste-fitting, length-paste}
 use Rattle.area.proofs.Joins.{set-paste}
 use Rattle.digits.specs.Digits.{byteDigits, concatMap}
 use Rattle.digits.specs.Fields.{wordBytes, wordDigits}
-use Rattle.digits.specs.Writes.{placeAfter}
-use Rattle.digits.proofs.Laws.Writes.{length-byte, length-word, length-concat, written, unwritten, paste-more, words-left}
-use Rattle.digits.proofs.Laws.Trips.{concat-append, words-by-bytes}
+use Rattle.figures.specs.Writes.{placeAfter}
+use Rattle.figures.proofs.Laws.Writes.{length-byte, length-word, length-concat, written, unwritten, paste-more, words-left}
+use Rattle.figures.proofs.Laws.Trips.{concat-append, words-by-bytes}
 use Rattle.answers.specs.declared.Answer.{Answer}
 use Rattle.answers.specs.declared.Answer.the-variants.{Refused, Done, Asked, Reported, Record, Nothing, End, Error, Leftover}
 use Rattle.answers.specs.declared.Lead.{Lead}

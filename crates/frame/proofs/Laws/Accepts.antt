@@ -11,8 +11,8 @@ use Rattle.area.specs.Lists.{allOf}
 use Rattle.area.proofs.Walks.{by-test, and-left, and-right, and-both}
 use Rattle.digits.specs.Digits.{isDigit, bytesOf, byteDigits, isByte, concatMap}
 use Rattle.digits.specs.Fields.{byteAt}
-use Rattle.digits.proofs.Laws.Writes.{length-byte, length-concat}
-use Rattle.digits.proofs.Laws.Trips.{bytes-back, digits-are}
+use Rattle.figures.proofs.Laws.Writes.{length-byte, length-concat}
+use Rattle.figures.proofs.Laws.Trips.{bytes-back, digits-are}
 use Rattle.frame.specs.declared.Frame.{Frame}
 use Rattle.frame.specs.declared.Frame.the-variants.{Malformed, Close, Report, Get, Put, Seal, Skip, Freeze, Thaw}
 use Rattle.frame.specs.Frames.{longest, isText, sized, worded, wordsAfter, freshOf, openOf, askOf, reportOf, putOf, kindBy, kindOf, frameOf}

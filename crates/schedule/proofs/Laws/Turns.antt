@@ -7,7 +7,8 @@ use Rattle.channel.specs.declared.Op.{Op}
 use Rattle.channel.specs.declared.Turn.the-variants.{Waiting}
 use Rattle.channel.specs.declared.Channel.{Channel}
 use Rattle.channel.specs.Units.{size, turnAt, withTurn, acceptsAt}
-use Rattle.schedule.specs.Scans.{workingIn, nextTurn, isFound, nextUnit}
+use Rattle.scanning.specs.Scans.{workingIn, nextTurn, nextUnit}
+use Rattle.area.specs.Lists.{isFound}
 use Rattle.schedule.specs.Turns.{begunAt, startOf, newRequest, askOf, isOrdinary, markAfter}
 
 module _ (c : Channel) (frozen busy : Bool) (known : busy ≡ isFound (workingIn c)) where

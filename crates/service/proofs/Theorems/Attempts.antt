@@ -13,7 +13,7 @@ use Rattle.channel.specs.declared.Request.{Request}
 use Rattle.channel.specs.declared.Turn.{Turn}
 use Rattle.channel.specs.declared.Turn.the-variants.{Idle, Waiting}
 use Rattle.channel.specs.declared.Channel.{Channel}
-use Rattle.channel.specs.Rules.{rowOf}
+use Rattle.outcomes.specs.Rules.{rowOf}
 use Rattle.channel.specs.Units.{size, declaredAt, turnAt, withTurn, isIdle}
 use Rattle.schedule.specs.Turns.{startOf, newRequest}
 use Rattle.service.specs.History.{Station, Event, ask, accepted, Step, step, run, oneIf, count, aReportOf, anAnswerTo}

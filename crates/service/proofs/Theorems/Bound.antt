@@ -2,9 +2,9 @@
 use mathlib.Core.Path.{_≡_, refl}
 use mathlib.Core.List.{[], _∷_, _++_}
 use Rattle.area.specs.Lists.{anyOf, firstAlong}
-use Rattle.channel.specs.Rules.{redundancy, rowOf, isAllowed, isPermanent, nextAttempt, endingOf, verdictOf}
+use Rattle.outcomes.specs.Rules.{redundancy, rowOf, isAllowed, isPermanent, nextAttempt, endingOf, verdictOf}
 use Rattle.channel.specs.Units.{withTurn, freshWith, acceptsAt}
-use Rattle.schedule.specs.Scans.{scanFrom, workingIn, priorityIn, ordinaryIn, nextTurn}
+use Rattle.scanning.specs.Scans.{scanFrom, workingIn, priorityIn, ordinaryIn, nextTurn}
 use Rattle.schedule.specs.Turns.{startOf, thawOf, askOf, judgeOf, goesOn, repeatOf, markAfter, endOf, bookOf, reportOf}
 use Rattle.service.specs.History.{report, step, fresh, run, count, aReport, anAnswerTo}
 use Rattle.service.specs.Bound.{twoAsk, allButOne}

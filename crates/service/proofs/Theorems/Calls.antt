@@ -11,9 +11,9 @@ use Rattle.channel.specs.declared.Request.{Request}
 use Rattle.channel.specs.declared.Turn.{Turn}
 use Rattle.channel.specs.declared.Turn.the-variants.{Idle, Waiting, Displaced, Working}
 use Rattle.channel.specs.declared.Channel.{Channel}
-use Rattle.channel.specs.declared.Verdict.{Verdict}
-use Rattle.channel.specs.declared.Verdict.the-variants.{Refused, Repeats, Ends}
-use Rattle.channel.specs.Rules.{verdictOf}
+use Rattle.outcomes.specs.declared.Verdict.{Verdict}
+use Rattle.outcomes.specs.declared.Verdict.the-variants.{Refused, Repeats, Ends}
+use Rattle.outcomes.specs.Rules.{verdictOf}
 use Rattle.channel.specs.Units.{declaredAt, turnAt, withTurn, withMark, isIdle, acceptsAt}
 use Rattle.schedule.specs.Turns.{startOf, thawOf, newRequest, askOf, judgeTurn, judgeOf, goesOn, incompleteTurn, repeatOf, markAfter, endOf, bookOf, reportOf}
 use Rattle.service.specs.History.{Station, station, Event, ask, report, freeze, thaw, refused, accepted, repeated, answered, Step, stepTo, askStep, reportAnswer, step, aReportOf, aRequestOf, anAnswerTo}

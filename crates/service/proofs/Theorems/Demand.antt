@@ -9,7 +9,7 @@ use Rattle.channel.specs.declared.Op.{Op}
 use Rattle.channel.specs.declared.Turn.{Turn}
 use Rattle.channel.specs.declared.Turn.the-variants.{Idle, Waiting, Displaced, Working}
 use Rattle.channel.specs.declared.Channel.{Channel}
-use Rattle.channel.specs.Rules.{mostReports}
+use Rattle.outcomes.specs.Rules.{mostReports}
 use Rattle.channel.specs.Units.{size, turnAt, withTurn, freshWith}
 use Rattle.schedule.specs.Turns.{startOf, newRequest, isOrdinary}
 use Rattle.service.specs.History.{Station, Event, ask, accepted, Step, step, fresh, run, oneIf, count, aReport, aPriority, anAnswerTo, holdsPriority, declaredIn, Kept}

@@ -6,7 +6,7 @@ use mathlib.Core.List.{List, [], _∷_, _++_}
 use Prim.Native.Nat.{ℕ, _+_, _*_, _≤_, _<_}
 use native.Mathlib.Omega.{arith}
 use Rattle.channel.specs.declared.Op.{Op}
-use Rattle.channel.specs.Rules.{mostAttempts, mostReports, rowOf}
+use Rattle.outcomes.specs.Rules.{mostAttempts, mostReports, rowOf}
 use Rattle.service.specs.History.{Station, Event, ask, Answer, accepted, step, fresh, run, oneIf, count, aReport, aReportOf, aPriority, anAnswerTo, urgentIn, Kept}
 use Rattle.service.proofs.Theorems.Sound.{Sound, limit-most, sound-step, sound-run}
 use Rattle.service.proofs.Theorems.Calls.{took}

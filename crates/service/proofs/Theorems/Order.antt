@@ -4,8 +4,8 @@ use mathlib.Core.Path.{_≡_, sym}
 use Prim.Native.Nat.{ℕ, _+_, _≤_, _<_}
 use native.Mathlib.Decide.{decLt}
 use native.Mathlib.Omega.{arith}
-use Rattle.schedule.specs.Scans.{nextUnit, Before, upward, unwrapped, wrapped}
-use Rattle.schedule.proofs.Laws.Scans.{next-up, next-wraps}
+use Rattle.scanning.specs.Scans.{nextUnit, Before, upward, unwrapped, wrapped}
+use Rattle.scanning.proofs.Laws.Scans.{next-up, next-wraps}
 
 -- the unit m after w, of n
 pub data Next (n w m : ℕ) : Type 0 where

@@ -10,9 +10,9 @@ use Rattle.channel.specs.declared.Turn.{Turn}
 use Rattle.channel.specs.declared.Turn.the-variants.{Idle}
 use Rattle.channel.specs.declared.Channel.{Channel}
 use Rattle.channel.specs.Units.{size, turnAt, withTurn, withMark}
-use Rattle.schedule.specs.Scans.{nextUnit, beginOf, Before}
+use Rattle.scanning.specs.Scans.{nextUnit, beginOf, Before}
 use Rattle.schedule.specs.Turns.{isOrdinary}
-use Rattle.schedule.proofs.Laws.Scans.{next-below, begin-here}
+use Rattle.scanning.proofs.Laws.Scans.{next-below, begin-here}
 use Rattle.service.proofs.Theorems.Order.{next-is, before-not-last, before-trans}
 use Rattle.service.proofs.Theorems.Turning.{worksTurn, size-with, at-set, busy-inside}
 use Rattle.service.proofs.Theorems.Starts.{turn-wants, turn-works, turn-busy, Started, isFrozen, isBusy, isQuiet, begins}

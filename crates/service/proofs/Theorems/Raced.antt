@@ -11,9 +11,9 @@ use Rattle.channel.specs.declared.Request.{Request}
 use Rattle.channel.specs.declared.Turn.{Turn}
 use Rattle.channel.specs.declared.Turn.the-variants.{Idle, Waiting, Displaced, Working}
 use Rattle.channel.specs.declared.Channel.{Channel}
-use Rattle.channel.specs.Rules.{mostReports}
+use Rattle.outcomes.specs.Rules.{mostReports}
 use Rattle.channel.specs.Units.{size, declaredAt, turnAt, withTurn, withMark}
-use Rattle.schedule.specs.Scans.{nextUnit}
+use Rattle.scanning.specs.Scans.{nextUnit}
 use Rattle.schedule.specs.Turns.{startOf, newRequest, isOrdinary, markAfter}
 use Rattle.service.specs.History.{Station, station, Event, ask, report, thaw, Answer, accepted, repeated, answered, Step, stepTo, oneIf, aReport, aPriority, anAnswerTo}
 use Rattle.service.proofs.Theorems.Turning.{worksTurn, held, declared-inside}

@@ -13,8 +13,8 @@ use Rattle.area.proofs.Walks.{true-not-false}
 use Rattle.area.proofs.Firsts.{First, first-finds, first-misses}
 use Rattle.channel.specs.declared.Channel.{Channel}
 use Rattle.channel.specs.Units.{size}
-use Rattle.schedule.specs.Scans.{nextUnit, beginOf, stands, scanFrom, Before, upward, unwrapped, wrapped, Scanned, finds, misses}
-use Rattle.schedule.proofs.Laws.Scans.{begin-below}
+use Rattle.scanning.specs.Scans.{nextUnit, beginOf, stands, scanFrom, Before, upward, unwrapped, wrapped, Scanned, finds, misses}
+use Rattle.scanning.proofs.Laws.Scans.{begin-below}
 use Rattle.service.proofs.Theorems.Order.{Next, above, round, next-is, Compared, same, first, later, compare-before}
 
 -- x is the j-th unit of a scan of n that begins at b

@@ -15,8 +15,8 @@ use Rattle.channel.specs.declared.Request.{Request}
 use Rattle.channel.specs.declared.Turn.{Turn}
 use Rattle.channel.specs.declared.Turn.the-variants.{Idle, Working}
 use Rattle.channel.specs.declared.Channel.{Channel}
-use Rattle.channel.specs.declared.Verdict.the-variants.{Refused, Repeats, Ends}
-use Rattle.channel.specs.Rules.{mostAttempts, incompleteWord, rowOf, isAllowed, isFailure, isPermanent, nextAttempt, endingOf, verdictOf}
+use Rattle.outcomes.specs.declared.Verdict.the-variants.{Refused, Repeats, Ends}
+use Rattle.outcomes.specs.Rules.{mostAttempts, incompleteWord, rowOf, isAllowed, isFailure, isPermanent, nextAttempt, endingOf, verdictOf}
 use Rattle.channel.specs.Units.{size, declaredAt, turnAt, withTurn, isIdle}
 use Rattle.schedule.specs.Turns.{newRequest}
 use Rattle.service.specs.History.{Station, Event, Step, step, run}

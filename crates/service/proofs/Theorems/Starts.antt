@@ -10,7 +10,8 @@ use Rattle.channel.specs.declared.Turn.the-variants.{Idle, Waiting, Displaced, 
 use Rattle.channel.specs.declared.Unit.{Unit}
 use Rattle.channel.specs.declared.Channel.{Channel}
 use Rattle.channel.specs.Units.{size, turnAt, withTurn, isIdle}
-use Rattle.schedule.specs.Scans.{priority, beginOf, workingIn, priorityIn, ordinaryIn, orElse, nextTurn, isFound, Before, Scanned, finds, misses}
+use Rattle.scanning.specs.Scans.{priority, beginOf, workingIn, priorityIn, ordinaryIn, orElse, nextTurn, Before, Scanned, finds, misses}
+use Rattle.area.specs.Lists.{isFound}
 use Rattle.schedule.specs.Turns.{begunTurn, begunAt, startOf, isOrdinary}
 use Rattle.service.proofs.Theorems.Order.{Compared, same, first, later, compare-before}
 use Rattle.channel.specs.Units.{isWorking}

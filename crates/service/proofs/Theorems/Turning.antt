@@ -17,9 +17,9 @@ use Rattle.channel.specs.declared.Unit.{Unit}
 use Rattle.channel.specs.declared.Channel.{Channel}
 use Rattle.channel.specs.Units.{isWorking}
 use Rattle.channel.specs.Units.{size, idleUnit, unitAt, declaredAt, turnAt, withTurn, isIdle}
-use Rattle.schedule.specs.Scans.{waitingAs, standingOf, working, priority, ordinary, beginOf, workingIn, priorityIn, ordinaryIn, Scanned, finds, misses, upward}
+use Rattle.scanning.specs.Scans.{waitingAs, standingOf, working, priority, ordinary, beginOf, workingIn, priorityIn, ordinaryIn, Scanned, finds, misses, upward}
 use Rattle.channel.proofs.Laws.Units.{unit-beyond}
-use Rattle.schedule.proofs.Laws.Scans.{begin-here}
+use Rattle.scanning.proofs.Laws.Scans.{begin-here}
 use Rattle.area.specs.declared.Found.{Found}
 use Rattle.area.specs.declared.Found.the-variants.{At}
 use Rattle.service.proofs.Theorems.Scan.{scan-is, scanned-as}

@@ -6,7 +6,7 @@ use Prim.Native.Nat.{_≤_, _+_, _*_}
 use native.Mathlib.Omega.{arith}
 use lib.ListN.{length, length-set}
 use Rattle.answers.proofs.Laws.Texts.{leads, Wrote, text-unwritten, text-written}
-use Rattle.digits.proofs.put_words.Reads as put-words-reads
+use Rattle.figures.proofs.put_words.Reads as put-words-reads
 use Rattle.answers.proofs.line.write_answer.Statement.{statement}
 use Rattle.answers.proofs.line.write_answer.Tie as tie
 use Rattle.answers.proofs.line.write_answer.Reads as reads

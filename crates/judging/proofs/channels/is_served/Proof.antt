@@ -6,7 +6,7 @@ use native.Mathlib.Omega.{arith}
 use lib.ListN.{length, drop}
 use Rattle.area.specs.Lists.{anyOf}
 use Rattle.area.proofs.Walks.{any-hit, any-miss, any-done}
-use Rattle.files.specs.Opening.{closedFile}
+use Rattle.sizes.specs.Opening.{closedFile}
 use Rattle.pool.specs.Free.{serves, fileCount}
 use Rattle.judging.proofs.channels.is_served.Statement.{statement}
 use Rattle.judging.proofs.channels.is_served.Tie as tie

@@ -1,5 +1,5 @@
 -- `judging::incomplete_limit` meets its contract, branch by branch. Assumes nothing.
-use Rattle.channel.specs.Rules.{rowOf}
+use Rattle.outcomes.specs.Rules.{rowOf}
 use borrow.Author.Needs.{needs}
 use Rattle.judging.proofs.turns.incomplete_limit.Statement.{statement}
 use Rattle.judging.proofs.turns.incomplete_limit.Tie as tie

@@ -6,7 +6,7 @@ use native.Mathlib.Omega.{arith}
 use lib.ListN.{length, getD}
 use Rattle.area.specs.Lists.{firstAlong}
 use Rattle.area.proofs.Marks.{first-hit, first-miss, first-done}
-use Rattle.files.specs.Opening.{closedFile}
+use Rattle.sizes.specs.Opening.{closedFile}
 use Rattle.pool.specs.Free.{fileCount, serves, servingFile}
 use Rattle.pool.proofs.units.serving_file.Statement.{statement}
 use Rattle.pool.proofs.units.serving_file.Tie as tie

@@ -5,7 +5,7 @@ use lib.ListN.{length-map}
 use native.Mathlib.Omega.{arith}
 use Rattle.channel.specs.Units.{unitCount}
 use Rattle.schedule.specs.Turns.{isOrdinary}
-use Rattle.schedule.proofs.Laws.Scans.{next-below}
+use Rattle.scanning.proofs.Laws.Scans.{next-below}
 use Rattle.schedule.proofs.Laws.Turns.{mark-moves, mark-stays}
 use borrow.Author.Needs.{needs}
 use Rattle.schedule.proofs.turns.mark_after.Statement.{statement}

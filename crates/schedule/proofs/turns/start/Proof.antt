@@ -1,7 +1,7 @@
 -- `schedule::start` meets its contract: the two cases of the definition.
 -- Assumes nothing.
 use mathlib.Core.Path.{sym, ap, _∙_}
-use Rattle.schedule.specs.Scans.{isFound}
+use Rattle.area.specs.Lists.{isFound}
 use Rattle.schedule.proofs.Laws.Turns.{start-stays, start-begins}
 use borrow.Author.Needs.{needs}
 use Rattle.schedule.proofs.turns.start.Statement.{statement}
