@@ -14,7 +14,8 @@ use Rattle.files.specs.declared.Side.the-variants.{Low, High, Neither}
 use Rattle.files.specs.declared.File.{File}
 use Rattle.sizes.specs.declared.Wish.{Wish}
 use Rattle.slots.specs.Slots.{isEmpty, isTaken, isPart, isFull}
-use Rattle.files.specs.Sides.{bufferAt, slotAt, isSide, emptySide, takenSide, partSide, oldest, withSlot, filledAt, emptiedAt, withoutOldest}
+use Rattle.files.specs.Sides.{bufferAt, slotAt, isSide, emptySide, takenSide, partSide, oldest}
+use Rattle.filling.specs.Fills.{withSlot, filledAt, emptiedAt, withoutOldest}
 use Rattle.sizes.specs.Opening.{openedFile}
 use Rattle.reads.specs.Input.{tookBuffer, delivered, gaveBack, withMark, metMark}
 use Rattle.puts.specs.Output.{putSide, wordsAfter, added, partLength, sealed}

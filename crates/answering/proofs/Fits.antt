@@ -37,7 +37,7 @@ use Rattle.reporting.specs.declared.Effect.the-variants.{Delivers, MeetsMark, G
 use Rattle.reporting.specs.Report.{effectAt, shownCount, reportRefusal, reportOn}
 use Rattle.requests.specs.Calls.{fileOf, reportWrong, reportBy, reportByArea}
 use Rattle.requests.proofs.ReportTheorems.{report-was-sound, isOpen}
-use Rattle.input.specs.Get.{getBy, getWords}
+use Rattle.input.specs.Calls.{getBy, getWords}
 use Rattle.input.proofs.GetTheorems.{get-refused, get-open, get-state-sound, get-finds}
 use Rattle.replies.specs.Replies.{givenWords, replyTo, answerTo, textOf}
 use Rattle.answering.specs.Rooms.{mostWords, mostText}

@@ -8,37 +8,14 @@ use native.Mathlib.Omega.{arith}
 use lib.Dec.{ltb}
 use lib.ListN.{length}
 use borrow.Author.Tests.{ltb-true}
-use Rattle.area.specs.Refusals.{Rows, lowest}
+use Rattle.area.specs.Refusals.{Rows, lowest, Row, here, later, Given, NoneApplies, Exactly}
 use Rattle.area.proofs.Walks.{by-test, true-not-false, and-left, and-right}
 use Rattle.area.proofs.Lowest.{lowest-here, lowest-past}
-
--- the table has the row (n, applies)
-pub data Row (n : ℕ) (applies : Bool) : Rows → Type 0 where
-  here : {rows : Rows} → Row n applies ((n, applies) ∷ rows)
-  later : {k : ℕ} {b : Bool} {rows : Rows} → Row n applies rows → Row n applies ((k, b) ∷ rows)
 
 -- the numbers of the rows rise, from above `from` on
 abbrev pub rising : ℕ → Rows → Bool
 rising from [] = true
 rising from (x ∷ xs) = ltb from (x .0) && rising (x .0) xs
-
--- the row n applies, and no row with a lower number does
-pub record Given (rows : Rows) (n : ℕ) : Type 0 where
-  pub condition : Bool
-  pub row : Row n condition rows
-  pub applies : condition ≡ true
-  pub noLower : (k : ℕ) (b : Bool) → Row k b rows → k < n → b ≡ false
-
--- no row applies
-abbrev pub NoneApplies : Rows → Type 0
-NoneApplies rows = (k : ℕ) (b : Bool) → Row k b rows → b ≡ false
-
--- "Given exactly when": a number is given exactly if its row applies and none with a lower number does, and 0 exactly if none applies
-pub record Exactly (rows : Rows) : Type 0 where
-  pub given : (n : ℕ) → 0 < n → lowest rows ≡ n → Given rows n
-  pub gives : (n : ℕ) → Given rows n → lowest rows ≡ n
-  pub none : lowest rows ≡ 0 → NoneApplies rows
-  pub nothing : NoneApplies rows → lowest rows ≡ 0
 
 row-above : {from n : ℕ} {b : Bool} {rows : Rows} → rising from rows ≡ true → Row n b rows → from < n
 row-above {from} {n} r here = ltb-true from n (and-left (ltb from n) _ r)

@@ -9,7 +9,7 @@ use Rattle.channel.specs.declared.Op.the-variants.{Read, Write, Mark}
 use Rattle.channel.specs.declared.Channel.{Channel}
 use Rattle.channel.specs.Units.{hasRequest}
 use Rattle.scanning.specs.Scans.{workingIn, unitNumber}
-use Rattle.schedule.specs.Turns.{askOf}
+use Rattle.beginning.specs.Starts.{askOf}
 use Rattle.files.specs.declared.File.{File}
 use Rattle.reads.specs.Input.{hasEmpty, hasFull, tookBuffer}
 use Rattle.sends.specs.Sends.{hasUnsent}

@@ -81,7 +81,7 @@ fn asked_channel(f: File, c: Channel, op: u8, priority: u8, frozen: bool) -> Cha
     ensures { λ r. ⌜ r ≡ askedChannel f c op priority frozen ⌝ }
 {
     let x = op_of(op);
-    let a = schedule::ask(c, f.unit as usize, x, priority == 1, frozen);
+    let a = beginning::ask(c, f.unit as usize, x, priority == 1, frozen);
     a.channel
 }
 

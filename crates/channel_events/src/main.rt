@@ -37,7 +37,7 @@ fn fresh_start(text: &[u8], p: Desk) -> Desk {
 
 // An ask for an operation that there is.
 fn ask_for(c: Channel, unit: usize, op: Op, priority: u64, frozen: bool) -> Channel {
-    let asked = schedule::ask(c, unit, op, priority == 1, frozen);
+    let asked = beginning::ask(c, unit, op, priority == 1, frozen);
     let d = asked.channel;
     let told = if asked.accepted { 1 } else { 0 };
     answer(told);
@@ -99,7 +99,7 @@ fn report(text: &[u8], p: Desk) -> Desk {
 
 fn hold(p: Desk, frozen: bool) -> Desk {
     let c = p.channel;
-    let d = if frozen { c } else { schedule::thaw(c) };
+    let d = if frozen { c } else { beginning::thaw(c) };
     answer(scanning::working_number(d) as u64);
     end_line();
     Desk {

@@ -6,8 +6,8 @@ use mathlib.Core.List.{List, []}
 use Prim.Native.Nat.{ℕ, _+_, _%_}
 use lib.ListN.{length}
 use Rattle.sealing.specs.Blocks.{judged}
-use Rattle.files.specs.Sides.{blockNumbers}
-use Rattle.pool.specs.Free.{serves}
+use Rattle.filling.specs.Fills.{blockNumbers}
+use Rattle.serving.specs.Serving.{serves}
 use Rattle.state.specs.declared.State.{State}
 use Rattle.state.specs.Places.{fileAt}
 use Rattle.requests.specs.Calls.{fileOf}

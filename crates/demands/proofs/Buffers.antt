@@ -9,17 +9,16 @@ use Rattle.area.proofs.Walks.{true-not-false}
 use Rattle.area.proofs.Marks.{cond-true}
 use Rattle.files.specs.declared.File.{File}
 use Rattle.sizes.specs.Opening.{openedFile}
-use Rattle.pool.specs.Free.{heldBy}
+use Rattle.pool.specs.Free.{heldBy, Lowest}
 use Rattle.filing.proofs.Shares.{apart-holds}
 use Rattle.state.specs.declared.State.{State}
 use Rattle.state.specs.Places.{fileAt}
 use Rattle.judging.specs.Soundness.{sound}
 use Rattle.judging.proofs.Facts.{sound-facts}
 use Rattle.judging.proofs.Buffers.{held-once, free-and-held}
-use Rattle.opening.specs.Open.{openBy}
+use Rattle.opening.specs.Calls.{openBy}
 use Rattle.opening.proofs.OpenTheorems.{lowOf, highOf, open-lowest, open-next, open-file, open-sound}
-use Rattle.closing.proofs.CloseTheorems.{close-frees}
-use Rattle.opening.proofs.Frees.{Lowest}
+use Rattle.opening.proofs.CloseTheorems.{close-frees}
 use Rattle.requests.specs.Calls.{fileOf}
 use Rattle.requests.proofs.ReportTheorems.{report-books-own}
 use Rattle.histories.specs.Calls.{opening, close, report, answerOf}

@@ -5,12 +5,12 @@ use mathlib.Core.Bool.{Bool, true, false}
 use mathlib.Core.List.{List, []}
 use Prim.Native.Nat.{ℕ, _+_, _%_}
 use lib.ListN.{length}
-use Rattle.word.specs.CheckWords.{checkWord, IsCheckWord}
+use Rattle.checkword.specs.CheckWords.{checkWord, IsCheckWord}
 use Rattle.sealing.specs.Blocks.{judged}
-use Rattle.word.proofs.Laws.CheckWord.{check-word-is, check-word-only}
+use Rattle.checkword.proofs.Laws.CheckWord.{check-word-is, check-word-only}
 use Rattle.files.specs.declared.File.{File}
-use Rattle.files.specs.Sides.{blockNumbers}
-use Rattle.pool.specs.Free.{serves}
+use Rattle.filling.specs.Fills.{blockNumbers}
+use Rattle.serving.specs.Serving.{serves}
 use Rattle.state.specs.declared.State.{State}
 use Rattle.state.specs.Places.{beforeStart, fileAt}
 use Rattle.starting.specs.declared.Masks.{Masks}

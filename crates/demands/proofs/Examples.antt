@@ -6,30 +6,36 @@ use Rattle.area.specs.Parts.{paste, pastedIn}
 use Rattle.area.specs.Refusals.{lowest}
 use Rattle.area.specs.Numbered.{allFrom}
 use Rattle.word.specs.Sums.{carryBack, sumFrom, logicalSum, firstHalf, lastHalf, folded}
-use Rattle.word.specs.CheckWords.{address, checkWord, nextNumber}
+use Rattle.checkword.specs.CheckWords.{address, checkWord, nextNumber}
 use Rattle.sealing.specs.Blocks as blocks
 use Rattle.outcomes.specs.Rules.{rowOf, isAllowed, isPermanent, nextAttempt, endingOf, verdictOf}
 use Rattle.channel.specs.Units.{withTurn, freshWith, bitsFrom, freshOf, hasRequest, acceptsAt, operationAt}
 use Rattle.scanning.specs.Scans.{scanFrom, workingIn, priorityIn, ordinaryIn, nextTurn}
-use Rattle.schedule.specs.Turns.{startOf, askOf, judgeOf, goesOn, repeatOf, markAfter, endOf, bookOf}
-use Rattle.files.specs.Sides.{nextBlock, emptySide, takenSide, partSide, oldest, filledAt, emptiedAt, withoutOldest}
+use Rattle.schedule.specs.Turns.{judgeOf, goesOn, repeatOf, markAfter, endOf, bookOf}
+use Rattle.beginning.specs.Starts.{startOf, askOf}
+use Rattle.files.specs.Sides.{emptySide, takenSide, partSide, oldest}
+use Rattle.filling.specs.Fills.{nextBlock, filledAt, emptiedAt, withoutOldest}
 use Rattle.reads.specs.Input.{tookBuffer, delivered, gaveBack, metMark}
 use Rattle.puts.specs.Output.{putSide, putStart, added, partStart, partLength, isComplete, sealed, afterPut}
 use Rattle.sends.specs.Sends.{sendStart, sendWords, afterWrite}
 use Rattle.sizes.specs.Opening.{openedFile}
-use Rattle.pool.specs.Free.{lowestFree, freeCount, servingFile}
+use Rattle.pool.specs.Free.{lowestFree, freeCount}
+use Rattle.serving.specs.Serving.{servingFile}
 use Rattle.filing.specs.Soundness.{isBlank}
-use Rattle.state.specs.Places.{beforeStart, withFile, withChannel}
+use Rattle.state.specs.Places.{beforeStart}
+use Rattle.storing.specs.Stores.{withFile, withChannel}
 use Rattle.judging.specs.Soundness.{numbersInRange, noBufferHeldTwice, eachHasItsOwn, requestsFit, channelsWork, readsAloneTake, writesHaveBlocks, fullBlocksRight, partBuffersRight, placesRight, attemptsInLimit, sound}
 use Rattle.starting.specs.Fresh.{freshRows, freshState, freshBy}
-use Rattle.opening.specs.Open.{freeOf, openRows, openOn, openBy}
+use Rattle.binding.specs.Open.{freeOf, openRows, openOn}
+use Rattle.opening.specs.Calls.{openBy}
 use Rattle.requests.specs.Changes.{changedState}
 use Rattle.asking.specs.Ask.{opOf, askRefusal, askedFile, askedChannel, askOn}
 use Rattle.requests.specs.Calls.{askBy}
 use Rattle.reporting.specs.Report.{reportRefusal, reportedFile, reportedArea, reportOn, reportOnArea}
 use Rattle.requests.specs.Calls.{reportBy, reportByArea}
-use Rattle.output.specs.Blocks.{sealedIn, sealedArea}
-use Rattle.output.specs.Put.{putRows, putRefusal, filledArea, putArea, putOn, putOnArea, putBy, putByArea}
+use Rattle.putting.specs.Blocks.{sealedIn, sealedArea}
+use Rattle.putting.specs.Put.{putRows, putRefusal, filledArea, putArea, putOn, putOnArea}
+use Rattle.output.specs.Calls.{putBy, putByArea}
 use Rattle.histories.specs.Calls.{answerOf}
 use Rattle.demands.specs.Examples.{play, repeatedFrom, table, allShown, allWanted}
 

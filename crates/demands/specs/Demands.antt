@@ -5,18 +5,18 @@ use mathlib.Core.Logic.{_≢_}
 use mathlib.Core.Bool.{Bool, true, false, cond, _||_}
 use mathlib.Core.List.{List, _++_, map}
 use Prim.Native.Nat.{ℕ, _+_, _*_, _≤_, _<_}
-use Rattle.area.proofs.Exactly.{Given, NoneApplies}
+use Rattle.area.specs.Refusals.{Given, NoneApplies}
 use Rattle.files.specs.declared.File.{File}
 use Rattle.outcomes.specs.Rules.{mostReports}
 use Rattle.scanning.specs.Scans.{workingIn}
 use Rattle.area.specs.Lists.{isFound}
 use Rattle.channel.specs.Units.{operationAt}
 use Rattle.service.specs.History.{urgentIn}
-use Rattle.pool.specs.Free.{heldBy, isFree, freeCount, holders, allHolding, serves}
+use Rattle.pool.specs.Free.{heldBy, isFree, freeCount, holders, allHolding, Lowest}
+use Rattle.serving.specs.Serving.{serves}
 use Rattle.state.specs.declared.State.{State}
 use Rattle.state.specs.Places.{fileAt, channelAt}
 use Rattle.judging.specs.Soundness.{sound}
-use Rattle.opening.proofs.Frees.{Lowest}
 use Rattle.reporting.specs.Report.{isIdleFor}
 use Rattle.histories.specs.Calls.{Call, answerOf, numberAlone}
 use Rattle.histories.specs.Tables.{isTableNumber, rowsOf}

@@ -97,7 +97,7 @@ fn after(kind: u64, f: File, w: u16) -> File {
         4 => reads::gave_back(f),
         5 => reads::met_mark(f),
         6 => get(f, w),
-        7 => files::without_oldest(f),
+        7 => filling::without_oldest(f),
         8 => put(f, w),
         9 => seal(f, w),
         10 => send(f, w),

@@ -56,7 +56,7 @@ fn part(f: File) {
 
 // The whole file: its full blocks, the oldest first, the taken and the part-filled buffer, the next block number and the mark.
 pub fn whole(f: File) {
-    let rest = files::without_oldest(f);
+    let rest = filling::without_oldest(f);
     number(flag(reads::has_full(f)) + flag(reads::has_full(rest)));
     block(f);
     block(rest);

@@ -1,23 +1,17 @@
-// One file by value: its one or two buffers and what each of them holds, which of them is meant, and the file with something
-// else in one of them. It only numbers the buffers and knows nothing of channels, of other files, or of the words of an area.
+// One file by value: its one or two buffers, what each of them holds, and which of them is meant.
+// It only numbers the buffers and knows nothing of channels, of other files, or of the words of an area.
 mod sides;
 
-pub use sides::emptied_at;
 pub use sides::empty_side;
-pub use sides::filled_at;
 pub use sides::is_side;
 pub use sides::oldest;
 pub use sides::part_side;
 pub use sides::slot_at;
 pub use sides::start_at;
 pub use sides::taken_side;
-pub use sides::with_slot;
-pub use sides::without_oldest;
 use slots::Slot;
 
-// Block numbers are below this; check errors are up to the other.
-pub const BLOCK_NUMBERS: u32 = 32768;
-
+// Check errors are up to this.
 pub const LAST_ERROR: u8 = 3;
 
 // A buffer of the pool, and what it holds.

@@ -13,7 +13,8 @@ use Rattle.files.specs.declared.Side.the-variants.{Low, High, Neither}
 use Rattle.files.specs.declared.File.{File}
 use Rattle.sizes.specs.declared.Wish.{Wish}
 use Rattle.slots.specs.Slots.{isEmpty, isTaken, isPart, isFull, partWords}
-use Rattle.files.specs.Sides.{slotAt, isSide, emptySide, takenSide, partSide, oldest, withSlot, emptiedAt, withoutOldest}
+use Rattle.files.specs.Sides.{slotAt, isSide, emptySide, takenSide, partSide, oldest}
+use Rattle.filling.specs.Fills.{withSlot, emptiedAt, withoutOldest}
 use Rattle.sizes.specs.Opening.{sizesFit, openedFile}
 use Rattle.reads.specs.Input.{tookBuffer, delivered, gaveBack, withMark, metMark}
 use Rattle.puts.specs.Output.{partLength, sealed}

@@ -6,7 +6,8 @@ use lib.Dec.{leb}
 use Rattle.files.specs.declared.Side.{Side}
 use Rattle.slots.specs.declared.Slot.the-variants.{Taken, Part, Full, Empty}
 use Rattle.files.specs.declared.File.{File}
-use Rattle.files.specs.Sides.{slotAt, isSide, emptySide, takenSide, partSide, oldest, turnedBy, nextBlock, filledAt, emptiedAt, withoutOldest, withSlot}
+use Rattle.files.specs.Sides.{slotAt, isSide, emptySide, takenSide, partSide, oldest}
+use Rattle.filling.specs.Fills.{turnedBy, nextBlock, filledAt, emptiedAt, withoutOldest, withSlot}
 use Rattle.reads.specs.Input.{hasEmpty, tookBuffer, delivered, gaveBack, withMark, metMark}
 use Rattle.puts.specs.Output.{putSide, hasRoom, hasPart, wordsAfter, added, isComplete, partLength, sealed, afterPut}
 use Rattle.gets.specs.Gets.{isUsedUp, passed, lookedAt, slotAfter, afterFound}

@@ -11,7 +11,8 @@ use Rattle.slots.specs.declared.Slot.the-variants.{Empty, Taken, Part, Full}
 use Rattle.files.specs.declared.Buffer.{Buffer}
 use Rattle.files.specs.declared.File.{File}
 use Rattle.slots.specs.Slots.{isEmpty, isFull, fullError}
-use Rattle.files.specs.Sides.{noBuffer, blockNumbers}
+use Rattle.files.specs.Sides.{noBuffer}
+use Rattle.filling.specs.Fills.{blockNumbers}
 use Rattle.sizes.specs.Opening.{sizesFit, closedFile}
 use Rattle.filing.specs.Soundness.{inRange, isNoBuffer, hasBuffers, oneIf, takenCount, takenRight, fullFits, fullRight, partsHeld, partFits, partRight, placeFits, placeRight, isUnread, openSound, isBlank, fileSound}
 

@@ -14,7 +14,8 @@ use Rattle.files.specs.declared.Side.{Side}
 use Rattle.files.specs.declared.Side.the-variants.{Low, High, Neither}
 use Rattle.files.specs.declared.File.{File}
 use Rattle.slots.specs.Slots.{isEmpty, isTaken, isPart, isFull}
-use Rattle.files.specs.Sides.{slotAt, isSide, withSlot, blockNumbers, turnedBy, nextBlock, filledAt, emptiedAt}
+use Rattle.files.specs.Sides.{slotAt, isSide}
+use Rattle.filling.specs.Fills.{withSlot, blockNumbers, turnedBy, nextBlock, filledAt, emptiedAt}
 use Rattle.filing.specs.Soundness.{isNoBuffer, oneIf, takenCount, partsHeld}
 use Rattle.filing.proofs.Facts.{slotFits, Sound}
 

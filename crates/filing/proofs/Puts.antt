@@ -13,7 +13,8 @@ use Rattle.files.specs.declared.Side.{Side}
 use Rattle.files.specs.declared.Side.the-variants.{Low, High, Neither}
 use Rattle.files.specs.declared.File.{File}
 use Rattle.slots.specs.Slots.{isPart, partWords}
-use Rattle.files.specs.Sides.{slotAt, isSide, lower, emptySide, partSide, withSlot, filledAt}
+use Rattle.files.specs.Sides.{slotAt, isSide, lower, emptySide, partSide}
+use Rattle.filling.specs.Fills.{withSlot, filledAt}
 use Rattle.puts.specs.Output.{putSide, wordsAfter, added, partLength, isComplete, sealed, afterPut}
 use Rattle.files.proofs.Which.{lower-cases, empty-there, part-there}
 use Rattle.filing.specs.Soundness.{oneIf}

@@ -19,9 +19,10 @@ use Rattle.files.specs.declared.Side.{Side}
 use Rattle.files.specs.declared.Side.the-variants.{Low, High, Neither}
 use Rattle.files.specs.declared.File.{File}
 use Rattle.sizes.specs.declared.Wish.{Wish}
-use Rattle.files.specs.Sides.{withSlot}
+use Rattle.filling.specs.Fills.{withSlot}
 use Rattle.sizes.specs.Opening.{secondNumber, openedFile, closedFile}
-use Rattle.pool.specs.Free.{fileCount, heldBy, isHeld, isFree, serves, servingFile, isBound}
+use Rattle.pool.specs.Free.{fileCount, heldBy, isHeld, isFree}
+use Rattle.serving.specs.Serving.{serves, servingFile, isBound}
 use Rattle.filing.specs.Soundness.{shareBuffer, shareUnit, apart, isBlank, fileSound, filesSound}
 use Rattle.filing.proofs.Shares.{held-shared}
 

@@ -10,9 +10,10 @@ use Rattle.slots.specs.declared.Slot.the-variants.{Empty, Taken, Part, Full}
 use Rattle.files.specs.declared.Buffer.{Buffer}
 use Rattle.files.specs.declared.File.{File}
 use Rattle.slots.specs.Slots.{isEmpty, isTaken, isPart, isFull, fullPlace, fullError}
-use Rattle.files.specs.Sides.{blockNumbers}
+use Rattle.filling.specs.Fills.{blockNumbers}
 use Rattle.sizes.specs.Opening.{sizesFit}
-use Rattle.pool.specs.Free.{heldBy, serves}
+use Rattle.pool.specs.Free.{heldBy}
+use Rattle.serving.specs.Serving.{serves}
 
 -- "Error 1 is sequence, 2 check sum, 3 both."
 abbrev pub lastError : ℕ

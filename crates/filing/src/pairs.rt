@@ -3,7 +3,7 @@ use crate::sound::file_sound;
 use files::File;
 use pool::FILES;
 use pool::holds;
-use pool::serves;
+use serving::serves;
 ghost use mathlib.Core.Path.{_≡_};
 ghost use lib.ListN.{drop};
 ghost use Rattle.area.specs.Lists.{allOf, allPairs};

@@ -15,7 +15,8 @@ use Rattle.files.specs.declared.Side.{Side}
 use Rattle.files.specs.declared.Side.the-variants.{Low, High, Neither}
 use Rattle.files.specs.declared.File.{File}
 use Rattle.sizes.specs.declared.Wish.{Wish}
-use Rattle.files.specs.Sides.{bufferAt, slotAt, isSide, takenSide, partSide, oldest, withSlot, filledAt, withoutOldest}
+use Rattle.files.specs.Sides.{bufferAt, slotAt, isSide, takenSide, partSide, oldest}
+use Rattle.filling.specs.Fills.{withSlot, filledAt, withoutOldest}
 use Rattle.reads.specs.Input.{tookBuffer, delivered, gaveBack, metMark}
 use Rattle.puts.specs.Output.{added, isComplete, partLength, sealed, afterPut}
 use Rattle.sizes.specs.Opening.{openedFile}

@@ -20,7 +20,8 @@ use Rattle.files.specs.declared.Side.{Side}
 use Rattle.files.specs.declared.Side.the-variants.{Low, High, Neither}
 use Rattle.files.specs.declared.File.{File}
 use Rattle.slots.specs.Slots.{isFull}
-use Rattle.files.specs.Sides.{bufferAt, slotAt, startAt, isSide, lower, oldest, withSlot, withoutOldest}
+use Rattle.files.specs.Sides.{bufferAt, slotAt, startAt, isSide, lower, oldest}
+use Rattle.filling.specs.Fills.{withSlot, withoutOldest}
 use Rattle.gets.specs.declared.Got.{Got}
 use Rattle.gets.specs.declared.Got.the-variants.{Record, Leftover, Error}
 use Rattle.gets.specs.Gets.{isUsedUp, passed, lookedAt, wordsGiven, slotAfter, foundIn, foundNone, found, afterFound, getFrom}

@@ -6,7 +6,8 @@ use Rattle.slots.specs.declared.Slot.{Slot}
 use Rattle.slots.specs.declared.Slot.the-variants.{Empty, Taken, Part, Full}
 use Rattle.files.specs.declared.File.{File}
 use Rattle.slots.specs.Slots.{fullWords, fullPlace, fullError}
-use Rattle.files.specs.Sides.{slotAt, startAt, isSide, oldest, withSlot, withoutOldest}
+use Rattle.files.specs.Sides.{slotAt, startAt, isSide, oldest}
+use Rattle.filling.specs.Fills.{withSlot, withoutOldest}
 use Rattle.gets.specs.declared.Got.{Got}
 use Rattle.gets.specs.declared.Got.the-variants.{Record, Leftover, Error, End, Nothing}
 use Rattle.gets.specs.declared.Finding.{Finding}

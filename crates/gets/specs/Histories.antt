@@ -5,7 +5,8 @@ use mathlib.Core.List.{List, [], _∷_, _++_, map}
 use Rattle.area.specs.Parts.{partOf}
 use Rattle.files.specs.declared.Side.{Side}
 use Rattle.files.specs.declared.File.{File}
-use Rattle.files.specs.Sides.{bufferAt, slotAt, isSide, takenSide, partSide, oldest, withoutOldest}
+use Rattle.files.specs.Sides.{bufferAt, slotAt, isSide, takenSide, partSide, oldest}
+use Rattle.filling.specs.Fills.{withoutOldest}
 use Rattle.reads.specs.Input.{tookBuffer, delivered, gaveBack, metMark}
 use Rattle.puts.specs.Output.{added, isComplete, sealed, afterPut}
 use Rattle.ages.specs.Blocks.{Block, line}

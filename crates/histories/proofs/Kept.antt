@@ -9,21 +9,22 @@ use lib.ListN.{length, length-set}
 use Rattle.files.specs.declared.File.{File}
 use Rattle.pool.specs.Free.{fileCount}
 use Rattle.state.specs.declared.State.{State}
-use Rattle.state.specs.Places.{withFile, beforeStart}
+use Rattle.state.specs.Places.{beforeStart}
+use Rattle.storing.specs.Stores.{withFile}
 use Rattle.judging.specs.Soundness.{sound}
 use Rattle.judging.proofs.Wholes.{before-start-sound}
 use Rattle.starting.specs.declared.Masks.{Masks}
 use Rattle.starting.specs.Fresh.{freshState, freshBy}
-use Rattle.opening.specs.Open.{openChange, openBy}
-use Rattle.closing.specs.Close.{closeChange, closeBy}
-use Rattle.input.specs.Get.{getChange, getBy}
-use Rattle.input.specs.Skip.{skipChange, skipBy}
-use Rattle.output.specs.Put.{putChange, putBy}
-use Rattle.output.specs.Seal.{sealChange, sealBy}
+use Rattle.opening.specs.Calls.{openChange, openBy}
+use Rattle.opening.specs.Ends.{closeChange, closeBy}
+use Rattle.input.specs.Calls.{getChange, getBy}
+use Rattle.input.specs.Skips.{skipChange, skipBy}
+use Rattle.output.specs.Calls.{putChange, putBy}
+use Rattle.output.specs.Seals.{sealChange, sealBy}
 use Rattle.starting.proofs.FreshTheorems.{fresh-refused, fresh-accepted, fresh-kept}
 use Rattle.opening.proofs.OpenTheorems.{open-kept}
-use Rattle.closing.proofs.CloseTheorems.{close-kept}
-use Rattle.starting.proofs.FreezeTheorems.{freeze-kept, freeze-frame, thaw-kept, thaw-frame}
+use Rattle.opening.proofs.CloseTheorems.{close-kept}
+use Rattle.freezing.proofs.FreezeTheorems.{freeze-kept, freeze-frame, thaw-kept, thaw-frame}
 use Rattle.requests.proofs.AskTheorems.{ask-kept, ask-frame}
 use Rattle.requests.proofs.ReportTheorems.{report-kept, report-frame}
 use Rattle.input.proofs.GetTheorems.{get-kept}

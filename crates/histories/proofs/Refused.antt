@@ -7,23 +7,22 @@ use mathlib.Core.List.{List, []}
 use Prim.Native.Nat.{ℕ, _<_}
 use native.Mathlib.Omega.{arith}
 use Rattle.area.specs.Lists.{anyOf, allOf}
-use Rattle.area.specs.Refusals.{Rows, lowest}
-use Rattle.area.proofs.Exactly.{Exactly, Row, here, later}
+use Rattle.area.specs.Refusals.{Rows, lowest, Exactly, Row, here, later}
 use Rattle.area.proofs.Walks.{and-left, and-right}
 use Rattle.state.specs.declared.State.{State}
-use Rattle.starting.specs.declared.Called.{Called}
+use Rattle.changing.specs.declared.Called.{Called}
 use Rattle.starting.specs.Fresh.{freshRows}
-use Rattle.opening.specs.Open.{openRows}
-use Rattle.closing.specs.Close.{closeRows}
-use Rattle.starting.specs.Freeze.{stateRows}
-use Rattle.input.specs.Get.{getRows}
-use Rattle.input.specs.Skip.{skipRows}
-use Rattle.output.specs.Put.{putRows}
-use Rattle.output.specs.Seal.{sealRows}
+use Rattle.binding.specs.Open.{openRows}
+use Rattle.binding.specs.Close.{closeRows}
+use Rattle.freezing.specs.Freeze.{stateRows}
+use Rattle.getting.specs.Get.{getRows}
+use Rattle.getting.specs.Skip.{skipRows}
+use Rattle.putting.specs.Put.{putRows}
+use Rattle.putting.specs.Seal.{sealRows}
 use Rattle.starting.proofs.FreshTheorems.{fresh-exactly, fresh-refused}
 use Rattle.opening.proofs.OpenTheorems.{open-exactly, open-refused}
-use Rattle.closing.proofs.CloseTheorems.{close-exactly, close-refused}
-use Rattle.starting.proofs.FreezeTheorems.{freeze-exactly, freeze-refused, thaw-exactly, thaw-refused}
+use Rattle.opening.proofs.CloseTheorems.{close-exactly, close-refused}
+use Rattle.freezing.proofs.FreezeTheorems.{freeze-exactly, freeze-refused, thaw-exactly, thaw-refused}
 use Rattle.requests.proofs.AskTheorems.{ask-exactly}
 use Rattle.requests.proofs.ReportTheorems.{report-exactly}
 use Rattle.input.proofs.GetTheorems.{get-exactly, get-refused}

@@ -11,19 +11,20 @@ use Rattle.area.specs.Lists.{firstAlong}
 use Rattle.channel.specs.declared.Channel.{Channel}
 use Rattle.channel.specs.Units.{freshWith, bitsFrom, freshOf}
 use Rattle.scanning.specs.Scans.{scanFrom, workingIn, priorityIn, ordinaryIn, nextTurn}
-use Rattle.schedule.specs.Turns.{startOf, thawOf, judgeOf}
+use Rattle.schedule.specs.Turns.{judgeOf}
+use Rattle.beginning.specs.Starts.{startOf, thawOf}
 use Rattle.service.specs.History as history
 use Rattle.service.specs.History.{Station, station, accepted, reportAnswer, step}
 use Rattle.service.specs.Lifted.{Shown, Agrees}
 use Rattle.state.specs.declared.State.{State}
 use Rattle.state.specs.Places.{noChannel, fileAt, channelIn, channelAt}
-use Rattle.starting.specs.Freeze.{frozenState, thawedState, freezeBy, thawBy}
+use Rattle.freezing.specs.Freeze.{frozenState, thawedState, freezeBy, thawBy}
 use Rattle.asking.specs.Ask.{opOf, isPriority}
 use Rattle.requests.specs.Calls.{askBy}
 use Rattle.requests.specs.Calls.{reportBy}
 use Rattle.opening.proofs.OpenTheorems.{open-frame}
-use Rattle.closing.proofs.CloseTheorems.{close-frame}
-use Rattle.starting.proofs.FreezeTheorems.{freeze-refused, freeze-state, thaw-refused, thaw-state}
+use Rattle.opening.proofs.CloseTheorems.{close-frame}
+use Rattle.freezing.proofs.FreezeTheorems.{freeze-refused, freeze-state, thaw-refused, thaw-state}
 use Rattle.requests.proofs.AskTheorems.{ask-exactly, ask-frame, ask-event}
 use Rattle.requests.proofs.ReportTheorems.{report-exactly, report-frame, report-event}
 use Rattle.requests.specs.declared.Reporting.{Reporting}

@@ -6,24 +6,22 @@ use lib.ListN.{length}
 use Rattle.area.specs.Parts.{partOf}
 use Rattle.gets.specs.declared.Got.{Got}
 use Rattle.state.specs.declared.State.{State}
-use Rattle.starting.specs.declared.Called.{Called}
+use Rattle.changing.specs.declared.Called.{Called}
 use Rattle.starting.specs.declared.Masks.{Masks}
 use Rattle.starting.specs.Fresh.{freshBy}
-use Rattle.opening.specs.Open.{openBy}
-use Rattle.closing.specs.Close.{closeBy}
-use Rattle.starting.specs.Freeze.{freezeBy, thawBy}
+use Rattle.opening.specs.Calls.{openBy}
+use Rattle.opening.specs.Ends.{closeBy}
+use Rattle.freezing.specs.Freeze.{freezeBy, thawBy}
 use Rattle.requests.specs.declared.Asking.{Asking}
 use Rattle.requests.specs.declared.Reporting.{Reporting}
 use Rattle.requests.specs.Calls.{askBy}
 use Rattle.requests.specs.Calls.{reportBy, reportByArea}
 use Rattle.input.specs.declared.Getting.{Getting}
-use Rattle.input.specs.declared.Skipping.{Skipping}
-use Rattle.input.specs.Get.{noAnswer, getBy, getWords}
-use Rattle.input.specs.Skip.{skipBy}
-use Rattle.output.specs.declared.Putting.{Putting}
-use Rattle.output.specs.declared.Sealing.{Sealing}
-use Rattle.output.specs.Put.{putBy, putByArea}
-use Rattle.output.specs.Seal.{sealBy, sealByArea}
+use Rattle.getting.specs.Get.{noAnswer}
+use Rattle.input.specs.Calls.{getBy, getWords}
+use Rattle.input.specs.Skips.{skipBy}
+use Rattle.output.specs.Calls.{putBy, putByArea}
+use Rattle.output.specs.Seals.{sealBy, sealByArea}
 
 -- which of the eleven, its numbers and its words, in the order of document 01's frames
 pub data Call : Type 0 where
@@ -83,15 +81,6 @@ told r area =
 abbrev pub given : Getting → List ℕ → List ℕ → Answer
 given r words area = record { refusal = r .refusal; added = got (r .got); shows = words; state = r .state; area = area }
 
-abbrev pub skipped : Skipping → List ℕ → Answer
-skipped r area = record { refusal = r .refusal; added = nothing; shows = []; state = r .state; area = area }
-
-abbrev pub stored : Putting → List ℕ → Answer
-stored r area = record { refusal = r .refusal; added = nothing; shows = []; state = r .state; area = area }
-
-abbrev pub sealed : Sealing → List ℕ → Answer
-sealed r area = record { refusal = r .refusal; added = nothing; shows = []; state = r .state; area = area }
-
 -- ---- the answer to a call, of the state that is passed and the area that is lent
 
 unfoldable pub answerOf : State → List ℕ → Call → Answer
@@ -102,9 +91,9 @@ answerOf s area (ask file op priority) = asked (askBy s file op priority) area
 answerOf s area (report channel unit outcome words) =
     told (reportBy s area channel unit outcome words) (reportByArea s area channel unit outcome words)
 answerOf s area (get file) = given (getBy s area file) (getWords s area file) area
-answerOf s area (put file words) = stored (putBy s area file words) (putByArea s area file words)
-answerOf s area (seal file) = sealed (sealBy s area file) (sealByArea s area file)
-answerOf s area (skip file) = skipped (skipBy s file) area
+answerOf s area (put file words) = plainly (putBy s area file words) (putByArea s area file words)
+answerOf s area (seal file) = plainly (sealBy s area file) (sealByArea s area file)
+answerOf s area (skip file) = plainly (skipBy s file) area
 answerOf s area freeze = plainly (freezeBy s) area
 answerOf s area thaw = plainly (thawBy s) area
 

@@ -8,22 +8,25 @@ use lib.ListN.{length}
 use Rattle.area.specs.Lists.{anyOf}
 use Rattle.area.specs.Refusals.{Rows}
 use Rattle.gets.specs.Gets.{getFrom}
-use Rattle.pool.specs.Free.{isBound}
+use Rattle.serving.specs.Serving.{isBound}
 use Rattle.state.specs.declared.State.{State}
 use Rattle.state.specs.Places.{fileAt, channelAt}
-use Rattle.judging.specs.Misused.{misused}
+use Rattle.misusing.specs.Misused.{misused}
 use Rattle.starting.specs.Fresh.{freshRows}
-use Rattle.opening.specs.Open.{wishOf, freeOf, openOff, openRows}
-use Rattle.closing.specs.Close.{closeOff, closeRows}
-use Rattle.starting.specs.Freeze.{stateRows}
+use Rattle.binding.specs.Open.{wishOf, freeOf, openRows}
+use Rattle.opening.specs.Calls.{openOff}
+use Rattle.binding.specs.Close.{closeRows}
+use Rattle.opening.specs.Ends.{closeOff}
+use Rattle.freezing.specs.Freeze.{stateRows}
 use Rattle.asking.specs.Ask.{askRows}
 use Rattle.requests.specs.Calls.{askWrong}
 use Rattle.reporting.specs.Report.{reportRows}
 use Rattle.requests.specs.Calls.{fileOf, reportWrong}
-use Rattle.input.specs.Get as gets
-use Rattle.input.specs.Skip.{skipMisused, skipRows}
-use Rattle.output.specs.Put.{putRows}
-use Rattle.output.specs.Seal.{sealRows}
+use Rattle.getting.specs.Get as gets
+use Rattle.getting.specs.Skip.{skipRows}
+use Rattle.input.specs.Skips.{skipMisused}
+use Rattle.putting.specs.Put.{putRows}
+use Rattle.putting.specs.Seal.{sealRows}
 use Rattle.histories.specs.Calls.{Call, fresh, opening, close, ask, report, get, put, seal, skip, freeze, thaw}
 
 -- the numbers of the table; "There is no refusal 14"

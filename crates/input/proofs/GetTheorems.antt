@@ -12,9 +12,9 @@ use lib.ListN.{length}
 use lib.Seq.{getD-set-same, getD-set-other}
 use Rattle.area.specs.Lists.{allOf}
 use Rattle.area.specs.Parts.{isWord}
-use Rattle.area.specs.Refusals.{Rows, lowest}
+use Rattle.area.specs.Refusals.{Rows, lowest, Exactly, NoneApplies, here, later}
 use Rattle.area.proofs.Walks.{or-left, or-right, true-not-false}
-use Rattle.area.proofs.Exactly.{Exactly, NoneApplies, here, later, exactly}
+use Rattle.area.proofs.Exactly.{exactly}
 use Rattle.files.specs.declared.File.{File}
 use Rattle.sizes.specs.Opening.{closedFile}
 use Rattle.gets.specs.declared.Got.{Got}
@@ -24,12 +24,14 @@ use Rattle.filing.proofs.Changes.{get-sound}
 use Rattle.filing.proofs.Events.{event-alike}
 use Rattle.filing.proofs.Inside.{get-inside}
 use Rattle.state.specs.declared.State.{State}
-use Rattle.state.specs.Places.{fileAt, withFile, areaShort}
-use Rattle.judging.specs.Misused.{misused}
+use Rattle.state.specs.Places.{fileAt, areaShort}
+use Rattle.storing.specs.Stores.{withFile}
+use Rattle.misusing.specs.Misused.{misused}
 use Rattle.judging.specs.Soundness.{sound, requestOf}
 use Rattle.judging.proofs.Facts.{SoundFacts, sound-facts, facts-sound}
 use Rattle.judging.proofs.Kept.{file-kept, holdings, place-of}
-use Rattle.input.specs.Get.{givesOut, getRows, getRefusal, noAnswer, getOn, getChange, getBy, getWords}
+use Rattle.getting.specs.Get.{givesOut, getRows, getRefusal, noAnswer, getOn}
+use Rattle.input.specs.Calls.{getChange, getBy, getWords}
 use Rattle.input.proofs.Ready.{get-taken, input-ready}
 
 module _ (s : State) (area : List ℕ) (file : ℕ) where

@@ -14,7 +14,8 @@ use Rattle.files.specs.declared.Side.{Side}
 use Rattle.files.specs.declared.Side.the-variants.{Low, High, Neither}
 use Rattle.files.specs.declared.File.{File}
 use Rattle.slots.specs.Slots.{isTaken}
-use Rattle.files.specs.Sides.{slotAt, oldest, withSlot, emptiedAt, withoutOldest}
+use Rattle.files.specs.Sides.{slotAt, oldest}
+use Rattle.filling.specs.Fills.{withSlot, emptiedAt, withoutOldest}
 use Rattle.reads.specs.Input.{hasFull}
 use Rattle.ages.proofs.Ages.{Aged, noBlock, old, aged}
 use Rattle.gets.specs.Gets.{isUsedUp, passed, lookedAt, slotAfter, afterFound, getFrom}

@@ -8,12 +8,12 @@ use borrow.Author.Tests.{eqb-true, ne-eqb, not-false}
 use lib.Dec.{ltb, eqb}
 use lib.ListN.{drop}
 use lib.Seq.{getD-set-same, getD-set-other}
-use Rattle.area.specs.Refusals.{Rows, lowest}
+use Rattle.area.specs.Refusals.{Rows, lowest, Exactly, NoneApplies, here, later}
 use Rattle.area.proofs.Walks.{or-right, true-not-false}
-use Rattle.area.proofs.Exactly.{Exactly, NoneApplies, here, later, exactly}
+use Rattle.area.proofs.Exactly.{exactly}
 use Rattle.files.specs.declared.File.{File}
 use Rattle.sizes.specs.Opening.{closedFile}
-use Rattle.files.specs.Sides.{withoutOldest}
+use Rattle.filling.specs.Fills.{withoutOldest}
 use Rattle.reads.specs.Input.{hasFull}
 use Rattle.ages.specs.Blocks.{line}
 use Rattle.ages.proofs.Ages.{oldest-leaves}
@@ -21,11 +21,13 @@ use Rattle.gets.specs.Histories.{skip}
 use Rattle.filing.proofs.Changes.{dropped-sound}
 use Rattle.filing.proofs.Events.{event-alike}
 use Rattle.state.specs.declared.State.{State}
-use Rattle.state.specs.Places.{fileAt, withFile}
+use Rattle.state.specs.Places.{fileAt}
+use Rattle.storing.specs.Stores.{withFile}
 use Rattle.judging.specs.Soundness.{sound, requestOf}
 use Rattle.judging.proofs.Facts.{SoundFacts, sound-facts, facts-sound}
 use Rattle.judging.proofs.Kept.{file-kept, holdings, place-of}
-use Rattle.input.specs.Skip.{skipMisused, skipRows, skipRefusal, skipOn, skipChange, skipBy}
+use Rattle.getting.specs.Skip.{skipRows, skipRefusal, skipOn}
+use Rattle.input.specs.Skips.{skipMisused, skipChange, skipBy}
 use Rattle.input.proofs.Ready.{dropped-taken, input-ready}
 
 module _ (s : State) (file : ℕ) where

@@ -1,2 +1,2 @@
-pub mod Get
-pub mod Skip
+pub mod Calls
+pub mod Skips

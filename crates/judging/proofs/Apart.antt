@@ -7,7 +7,8 @@ use borrow.Author.Tests.{eqb-true, eq-eqb, not-true}
 use Rattle.area.proofs.Walks.{true-not-false, and-left, and-right, and-both, or-either, or-first, or-second}
 use Rattle.files.specs.declared.File.{File}
 use Rattle.sizes.specs.Opening.{closedFile}
-use Rattle.pool.specs.Free.{heldBy, serves}
+use Rattle.pool.specs.Free.{heldBy}
+use Rattle.serving.specs.Serving.{serves}
 use Rattle.filing.specs.Soundness.{shareBuffer, shareUnit, apart}
 use Rattle.filing.proofs.Shares.{held-shared}
 use Rattle.judging.specs.Soundness.{buffersApart, unitsApart}

@@ -17,7 +17,7 @@ use Rattle.channel.specs.declared.Unit.{Unit}
 use Rattle.channel.specs.declared.Channel.{Channel}
 use Rattle.channel.specs.declared.Work.{Work}
 use Rattle.channel.specs.declared.Work.the-variants.{At, Nothing}
-use Rattle.schedule.specs.declared.Asked.{Asked}
+use Rattle.beginning.specs.declared.Asked.{Asked}
 use Rattle.outcomes.specs.declared.Ending.{Ending}
 use Rattle.outcomes.specs.declared.Verdict.{Verdict}
 use Rattle.outcomes.specs.declared.Verdict.the-variants.{Refused, Repeats, Ends}
@@ -25,10 +25,11 @@ use Rattle.outcomes.specs.Rules.{verdictOf}
 use Rattle.channel.specs.Units.{size, idleUnit, unitAt, declaredAt, turnAt, withTurn, withMark, isIdle, acceptsAt}
 use Rattle.scanning.specs.Scans.{nextUnit, workingIn}
 use Rattle.area.specs.Lists.{isFound}
-use Rattle.schedule.specs.Turns.{startOf, thawOf, newRequest, askOf, judgeTurn, judgeOf, goesOn, incompleteTurn, repeatOf, isOrdinary, markAfter, endOf, bookOf, reportOf}
+use Rattle.schedule.specs.Turns.{judgeTurn, judgeOf, goesOn, incompleteTurn, repeatOf, isOrdinary, markAfter, endOf, bookOf, reportOf}
+use Rattle.beginning.specs.Starts.{startOf, thawOf, newRequest, askOf}
 use Rattle.service.specs.History.{Station, station, Event, ask, report, freeze, thaw, Step, step}
 use Rattle.scanning.proofs.Laws.Scans.{next-below}
-use Rattle.schedule.proofs.Laws.Turns.{ask-taken}
+use Rattle.beginning.proofs.Laws.Starts.{ask-taken}
 use Rattle.service.proofs.Theorems.Turning.{held, size-with, at-set, busy-inside, declared-inside}
 use Rattle.service.proofs.Theorems.Starts.{Begins, Started, isFrozen, isBusy, isQuiet, begins, started, start-alive}
 use Rattle.service.proofs.Theorems.Calls.{endedAt, Took, refuses, asks, repeats, ends, freezes, thaws, took}

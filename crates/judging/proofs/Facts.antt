@@ -26,7 +26,8 @@ use Rattle.channel.specs.Units.{size, idleUnit, unitAt, declaredAt, turnAt}
 use Rattle.files.specs.declared.File.{File}
 use Rattle.sizes.specs.Opening.{closedFile}
 use Rattle.reads.specs.Input.{hasFull}
-use Rattle.pool.specs.Free.{poolSound, serves}
+use Rattle.pool.specs.Free.{poolSound}
+use Rattle.serving.specs.Serving.{serves}
 use Rattle.filing.specs.Soundness.{inRange, hasBuffers, oneIf, takenCount, takenRight, fullRight, partRight, placeRight, restIsZero, openSound, isBlank, fileSound, shareBuffer, shareUnit, apart, filesSound}
 use Rattle.filing.proofs.Facts.{Sound, facts}
 use Rattle.filing.proofs.Facts as file

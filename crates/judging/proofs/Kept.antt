@@ -19,12 +19,14 @@ use Rattle.channel.specs.declared.Work.the-variants.{At, Nothing}
 use Rattle.channel.specs.Units.{declaredAt, turnAt}
 use Rattle.files.specs.declared.File.{File}
 use Rattle.sizes.specs.Opening.{closedFile}
-use Rattle.pool.specs.Free.{heldBy, isHeld, isFree, serves}
+use Rattle.pool.specs.Free.{heldBy, isHeld, isFree}
+use Rattle.serving.specs.Serving.{serves}
 use Rattle.filing.specs.Soundness.{takenCount, isBlank, shareBuffer, shareUnit, apart}
 use Rattle.filing.proofs.Facts.{Sound}
 use Rattle.filing.proofs.Replaced.{Alike}
 use Rattle.state.specs.declared.State.{State}
-use Rattle.state.specs.Places.{noChannel, fileAt, channelIn, channelAt, withFile, withChannel}
+use Rattle.state.specs.Places.{noChannel, fileAt, channelIn, channelAt}
+use Rattle.storing.specs.Stores.{withFile, withChannel}
 use Rattle.judging.specs.Requests.{requested, isNone, isRead, isWrite, fitsOutput}
 use Rattle.judging.specs.Soundness.{channelOf, requestOf}
 use Rattle.judging.specs.Judged.{fileReady}

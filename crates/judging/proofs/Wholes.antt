@@ -13,7 +13,7 @@ use Rattle.channel.specs.declared.Turn.the-variants.{Idle}
 use Rattle.channel.specs.declared.Channel.{Channel}
 use Rattle.channel.specs.declared.Work.{Work}
 use Rattle.channel.specs.Units.{size, declaredAt, turnAt, freshWith, bitsFrom, freshOf}
-use Rattle.schedule.specs.Turns.{thawOf}
+use Rattle.beginning.specs.Starts.{thawOf}
 use Rattle.files.specs.declared.File.{File}
 use Rattle.sizes.specs.Opening.{closedFile}
 use Rattle.pool.specs.Free.{fileCount, poolSound}

@@ -15,7 +15,8 @@ use Rattle.channel.specs.declared.Work.{Work}
 use Rattle.channel.specs.Units.{size, declaredAt}
 use Rattle.files.specs.declared.File.{File}
 use Rattle.reads.specs.Input.{hasFull}
-use Rattle.pool.specs.Free.{poolSound, serves}
+use Rattle.pool.specs.Free.{poolSound}
+use Rattle.serving.specs.Serving.{serves}
 use Rattle.filing.specs.Soundness.{oneIf, takenCount, filesSound}
 use Rattle.state.specs.declared.State.{State}
 use Rattle.judging.specs.Requests.{requested, isNone, isRead, isWrite, fitsOutput}

@@ -1,4 +1,3 @@
 pub mod Requests
 pub mod Soundness
 pub mod Judged
-pub mod Misused

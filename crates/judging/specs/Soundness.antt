@@ -17,7 +17,8 @@ use Rattle.channel.specs.Units.{unitWorks}
 use Rattle.channel.specs.Units.{size, declaredAt, turnAt}
 use Rattle.files.specs.declared.File.{File}
 use Rattle.reads.specs.Input.{hasFull}
-use Rattle.pool.specs.Free.{poolSound, serves}
+use Rattle.pool.specs.Free.{poolSound}
+use Rattle.serving.specs.Serving.{serves}
 use Rattle.filing.specs.Soundness.{inRange, hasBuffers, oneIf, takenCount, fullRight, partRight, placeRight, restIsZero, isBlank, shareBuffer, shareUnit}
 use Rattle.state.specs.declared.State.{State}
 use Rattle.state.specs.Places.{channelIn}

@@ -9,7 +9,7 @@ use channel::UNITS;
 use channel::Unit;
 use files::File;
 use pool::FILES;
-use pool::serves;
+use serving::serves;
 use state::CHANNELS;
 ghost use mathlib.Core.Path.{_≡_};
 ghost use Prim.Native.Nat.{_≤_};
@@ -17,7 +17,7 @@ ghost use Rattle.area.specs.Lists.{anyOf, allOf, countOf};
 ghost use Rattle.area.specs.Numbered.{allFrom};
 ghost use Rattle.channel.specs.Units.{unitWorks};
 ghost use Rattle.channel.specs.Units.{unitCount};
-ghost use Rattle.pool.specs.Free.{serves as servesUnit};
+ghost use Rattle.serving.specs.Serving.{serves as servesUnit};
 ghost use Rattle.judging.specs.Soundness.{unitWaits, worksRight};
 ghost use Rattle.judging.specs.Judged.{unitRight, unitServed, channelRight};
 

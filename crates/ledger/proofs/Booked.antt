@@ -17,7 +17,8 @@ use Rattle.files.specs.declared.Side.{Side}
 use Rattle.files.specs.declared.Side.the-variants.{Low, High, Neither}
 use Rattle.files.specs.declared.File.{File}
 use Rattle.slots.specs.Slots.{isTaken, isPart, isFull, partWords, fullWords}
-use Rattle.files.specs.Sides.{bufferAt, slotAt, startAt, isSide, lower, takenSide, partSide, oldest, withSlot, turnedBy, nextBlock, filledAt, emptiedAt, withoutOldest}
+use Rattle.files.specs.Sides.{bufferAt, slotAt, startAt, isSide, lower, takenSide, partSide, oldest}
+use Rattle.filling.specs.Fills.{withSlot, turnedBy, nextBlock, filledAt, emptiedAt, withoutOldest}
 use Rattle.sizes.specs.Opening.{extra}
 use Rattle.reads.specs.Input.{blockFits, delivered, gaveBack, withMark, metMark}
 use Rattle.puts.specs.Output.{partStart, partLength}

@@ -18,7 +18,8 @@ use Rattle.files.specs.declared.Side.{Side}
 use Rattle.files.specs.declared.Side.the-variants.{Neither}
 use Rattle.files.specs.declared.File.{File}
 use Rattle.slots.specs.Slots.{isEmpty}
-use Rattle.files.specs.Sides.{bufferAt, slotAt, isSide, oldest, withSlot, nextBlock, emptiedAt, withoutOldest}
+use Rattle.files.specs.Sides.{bufferAt, slotAt, isSide, oldest}
+use Rattle.filling.specs.Fills.{withSlot, nextBlock, emptiedAt, withoutOldest}
 use Rattle.ages.specs.Blocks.{Block, line}
 use Rattle.ages.proofs.Ages.{block, Aged, noBlock, old, aged}
 use Rattle.gets.specs.Gets.{isUsedUp, passed}

@@ -4,7 +4,7 @@ use mathlib.Core.Bool.{Bool, true, false, _&&_, _||_}
 use mathlib.Core.List.{List, [], _++_, map, append-nil}
 use Prim.Native.Nat.{ℕ}
 use Rattle.area.proofs.Walks.{or-left, or-right}
-use Rattle.area.proofs.Exactly.{here, later}
+use Rattle.area.specs.Refusals.{here, later}
 use Rattle.files.specs.declared.Side.the-variants.{Low, High}
 use Rattle.files.specs.declared.File.{File}
 use Rattle.slots.specs.Slots.{isPart, isFull, partWords}
@@ -16,8 +16,9 @@ use Rattle.ages.specs.Blocks.{Block, inOrder, line}
 use Rattle.area.specs.Parts.{partOf}
 use Rattle.state.specs.declared.State.{State}
 use Rattle.state.specs.Places.{fileAt}
-use Rattle.closing.specs.Close.{closeRows, closeBy}
-use Rattle.closing.proofs.CloseTheorems.{close-exactly}
+use Rattle.binding.specs.Close.{closeRows}
+use Rattle.opening.specs.Ends.{closeBy}
+use Rattle.opening.proofs.CloseTheorems.{close-exactly}
 use Rattle.ledger.specs.Ledgers.{dataOf}
 use Rattle.ledger.specs.Blocks.{blockIn, partIn, joined}
 use Rattle.ledger.proofs.Told.{Wrote}

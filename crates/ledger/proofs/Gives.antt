@@ -16,7 +16,8 @@ use Rattle.slots.specs.declared.Slot.the-variants.{Full}
 use Rattle.files.specs.declared.Side.{Side}
 use Rattle.files.specs.declared.Side.the-variants.{Neither}
 use Rattle.files.specs.declared.File.{File}
-use Rattle.files.specs.Sides.{bufferAt, slotAt, startAt, isSide, oldest, withSlot}
+use Rattle.files.specs.Sides.{bufferAt, slotAt, startAt, isSide, oldest}
+use Rattle.filling.specs.Fills.{withSlot}
 use Rattle.ages.proofs.Ages.{block, Aged, noBlock, old, aged}
 use Rattle.gets.specs.declared.Got.{Got}
 use Rattle.gets.specs.declared.Got.the-variants.{Record, Leftover, Error}

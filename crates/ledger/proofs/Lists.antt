@@ -3,7 +3,7 @@ use mathlib.Core.Path.{_≡_, refl, sym, ap, ap₂, _∙_}
 use mathlib.Core.Bool.{Bool}
 use mathlib.Core.List.{List, [], _∷_, _++_, map, append-assoc, append-nil}
 use Prim.Native.Nat.{ℕ}
-use Rattle.files.specs.Sides.{nextBlock}
+use Rattle.filling.specs.Fills.{nextBlock}
 use Rattle.sealing.specs.Blocks.{judged}
 use Rattle.ledger.specs.Ledgers.{contentsOf}
 use Rattle.ledger.specs.Blocks.{checked, allChecked, joined, contents, numberAfter}

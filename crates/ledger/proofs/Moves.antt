@@ -10,7 +10,8 @@ use borrow.Author.Tests.{eq-eqb, ne-eqb}
 use Rattle.area.proofs.Marks.{cond-true, cond-false}
 use Rattle.slots.specs.declared.Slot.the-variants.{Empty, Part, Full}
 use Rattle.files.specs.declared.File.{File}
-use Rattle.files.specs.Sides.{bufferAt, slotAt, isSide, partSide, oldest, withSlot, turnedBy, nextBlock, filledAt, emptiedAt, withoutOldest}
+use Rattle.files.specs.Sides.{bufferAt, slotAt, isSide, partSide, oldest}
+use Rattle.filling.specs.Fills.{withSlot, turnedBy, nextBlock, filledAt, emptiedAt, withoutOldest}
 use Rattle.puts.specs.Output.{putSide, wordsAfter, partStart, partLength, sealed, afterPut}
 use Rattle.gets.specs.Gets.{isUsedUp, passed, lookedAt, slotAfter, afterFound, getFrom}
 use Rattle.filing.proofs.Facts.{Sound}
@@ -20,10 +21,10 @@ use Rattle.filing.proofs.Changes.{own-part}
 use Rattle.state.specs.declared.State.{State}
 use Rattle.state.specs.Places.{fileAt}
 use Rattle.judging.proofs.Facts.{sound-facts}
-use Rattle.input.specs.Get.{getBy, getWords}
-use Rattle.input.specs.Skip.{skipBy}
-use Rattle.output.specs.Put.{putBy, putByArea}
-use Rattle.output.specs.Seal.{sealBy, sealByArea}
+use Rattle.input.specs.Calls.{getBy, getWords}
+use Rattle.input.specs.Skips.{skipBy}
+use Rattle.output.specs.Calls.{putBy, putByArea}
+use Rattle.output.specs.Seals.{sealBy, sealByArea}
 use Rattle.input.proofs.GetTheorems.{get-open, get-input, get-area-long, get-finds, get-file, get-frame}
 use Rattle.input.proofs.SkipTheorems.{skip-open, skip-input, skip-full, skip-drops, skip-frame}
 use Rattle.output.proofs.PutTheorems.{put-open, put-output, put-room, put-file, put-own-buffer, put-adds, put-seals, put-frame}

@@ -11,7 +11,7 @@ use borrow.Author.Tests.{eq-eqb, ltb-false}
 use Rattle.area.specs.Parts.{partOf, pastedIn}
 use Rattle.area.proofs.Walks.{and-left, or-left, or-right}
 use Rattle.area.proofs.Marks.{cond-true, cond-false}
-use Rattle.area.proofs.Exactly.{here}
+use Rattle.area.specs.Refusals.{here}
 use Rattle.sealing.specs.Blocks.{judged}
 use Rattle.channel.specs.declared.Channel.{Channel}
 use Rattle.outcomes.specs.Rules.{resultNumber}
@@ -20,10 +20,11 @@ use Rattle.channel.specs.Units.{turnAt, operationAt}
 use Rattle.schedule.specs.Turns.{judgeOf, bookOf}
 use Rattle.files.specs.declared.Side.{Side}
 use Rattle.files.specs.declared.File.{File}
-use Rattle.files.specs.Sides.{bufferAt, startAt, takenSide, withoutOldest}
+use Rattle.files.specs.Sides.{bufferAt, startAt, takenSide}
+use Rattle.filling.specs.Fills.{withoutOldest}
 use Rattle.reads.specs.Input.{hasFull, gaveBack, metMark}
 use Rattle.sends.specs.Sends.{sendStart, sendWords, afterWrite}
-use Rattle.pool.specs.Free.{serves}
+use Rattle.serving.specs.Serving.{serves}
 use Rattle.filing.proofs.Facts.{Sound}
 use Rattle.filing.proofs.Kept.{owns}
 use Rattle.filing.proofs.Changes.{taken-input}

@@ -9,9 +9,9 @@ use native.Mathlib.Omega.{arith}
 use lib.ListN.{length, take, length-append}
 use lib.Seq.{take-at}
 use Rattle.word.specs.Sums.{logicalSum}
-use Rattle.word.specs.CheckWords.{checkWord}
+use Rattle.checkword.specs.CheckWords.{checkWord}
 use Rattle.files.specs.declared.File.{File}
-use Rattle.files.specs.Sides.{blockNumbers, nextBlock}
+use Rattle.filling.specs.Fills.{blockNumbers, nextBlock}
 use Rattle.ledger.specs.Ledgers.{dataOf}
 use Rattle.ledger.specs.Blocks.{blocksIn, partIn, checked, allChecked, joined, numberAfter}
 use Rattle.ledger.proofs.Told.{Wrote}

@@ -14,7 +14,8 @@ use Rattle.files.specs.declared.Side.{Side}
 use Rattle.files.specs.declared.Side.the-variants.{Low, High, Neither}
 use Rattle.files.specs.declared.File.{File}
 use Rattle.slots.specs.Slots.{isEmpty, isPart, isFull, partWords}
-use Rattle.files.specs.Sides.{bufferAt, slotAt, startAt, isSide, lower, emptySide, partSide, withSlot}
+use Rattle.files.specs.Sides.{bufferAt, slotAt, startAt, isSide, lower, emptySide, partSide}
+use Rattle.filling.specs.Fills.{withSlot}
 use Rattle.puts.specs.Output.{putSide, partStart, partLength, isComplete}
 use Rattle.ages.specs.Blocks.{fullIn, fullAt}
 use Rattle.files.proofs.Which.{none-side, empty-there, part-there}

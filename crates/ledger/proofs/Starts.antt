@@ -12,7 +12,8 @@ use Rattle.files.specs.declared.Side.the-variants.{Low, High, Neither}
 use Rattle.files.specs.declared.File.{File}
 use Rattle.sizes.specs.declared.Wish.{Wish}
 use Rattle.slots.specs.Slots.{isEmpty, isPart}
-use Rattle.files.specs.Sides.{slotAt, isSide, emptySide, partSide, withSlot}
+use Rattle.files.specs.Sides.{slotAt, isSide, emptySide, partSide}
+use Rattle.filling.specs.Fills.{withSlot}
 use Rattle.sizes.specs.Opening.{openedFile, closedFile}
 use Rattle.reads.specs.Input.{tookBuffer}
 use Rattle.puts.specs.Output.{partStart, partLength}
@@ -25,13 +26,14 @@ use Rattle.state.specs.Places.{fileAt, channelAt}
 use Rattle.judging.proofs.Kept.{place-of}
 use Rattle.starting.specs.declared.Masks.{Masks}
 use Rattle.starting.specs.Fresh.{freshState, freshBy}
-use Rattle.opening.specs.Open.{isSet, wishOf, openBy}
-use Rattle.closing.specs.Close.{closeBy}
-use Rattle.starting.specs.Freeze.{freezeBy, thawBy}
+use Rattle.binding.specs.Open.{isSet, wishOf}
+use Rattle.opening.specs.Calls.{openBy}
+use Rattle.opening.specs.Ends.{closeBy}
+use Rattle.freezing.specs.Freeze.{freezeBy, thawBy}
 use Rattle.starting.proofs.FreshTheorems.{fresh-accepted}
 use Rattle.opening.proofs.OpenTheorems.{lowOf, highOf, open-file, open-frame}
-use Rattle.closing.proofs.CloseTheorems.{close-file, close-frame}
-use Rattle.starting.proofs.FreezeTheorems.{OnlyTurns, freeze-frame, thaw-frame}
+use Rattle.opening.proofs.CloseTheorems.{close-file, close-frame}
+use Rattle.freezing.proofs.FreezeTheorems.{OnlyTurns, freeze-frame, thaw-frame}
 use Rattle.asking.specs.declared.AskChange.{AskChange}
 use Rattle.asking.specs.Ask.{isReading, askRefusal, askedFile}
 use Rattle.requests.specs.Calls.{askWrong, askChange, askBy}

@@ -13,7 +13,8 @@ use Rattle.files.specs.declared.Side.{Side}
 use Rattle.files.specs.declared.Side.the-variants.{Neither}
 use Rattle.files.specs.declared.File.{File}
 use Rattle.slots.specs.Slots.{isPart, partWords, fullWords}
-use Rattle.files.specs.Sides.{bufferAt, slotAt, startAt, isSide, partSide, oldest, withSlot, turnedBy, nextBlock, filledAt, emptiedAt, withoutOldest}
+use Rattle.files.specs.Sides.{bufferAt, slotAt, startAt, isSide, partSide, oldest}
+use Rattle.filling.specs.Fills.{withSlot, turnedBy, nextBlock, filledAt, emptiedAt, withoutOldest}
 use Rattle.sizes.specs.Opening.{extra}
 use Rattle.puts.specs.Output.{putSide, wordsAfter, added, partStart, partLength, isComplete, sealed, afterPut}
 use Rattle.sends.specs.Sends.{sendStart, sendWords}

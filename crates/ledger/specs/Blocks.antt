@@ -4,10 +4,10 @@ use mathlib.Core.Bool.{Bool, cond, _||_}
 use mathlib.Core.List.{List, [], _∷_, _++_, map}
 use Rattle.area.specs.Parts.{partOf}
 use Rattle.word.specs.Sums.{logicalSum}
-use Rattle.word.specs.CheckWords.{checkWord}
+use Rattle.checkword.specs.CheckWords.{checkWord}
 use Rattle.sealing.specs.Blocks.{judged}
 use Rattle.files.specs.declared.File.{File}
-use Rattle.files.specs.Sides.{nextBlock}
+use Rattle.filling.specs.Fills.{nextBlock}
 use Rattle.sizes.specs.Opening.{extra}
 use Rattle.puts.specs.Output.{partStart, partLength}
 use Rattle.ages.specs.Blocks.{Block, line}

@@ -8,7 +8,7 @@ use Rattle.sizes.specs.Opening.{extra}
 use Rattle.gets.specs.declared.Got.{Got}
 use Rattle.gets.specs.declared.Got.the-variants.{Record, Leftover, Error, End, Nothing}
 use Rattle.state.specs.declared.State.{State}
-use Rattle.opening.specs.Open.{isSet}
+use Rattle.binding.specs.Open.{isSet}
 use Rattle.histories.specs.Calls.{Call, fresh, opening, close, ask, report, get, put, seal, skip, freeze, thaw, Added, nothing, working, reported, got, Answer, answerOf}
 use Rattle.histories.specs.Histories.{isAccepted}
 

@@ -10,8 +10,9 @@ use Rattle.channel.specs.declared.Channel.{Channel}
 use Rattle.files.specs.declared.File.{File}
 use Rattle.sizes.specs.Opening.{closedFile}
 use Rattle.state.specs.declared.State.{State}
-use Rattle.state.specs.Places.{fileAt, withFile}
-use Rattle.starting.specs.Answers.{called}
+use Rattle.state.specs.Places.{fileAt}
+use Rattle.storing.specs.Stores.{withFile}
+use Rattle.changing.specs.Answers.{called}
 
 -- t is s, but for the file of number i
 pub record OnlyFile (s : State) (i : ℕ) (t : State) : Type 0 where

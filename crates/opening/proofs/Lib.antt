@@ -1,3 +1,3 @@
-pub mod Frees
 pub mod Frames
 pub mod OpenTheorems
+pub mod CloseTheorems

@@ -11,27 +11,30 @@ use lib.Dec.{leb, ltb, eqb}
 use lib.ListN.{length, getD, set}
 use lib.Seq.{getD-set-same}
 use borrow.Author.Tests.{leb-false, ltb-false, eq-eqb, not-true}
-use Rattle.area.specs.Refusals.{Rows, lowest}
+use Rattle.area.specs.Refusals.{Rows, lowest, Exactly, NoneApplies, here, later}
 use Rattle.area.proofs.Walks.{by-test, true-not-false, and-both, or-left, or-right, or-first, or-second, none-at}
 use Rattle.area.proofs.Marks.{cond-true}
-use Rattle.area.proofs.Exactly.{Exactly, NoneApplies, here, later, exactly}
+use Rattle.area.proofs.Exactly.{exactly}
 use Rattle.channel.specs.Units.{unitCount, declaredAt}
 use Rattle.files.specs.declared.File.{File}
 use Rattle.sizes.specs.declared.Wish.{Wish}
 use Rattle.sizes.specs.Opening.{sizesFit, buffersFor, openedFile, closedFile}
-use Rattle.pool.specs.Free.{fileCount, heldBy, isHeld, isFree, freeCount, serves, isBound}
+use Rattle.pool.specs.Free.{fileCount, heldBy, isHeld, isFree, freeCount, Lowest}
+use Rattle.serving.specs.Serving.{serves, isBound}
 use Rattle.filing.proofs.Changes.{opened-sound}
 use Rattle.filing.proofs.Replaced.{unbound}
 use Rattle.state.specs.declared.State.{State}
-use Rattle.state.specs.Places.{channelCount, fileAt, channelAt, withFile}
+use Rattle.state.specs.Places.{channelCount, fileAt, channelAt}
+use Rattle.storing.specs.Stores.{withFile}
 use Rattle.judging.specs.Soundness.{sound}
 use Rattle.judging.proofs.Everywhere.{by-place}
 use Rattle.judging.proofs.Facts.{sound-facts, facts-sound}
 use Rattle.judging.proofs.Kept.{open-kept as open-facts}
-use Rattle.opening.specs.Open.{isSet, wishOf, lowestNumber, freeOf, openRows, openOff, openOn, openChange, openBy}
-use Rattle.starting.proofs.Answered.{not-so, state-refused, state-accepted, file-accepted}
+use Rattle.binding.specs.Open.{isSet, wishOf, lowestNumber, freeOf, openRows, openOn}
+use Rattle.opening.specs.Calls.{openOff, openChange, openBy}
+use Rattle.changing.proofs.Answered.{not-so, state-refused, state-accepted, file-accepted}
 use Rattle.opening.proofs.Frames.{OnlyFile, store-frame}
-use Rattle.opening.proofs.Frees.{Lowest, first-free, second-free}
+use Rattle.binding.proofs.Frees.{first-free, second-free}
 
 module _ (s : State) (file channel unit flags size rlen : ℕ) where
   -- the rows of this open

@@ -18,7 +18,8 @@ use Rattle.files.specs.declared.Side.{Side}
 use Rattle.files.specs.declared.Side.the-variants.{Low, High, Neither}
 use Rattle.files.specs.declared.File.{File}
 use Rattle.slots.specs.Slots.{isPart, partWords}
-use Rattle.files.specs.Sides.{bufferAt, slotAt, startAt, isSide, lower, emptySide, partSide, withSlot}
+use Rattle.files.specs.Sides.{bufferAt, slotAt, startAt, isSide, lower, emptySide, partSide}
+use Rattle.filling.specs.Fills.{withSlot}
 use Rattle.sizes.specs.Opening.{extra}
 use Rattle.puts.specs.Output.{putSide, wordsAfter, added, partStart, partLength}
 use Rattle.files.proofs.Which.{none-side, empty-there}
@@ -27,7 +28,7 @@ use Rattle.filing.proofs.Kept.{other}
 use Rattle.filing.proofs.Changes.{one-record}
 use Rattle.filing.proofs.Puts.{PutAt, put-at}
 use Rattle.filing.proofs.Inside.{put-inside, size-fits}
-use Rattle.output.specs.Blocks.{heldRight, sealedIn, sealedArea}
+use Rattle.putting.specs.Blocks.{heldRight, sealedIn, sealedArea}
 
 -- a buffer of which a word lies among the words of m buffers lies there whole
 pub whole-buffer : (b w m x : ℕ) → 1 ≤ x → b * w + x ≤ m * w → b * w + w ≤ m * w

@@ -10,8 +10,8 @@ use Rattle.area.specs.Lists.{allOf}
 use Rattle.area.specs.Parts.{isWord, partOf, pastedIn}
 use Rattle.area.proofs.Walks.{all-append}
 use Rattle.word.specs.Sums.{logicalSum}
-use Rattle.word.specs.CheckWords.{checkWord, IsCheckWord}
-use Rattle.word.proofs.Laws.CheckWord.{check-word-is}
+use Rattle.checkword.specs.CheckWords.{checkWord, IsCheckWord}
+use Rattle.checkword.proofs.Laws.CheckWord.{check-word-is}
 use Rattle.files.specs.declared.File.{File}
 use Rattle.slots.specs.Slots.{partWords}
 use Rattle.files.specs.Sides.{slotAt, startAt, isSide, partSide}
@@ -19,8 +19,8 @@ use Rattle.sizes.specs.Opening.{extra}
 use Rattle.puts.specs.Output.{putSide, putStart, wordsAfter, added, isComplete, partStart, partLength}
 use Rattle.filing.proofs.Facts.{Sound}
 use Rattle.output.specs.Only.{Only}
-use Rattle.output.specs.Blocks.{heldRight, sealedArea}
-use Rattle.output.specs.Put.{filledArea, putArea}
+use Rattle.putting.specs.Blocks.{heldRight, sealedArea}
+use Rattle.putting.specs.Put.{filledArea, putArea}
 use Rattle.output.proofs.Written.{only-wider, only-then, pasted-only, pasted-part, part-join, part-same, sealed-only, sealed-block}
 use Rattle.output.proofs.Buffers.{part-first, room-too, held-is, buffer-within, block-fits, sealed-there}
 

@@ -1,4 +1,3 @@
-pub mod Seals
 pub mod Steps
 pub mod Written
 pub mod Buffers

@@ -11,9 +11,9 @@ use lib.ListN.{length}
 use lib.Seq.{getD-set-same, getD-set-other}
 use Rattle.area.specs.Lists.{allOf}
 use Rattle.area.specs.Parts.{isWord, partOf}
-use Rattle.area.specs.Refusals.{Rows, lowest}
+use Rattle.area.specs.Refusals.{Rows, lowest, Exactly, NoneApplies, here, later}
 use Rattle.area.proofs.Walks.{or-left, or-right, true-not-false, and-both}
-use Rattle.area.proofs.Exactly.{Exactly, NoneApplies, here, later, exactly}
+use Rattle.area.proofs.Exactly.{exactly}
 use Rattle.files.specs.declared.File.{File}
 use Rattle.slots.specs.Slots.{partWords}
 use Rattle.files.specs.Sides.{bufferAt, slotAt, startAt}
@@ -24,14 +24,16 @@ use Rattle.filing.proofs.Facts.{Sound}
 use Rattle.filing.proofs.Puts.{put-sound}
 use Rattle.filing.proofs.Events.{event-alike}
 use Rattle.state.specs.declared.State.{State}
-use Rattle.state.specs.Places.{fileAt, withFile, areaShort}
-use Rattle.judging.specs.Misused.{misused}
+use Rattle.state.specs.Places.{fileAt, areaShort}
+use Rattle.storing.specs.Stores.{withFile}
+use Rattle.misusing.specs.Misused.{misused}
 use Rattle.judging.specs.Soundness.{sound, requestOf}
 use Rattle.judging.proofs.Facts.{SoundFacts, sound-facts, facts-sound}
 use Rattle.judging.proofs.Kept.{file-kept, holdings, place-of}
 use Rattle.output.specs.Only.{Only}
-use Rattle.output.specs.Blocks.{heldRight}
-use Rattle.output.specs.Put.{isTaken, sums, putRows, putRefusal, putArea, putOn, putOnArea, putChange, putBy, putByArea}
+use Rattle.putting.specs.Blocks.{heldRight}
+use Rattle.putting.specs.Put.{isTaken, sums, putRows, putRefusal, putArea, putOn, putOnArea}
+use Rattle.output.specs.Calls.{putChange, putBy, putByArea}
 use Rattle.output.proofs.Written.{only-self, other-buffer}
 use Rattle.output.proofs.Fillings.{withCheck, put-only, put-buffer, put-added, put-sealed}
 use Rattle.output.proofs.Ready.{put-full, output-ready}

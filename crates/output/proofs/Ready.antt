@@ -14,7 +14,8 @@ use Rattle.files.specs.declared.Side.{Side}
 use Rattle.files.specs.declared.Side.the-variants.{Low, High, Neither}
 use Rattle.files.specs.declared.File.{File}
 use Rattle.slots.specs.Slots.{isFull}
-use Rattle.files.specs.Sides.{isSide, lower, oldest, partSide, withSlot, turnedBy, filledAt}
+use Rattle.files.specs.Sides.{isSide, lower, oldest, partSide}
+use Rattle.filling.specs.Fills.{withSlot, turnedBy, filledAt}
 use Rattle.reads.specs.Input.{hasFull}
 use Rattle.puts.specs.Output.{putSide, wordsAfter, added, partLength, sealed, afterPut}
 use Rattle.ages.specs.Blocks.{line}

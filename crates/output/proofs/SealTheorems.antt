@@ -10,9 +10,9 @@ use lib.Dec.{ltb, eqb}
 use lib.ListN.{length}
 use lib.Seq.{getD-set-same, getD-set-other}
 use Rattle.area.specs.Parts.{partOf}
-use Rattle.area.specs.Refusals.{Rows, lowest}
+use Rattle.area.specs.Refusals.{Rows, lowest, Exactly, NoneApplies, here, later}
 use Rattle.area.proofs.Walks.{or-left, or-right, true-not-false, and-both}
-use Rattle.area.proofs.Exactly.{Exactly, NoneApplies, here, later, exactly}
+use Rattle.area.proofs.Exactly.{exactly}
 use Rattle.files.specs.declared.File.{File}
 use Rattle.files.specs.Sides.{bufferAt, partSide}
 use Rattle.sizes.specs.Opening.{closedFile, extra}
@@ -22,14 +22,16 @@ use Rattle.filing.proofs.Facts.{Sound}
 use Rattle.filing.proofs.Changes.{sealed-sound}
 use Rattle.filing.proofs.Events.{event-alike}
 use Rattle.state.specs.declared.State.{State}
-use Rattle.state.specs.Places.{fileAt, withFile, areaShort}
-use Rattle.judging.specs.Misused.{misused}
+use Rattle.state.specs.Places.{fileAt, areaShort}
+use Rattle.storing.specs.Stores.{withFile}
+use Rattle.misusing.specs.Misused.{misused}
 use Rattle.judging.specs.Soundness.{sound, requestOf}
 use Rattle.judging.proofs.Facts.{SoundFacts, sound-facts, facts-sound}
 use Rattle.judging.proofs.Kept.{file-kept, holdings, place-of}
 use Rattle.output.specs.Only.{Only}
-use Rattle.output.specs.Blocks.{heldRight, sealedArea}
-use Rattle.output.specs.Seal.{sealSums, sealRows, sealRefusal, sealOn, sealOnArea, sealChange, sealBy, sealByArea}
+use Rattle.putting.specs.Blocks.{heldRight, sealedArea}
+use Rattle.putting.specs.Seal.{sealSums, sealRows, sealRefusal, sealOn, sealOnArea}
+use Rattle.output.specs.Seals.{sealChange, sealBy, sealByArea}
 use Rattle.output.proofs.Written.{only-self, other-buffer}
 use Rattle.output.proofs.Fillings.{withCheck, seal-only, seal-buffer, seal-block}
 use Rattle.output.proofs.Ready.{sealed-full, output-ready}

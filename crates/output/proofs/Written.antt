@@ -15,13 +15,13 @@ use Rattle.area.specs.Lists.{allOf}
 use Rattle.area.specs.Parts.{isWord, partOf, paste, pastedIn}
 use Rattle.area.proofs.Pastes.{length-part, length-paste, paste-fitting, paste-part, paste-before, paste-after}
 use Rattle.word.specs.Sums.{logicalSum}
-use Rattle.word.specs.CheckWords.{checkWord, IsCheckWord}
+use Rattle.checkword.specs.CheckWords.{checkWord, IsCheckWord}
 use Rattle.sealing.specs.Blocks.{extra, sealRefusal, sealed}
-use Rattle.word.proofs.Laws.CheckWord.{check-word-is}
+use Rattle.checkword.proofs.Laws.CheckWord.{check-word-is}
 use Rattle.sealing.proofs.Laws.Block.{seal-accepted, seal-writes, seal-leaves}
 use Rattle.output.specs.Only.{Only}
-use Rattle.output.specs.Blocks.{sealedIn}
-use Rattle.output.proofs.Seals.{length-sealed}
+use Rattle.putting.specs.Blocks.{sealedIn}
+use Rattle.putting.proofs.Seals.{length-sealed}
 
 -- ---- Only
 

@@ -1,4 +1,3 @@
 pub mod Only
-pub mod Blocks
-pub mod Put
-pub mod Seal
+pub mod Calls
+pub mod Seals

@@ -97,21 +97,11 @@ fn get(head: &[u64], s: State, area: &[u64]) -> State {
 }
 
 fn put(head: &[u64], s: State, area: &mut [u64], given: &[u64]) -> State {
-    let r = pack::put(s, area, byte(head, 0), given);
-    alone(r.refusal as u64);
-    r.state
+    plain(pack::put(s, area, byte(head, 0), given))
 }
 
 fn seal(head: &[u64], s: State, area: &mut [u64]) -> State {
-    let r = pack::seal(s, area, byte(head, 0));
-    alone(r.refusal as u64);
-    r.state
-}
-
-fn skip(head: &[u64], s: State) -> State {
-    let r = pack::skip(s, byte(head, 0));
-    alone(r.refusal as u64);
-    r.state
+    plain(pack::seal(s, area, byte(head, 0)))
 }
 
 // The calls that take no area.
@@ -120,7 +110,7 @@ fn without_area(kind: u64, head: &[u64], s: State) -> State {
         1 => open(head, s),
         2 => plain(pack::close(s, byte(head, 0))),
         3 => ask(head, s),
-        8 => skip(head, s),
+        8 => plain(pack::skip(s, byte(head, 0))),
         9 => plain(pack::freeze(s)),
         _ => plain(pack::thaw(s)),
     }

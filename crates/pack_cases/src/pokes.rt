@@ -11,8 +11,8 @@ use slots::Slot;
 use state::State;
 use state::channel_at;
 use state::file_at;
-use state::with_channel;
-use state::with_file;
+use storing::with_channel;
+use storing::with_file;
 
 fn byte(n: u64) -> u8 {
     (n % 256) as u8

@@ -10,20 +10,13 @@ use Rattle.area.specs.declared.Found.the-variants.{At}
 use Rattle.area.specs.Lists.{firstAlong, countAlong}
 use Rattle.area.proofs.Marks.{first-counted, first-lowest}
 use Rattle.files.specs.declared.File.{File}
-use Rattle.pool.specs.Free.{isFree, lowestFree, freeCount}
-
--- buffer b is the lowest free one of those from k on
-pub record Lowest (m : ℕ) (fs : List File) (k b : ℕ) : Type 0 where
-  pub from : k ≤ b
-  pub inside : b < m
-  pub free : isFree fs b ≡ true
-  pub lowest : (j : ℕ) → k ≤ j → j < b → isFree fs j ≡ false
+use Rattle.pool.specs.Free.{isFree, lowestFree, Lowest, freeCount}
 
 pub found-lowest : (m : ℕ) (fs : List File) (k b : ℕ) → lowestFree m fs k ≡ At b → Lowest m fs k b
 unfolding lowestFree
 found-lowest m fs k b e =
     let L = first-lowest (isFree fs) (m - k) k b e in
-    record { from = L .0; inside = omega (arith, L .0, L .1); free = L .2; lowest = L .3 }
+    record { from = L .0; below = omega (arith, L .0, L .1); free = L .2; lower = L .3 }
 
 -- where a buffer is free, the lowest is found
 pub record One (m : ℕ) (fs : List File) : Type 0 where

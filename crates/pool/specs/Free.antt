@@ -1,13 +1,13 @@
--- Which buffers of a pool are free, and which file serves a unit (document 01, "Sizes"). Assumes nothing.
-use Prim.Native.Nat.{ℕ, suc, _+_, _-_}
+-- Which buffers of a pool are free (document 01, "Sizes"). Assumes nothing.
+use Prim.Native.Nat.{ℕ, suc, _+_, _-_, _≤_, _<_}
+use mathlib.Core.Path.{_≡_}
 use mathlib.Core.Bool.{Bool, true, false, not, cond, _&&_, _||_}
 use mathlib.Core.List.{List, [], _∷_}
 use lib.Dec.{leb, eqb}
-use lib.ListN.{getD}
 use Rattle.area.specs.declared.Found.{Found}
-use Rattle.area.specs.Lists.{anyOf, countOf, firstAlong, isFound, countAlong}
+use Rattle.area.specs.Lists.{anyOf, countOf, firstAlong, countAlong}
 use Rattle.files.specs.declared.File.{File}
-use Rattle.sizes.specs.Opening.{buffersFor, closedFile}
+use Rattle.sizes.specs.Opening.{buffersFor}
 
 -- "Files 0 to 15."
 abbrev pub fileCount : ℕ
@@ -42,21 +42,16 @@ isFree fs b = not (isHeld fs b)
 unfoldable pub lowestFree : ℕ → List File → ℕ → Found
 lowestFree m fs k = firstAlong suc (isFree fs) (m - k) k
 
+-- said plainly: b is the lowest free one of the buffers k up to m
+pub record Lowest (m : ℕ) (fs : List File) (k b : ℕ) : Type 0 where
+  pub from : k ≤ b
+  pub below : b < m
+  pub free : isFree fs b ≡ true
+  pub lower : (j : ℕ) → k ≤ j → j < b → isFree fs j ≡ false
+
 -- how many buffers of the pool are free
 unfoldable pub freeCount : ℕ → List File → ℕ
 freeCount m fs = countAlong suc (isFree fs) m 0
-
--- "An open file is bound to one unit"
-abbrev pub serves : ℕ → ℕ → File → Bool
-serves channel unit f = f .opened && (eqb (f .channel) channel && eqb (f .unit) unit)
-
--- the file number that serves a unit
-unfoldable pub servingFile : List File → ℕ → ℕ → Found
-servingFile fs channel unit = firstAlong suc (λ i. serves channel unit (getD fs i closedFile)) fileCount 0
-
--- refusal 4, "unit already bound"
-abbrev pub isBound : List File → ℕ → ℕ → Bool
-isBound fs channel unit = isFound (servingFile fs channel unit)
 
 -- how many open files hold buffer b
 abbrev pub holders : List File → ℕ → ℕ

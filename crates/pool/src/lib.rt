@@ -1,16 +1,12 @@
-// The files over one pool of buffers: which buffers are free, and which file serves a unit. It knows nothing of channels and requests,
-// and only numbers the buffers. When the files are sound stands in `filing`.
+// The files over one pool of buffers: which buffers are free. It knows nothing of channels and requests, and only numbers the buffers.
+// When the files are sound stands in `filing`.
 mod free;
-mod units;
 
 pub use free::free_count;
 pub use free::holds;
 pub use free::lowest_free;
 pub use free::pool_fits;
 pub use free::pool_sound;
-pub use units::is_bound;
-pub use units::serves;
-pub use units::serving_file;
 
 // How many files there are; how many buffers a pool may have, and how many words a buffer.
 pub const FILES: usize = 16;

@@ -6,7 +6,8 @@ use Rattle.slots.specs.declared.Slot.the-variants.{Part}
 use Rattle.files.specs.declared.Side.{Side}
 use Rattle.files.specs.declared.File.{File}
 use Rattle.slots.specs.Slots.{partWords}
-use Rattle.files.specs.Sides.{slotAt, startAt, isSide, emptySide, partSide, withSlot, filledAt}
+use Rattle.files.specs.Sides.{slotAt, startAt, isSide, emptySide, partSide}
+use Rattle.filling.specs.Fills.{withSlot, filledAt}
 
 -- "adds them to the part-filled buffer, or to the lowest empty one"
 unfoldable pub putSide : File → Side

@@ -2,12 +2,12 @@
 use files::File;
 use files::Side;
 use files::empty_side;
-use files::filled_at;
 use files::is_side;
 use files::part_side;
 use files::slot_at;
 use files::start_at;
-use files::with_slot;
+use filling::filled_at;
+use filling::with_slot;
 use slots::Slot;
 use slots::part_words;
 ghost use mathlib.Core.Path.{_≡_};

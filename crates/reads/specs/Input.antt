@@ -4,7 +4,8 @@ use mathlib.Core.Bool.{Bool, true, false, _&&_}
 use lib.Dec.{leb}
 use Rattle.slots.specs.declared.Slot.the-variants.{Taken}
 use Rattle.files.specs.declared.File.{File}
-use Rattle.files.specs.Sides.{isSide, emptySide, takenSide, oldest, withSlot, filledAt, emptiedAt}
+use Rattle.files.specs.Sides.{isSide, emptySide, takenSide, oldest}
+use Rattle.filling.specs.Fills.{withSlot, filledAt, emptiedAt}
 use Rattle.sizes.specs.Opening.{extra}
 
 -- refusal 9, "ask read: no empty buffer"

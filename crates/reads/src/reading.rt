@@ -1,13 +1,13 @@
 // Input: what a read takes, and what its end does to the file.
 use files::File;
-use files::emptied_at;
 use files::empty_side;
-use files::filled_at;
 use files::is_side;
 use files::oldest;
 use files::start_at;
 use files::taken_side;
-use files::with_slot;
+use filling::emptied_at;
+use filling::filled_at;
+use filling::with_slot;
 use sizes::extra;
 use slots::Slot;
 ghost use mathlib.Core.Path.{_≡_};

@@ -24,12 +24,15 @@ use Rattle.frame.specs.declared.Frame.the-variants.{Malformed, Fresh, Open, Clo
 use Rattle.frame.specs.Frames.{frameOf}
 use Rattle.pool.specs.Free.{fileCount}
 use Rattle.state.specs.declared.State.{State}
-use Rattle.state.specs.Places.{noChannel, fileAt, channelAt, withFile, withChannel}
+use Rattle.state.specs.Places.{noChannel, fileAt, channelAt}
+use Rattle.storing.specs.Stores.{withFile, withChannel}
 use Rattle.judging.specs.Soundness.{sound}
 use Rattle.starting.specs.Fresh.{freshRefusal, freshState, freshBy}
-use Rattle.opening.specs.Open.{openOn, openChange, openBy}
-use Rattle.closing.specs.Close.{closeOn, closeChange, closeBy}
-use Rattle.starting.specs.Freeze.{stateRows, frozenState, thawedState, freezeBy, thawBy}
+use Rattle.binding.specs.Open.{openOn}
+use Rattle.opening.specs.Calls.{openChange, openBy}
+use Rattle.binding.specs.Close.{closeOn}
+use Rattle.opening.specs.Ends.{closeChange, closeBy}
+use Rattle.freezing.specs.Freeze.{stateRows, frozenState, thawedState, freezeBy, thawBy}
 use Rattle.asking.specs.declared.AskChange.{AskChange}
 use Rattle.reporting.specs.declared.ReportChange.{ReportChange}
 use Rattle.requests.specs.Changes.{changedState}
@@ -37,10 +40,14 @@ use Rattle.asking.specs.Ask.{askRefusal, askedFile, askedChannel, askOn}
 use Rattle.requests.specs.Calls.{askChange, askBy}
 use Rattle.reporting.specs.Report.{effectAt, deliveryError, shownStart, shownCount, reportedFile, reportRefusal, refusedReport, reportOn}
 use Rattle.requests.specs.Calls.{fileOf, reportChange, reportBy, reportByArea}
-use Rattle.input.specs.Get.{getOn, getChange, getBy, getWords}
-use Rattle.input.specs.Skip.{skipOn, skipChange, skipBy}
-use Rattle.output.specs.Put.{putOn, putChange, putBy, putByArea}
-use Rattle.output.specs.Seal.{sealOn, sealChange, sealBy, sealByArea}
+use Rattle.getting.specs.Get.{getOn}
+use Rattle.input.specs.Calls.{getChange, getBy, getWords}
+use Rattle.getting.specs.Skip.{skipOn}
+use Rattle.input.specs.Skips.{skipChange, skipBy}
+use Rattle.putting.specs.Put.{putOn}
+use Rattle.output.specs.Calls.{putChange, putBy, putByArea}
+use Rattle.putting.specs.Seal.{sealOn}
+use Rattle.output.specs.Seals.{sealChange, sealBy, sealByArea}
 use Rattle.gets.specs.Histories.{shown}
 use Rattle.replies.specs.Replies.{answerOr, quietly, masksOf, gotAnswer, givenWords, replyTo, answerTo}
 use Rattle.replies.specs.Changes.{openChangeOn, closeChangeOn, askChangeOn, skipChangeOn, reportChangeOn, reportAreaOn, getChangeOn, putChangeOn, putAreaOn, sealChangeOn, sealAreaOn}

@@ -14,23 +14,21 @@ use Rattle.files.specs.declared.File.{File}
 use Rattle.sizes.specs.declared.Wish.{Wish}
 use Rattle.frame.specs.declared.Masks as frame
 use Rattle.gets.specs.Gets.{gotStart, gotWords}
-use Rattle.pool.specs.Free.{isBound}
+use Rattle.serving.specs.Serving.{isBound}
 use Rattle.state.specs.declared.State.{State}
-use Rattle.starting.specs.declared.FileChange.{FileChange}
-use Rattle.opening.specs.declared.Free.{Free}
+use Rattle.changing.specs.declared.FileChange.{FileChange}
+use Rattle.binding.specs.declared.Free.{Free}
 use Rattle.starting.specs.declared.Masks.{Masks}
 use Rattle.starting.specs.Fresh.{freshRefusal, freshState}
-use Rattle.opening.specs.Open.{wishOf, freeOf, openOn}
+use Rattle.binding.specs.Open.{wishOf, freeOf, openOn}
 use Rattle.asking.specs.declared.AskChange.{AskChange}
 use Rattle.reporting.specs.declared.ReportChange.{ReportChange}
 use Rattle.asking.specs.Ask.{askOn}
 use Rattle.reporting.specs.Report.{reportOn, reportOnArea}
-use Rattle.input.specs.declared.GetChange.{GetChange}
-use Rattle.input.specs.Get.{getOn}
-use Rattle.output.specs.declared.PutChange.{PutChange}
-use Rattle.output.specs.declared.SealChange.{SealChange}
-use Rattle.output.specs.Put.{putOn, putOnArea}
-use Rattle.output.specs.Seal.{sealOn, sealOnArea}
+use Rattle.getting.specs.declared.GetChange.{GetChange}
+use Rattle.getting.specs.Get.{getOn}
+use Rattle.putting.specs.Put.{putOn, putOnArea}
+use Rattle.putting.specs.Seal.{sealOn, sealOnArea}
 use Rattle.frame.specs.declared.Frame.the-variants.{Fresh}
 use Rattle.replies.specs.declared.Change.{Change}
 use Rattle.replies.specs.Replies.{answerOr, gotAnswer, masksOf}
@@ -92,12 +90,12 @@ module _ (unsound : Bool) (m w : ℕ) (f : File) (c : Channel) (file : ℕ) (are
       (ex ∙ ap (λ (t : Bool). getOn (ltb 15 file || (t || unsound)) f w area) es))
 
 module _ (unsound : Bool) (m w : ℕ) (f : File) (c : Channel) (file : ℕ) (area words : List ℕ) where
-  pub filled-as : (short : Bool) (x : PutChange) (r : Change) → short ≡ ltb (length area) (m * w)
+  pub filled-as : (short : Bool) (x : FileChange) (r : Change) → short ≡ ltb (length area) (m * w)
       → x ≡ putOn (ltb 15 file || (short || unsound)) f w area words → r ≡ quietChange (x .refusal) (x .file) c
       → r ≡ putChangeOn unsound m w f c file area words
   unfolding putChangeOn
   filled-as short x r es ex er =
-      er ∙ ap (λ (y : PutChange). quietChange (y .refusal) (y .file) c)
+      er ∙ ap (λ (y : FileChange). quietChange (y .refusal) (y .file) c)
       (ex ∙ ap (λ (t : Bool). putOn (ltb 15 file || (t || unsound)) f w area words) es)
 
 pub filled-area : (unsound : Bool) (m w : ℕ) (f : File) (file : ℕ) (area words : List ℕ) (short : Bool) (after : List ℕ)
@@ -108,12 +106,12 @@ filled-area unsound m w f file area words short after es e =
     e ∙ ap (λ (t : Bool). putOnArea (ltb 15 file || (t || unsound)) f w area words) es
 
 module _ (unsound : Bool) (m w : ℕ) (f : File) (c : Channel) (file : ℕ) (area : List ℕ) where
-  pub sealed-as : (short : Bool) (x : SealChange) (r : Change) → short ≡ ltb (length area) (m * w)
+  pub sealed-as : (short : Bool) (x : FileChange) (r : Change) → short ≡ ltb (length area) (m * w)
       → x ≡ sealOn (ltb 15 file || (short || unsound)) f w area → r ≡ quietChange (x .refusal) (x .file) c
       → r ≡ sealChangeOn unsound m w f c file area
   unfolding sealChangeOn
   sealed-as short x r es ex er =
-      er ∙ ap (λ (y : SealChange). quietChange (y .refusal) (y .file) c)
+      er ∙ ap (λ (y : FileChange). quietChange (y .refusal) (y .file) c)
       (ex ∙ ap (λ (t : Bool). sealOn (ltb 15 file || (t || unsound)) f w area) es)
 
 pub sealed-area : (unsound : Bool) (m w : ℕ) (f : File) (file : ℕ) (area : List ℕ) (short : Bool) (after : List ℕ)

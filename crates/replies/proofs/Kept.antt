@@ -12,13 +12,13 @@ use Rattle.frame.specs.declared.Frame.{Frame}
 use Rattle.frame.specs.declared.Frame.the-variants.{Malformed, Fresh, Open, Close, Ask, Report, Get, Put, Seal, Skip, Freeze, Thaw}
 use Rattle.frame.specs.Frames.{frameOf}
 use Rattle.state.specs.declared.State.{State}
-use Rattle.state.specs.Places.{withFile, withChannel}
+use Rattle.storing.specs.Stores.{withFile, withChannel}
 use Rattle.judging.specs.Soundness.{sound}
 use Rattle.starting.specs.Fresh.{freshBy}
 use Rattle.starting.proofs.FreshTheorems.{fresh-kept}
 use Rattle.opening.proofs.OpenTheorems.{open-kept}
-use Rattle.closing.proofs.CloseTheorems.{close-kept}
-use Rattle.starting.proofs.FreezeTheorems.{freeze-kept, thaw-kept}
+use Rattle.opening.proofs.CloseTheorems.{close-kept}
+use Rattle.freezing.proofs.FreezeTheorems.{freeze-kept, thaw-kept}
 use Rattle.requests.proofs.AskTheorems.{ask-kept}
 use Rattle.requests.proofs.ReportTheorems.{report-kept}
 use Rattle.requests.proofs.ReportWords.{report-area-length}

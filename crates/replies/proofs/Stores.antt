@@ -11,17 +11,18 @@ use lib.Seq.{set-getD, set-out}
 use Rattle.area.proofs.Marks.{cond-true, cond-false}
 use Rattle.area.proofs.Walks.{by-test}
 use Rattle.channel.specs.declared.Channel.{Channel}
-use Rattle.schedule.specs.Turns.{thawOf}
+use Rattle.beginning.specs.Starts.{thawOf}
 use Rattle.files.specs.declared.File.{File}
 use Rattle.sizes.specs.Opening.{closedFile}
 use Rattle.frame.specs.declared.Frame.{Frame}
 use Rattle.frame.specs.declared.Frame.the-variants.{Malformed, Fresh, Open, Close, Ask, Report, Get, Put, Seal, Skip, Freeze, Thaw}
 use Rattle.pool.specs.Free.{fileCount}
 use Rattle.state.specs.declared.State.{State}
-use Rattle.state.specs.Places.{channelCount, noChannel, fileAt, channelAt, withFile, withChannel}
+use Rattle.state.specs.Places.{channelCount, noChannel, fileAt, channelAt}
+use Rattle.storing.specs.Stores.{withFile, withChannel}
 use Rattle.state.proofs.Lookups.{any-default}
 use Rattle.starting.specs.Fresh.{freshRefusal, freshState}
-use Rattle.starting.specs.Freeze.{frozenState, thawedState}
+use Rattle.freezing.specs.Freeze.{frozenState, thawedState}
 use Rattle.replies.specs.declared.Change.{Change}
 use Rattle.replies.specs.Replies.{masksOf}
 use Rattle.replies.specs.Turns.{isWhole, wholeOf, fileNumber, channelNumber, changeOf, areaOf, turnedFrom, areaFrom}

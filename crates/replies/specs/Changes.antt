@@ -10,16 +10,17 @@ use Rattle.channel.specs.declared.Channel.{Channel}
 use Rattle.channel.specs.Units.{unitCount}
 use Rattle.files.specs.declared.File.{File}
 use Rattle.gets.specs.Gets.{gotStart, gotWords}
-use Rattle.pool.specs.Free.{fileCount, isBound}
+use Rattle.pool.specs.Free.{fileCount}
+use Rattle.serving.specs.Serving.{isBound}
 use Rattle.state.specs.Places.{channelCount}
-use Rattle.opening.specs.Open.{wishOf, freeOf, openOn}
-use Rattle.closing.specs.Close.{closeOn}
+use Rattle.binding.specs.Open.{wishOf, freeOf, openOn}
+use Rattle.binding.specs.Close.{closeOn}
 use Rattle.asking.specs.Ask.{askOn}
 use Rattle.reporting.specs.Report.{reportOn, reportOnArea}
-use Rattle.input.specs.Get.{getOn}
-use Rattle.input.specs.Skip.{skipOn}
-use Rattle.output.specs.Put.{putOn, putOnArea}
-use Rattle.output.specs.Seal.{sealOn, sealOnArea}
+use Rattle.getting.specs.Get.{getOn}
+use Rattle.getting.specs.Skip.{skipOn}
+use Rattle.putting.specs.Put.{putOn, putOnArea}
+use Rattle.putting.specs.Seal.{sealOn, sealOnArea}
 use Rattle.replies.specs.declared.Change.{Change}
 use Rattle.replies.specs.Replies.{answerOr, gotAnswer}
 

@@ -19,15 +19,15 @@ use Rattle.gets.specs.declared.Got.the-variants as got
 use Rattle.state.specs.declared.State.{State}
 use Rattle.starting.specs.declared.Masks.{Masks}
 use Rattle.starting.specs.Fresh.{freshBy}
-use Rattle.opening.specs.Open.{openBy}
-use Rattle.closing.specs.Close.{closeBy}
-use Rattle.starting.specs.Freeze.{freezeBy, thawBy}
+use Rattle.opening.specs.Calls.{openBy}
+use Rattle.opening.specs.Ends.{closeBy}
+use Rattle.freezing.specs.Freeze.{freezeBy, thawBy}
 use Rattle.requests.specs.Calls.{askBy}
 use Rattle.requests.specs.Calls.{reportBy, reportByArea}
-use Rattle.input.specs.Get.{getBy, getWords}
-use Rattle.input.specs.Skip.{skipBy}
-use Rattle.output.specs.Put.{putBy, putByArea}
-use Rattle.output.specs.Seal.{sealBy, sealByArea}
+use Rattle.input.specs.Calls.{getBy, getWords}
+use Rattle.input.specs.Skips.{skipBy}
+use Rattle.output.specs.Calls.{putBy, putByArea}
+use Rattle.output.specs.Seals.{sealBy, sealByArea}
 
 -- the state and the area after a line, its answer, and the words that the answer shows
 pub record Reply : Type 0 where

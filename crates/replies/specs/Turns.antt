@@ -11,11 +11,13 @@ use Rattle.frame.specs.declared.Frame.the-variants.{Malformed, Fresh, Open, Clo
 use Rattle.frame.specs.Frames.{frameOf}
 use Rattle.channel.specs.declared.Channel.{Channel}
 use Rattle.files.specs.declared.File.{File}
-use Rattle.pool.specs.Free.{fileCount, servingFile}
+use Rattle.pool.specs.Free.{fileCount}
+use Rattle.serving.specs.Serving.{servingFile}
 use Rattle.state.specs.declared.State.{State}
-use Rattle.state.specs.Places.{fileAt, channelAt, withFile, withChannel}
+use Rattle.state.specs.Places.{fileAt, channelAt}
+use Rattle.storing.specs.Stores.{withFile, withChannel}
 use Rattle.starting.specs.Fresh.{freshRefusal, freshState}
-use Rattle.starting.specs.Freeze.{frozenState, thawedState}
+use Rattle.freezing.specs.Freeze.{frozenState, thawedState}
 use Rattle.requests.specs.Calls.{numberOr}
 use Rattle.replies.specs.declared.Change.{Change}
 use Rattle.replies.specs.declared.Turned.{Turned}

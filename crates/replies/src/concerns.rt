@@ -3,9 +3,10 @@ use area::Found;
 use files::File;
 use frame::Frame;
 use pool::FILES;
-use pool::serving_file;
+use serving::serving_file;
 ghost use mathlib.Core.Path.{_≡_};
-ghost use Rattle.pool.specs.Free.{fileCount, servingFile};
+ghost use Rattle.pool.specs.Free.{fileCount};
+ghost use Rattle.serving.specs.Serving.{servingFile};
 ghost use Rattle.requests.specs.Calls.{numberOr};
 ghost use Rattle.replies.specs.Turns.{fileNumber, channelNumber};
 

@@ -1,15 +1,15 @@
 // The frames that concern the whole state: fresh start, freeze and thaw.
 use frame::Frame;
+use freezing::frozen_state;
+use freezing::thawed_state;
 use starting::Masks;
 use starting::fresh_refusal;
 use starting::fresh_state;
-use starting::frozen_state;
-use starting::thawed_state;
 use state::State;
 ghost use mathlib.Core.Path.{_≡_};
 ghost use mathlib.Core.Bool.{false, cond};
 ghost use Rattle.starting.specs.Fresh.{freshRefusal};
-ghost use Rattle.starting.specs.Freeze.{frozenState, thawedState};
+ghost use Rattle.freezing.specs.Freeze.{frozenState, thawedState};
 ghost use Rattle.replies.specs.Replies.{masksOf};
 ghost use Rattle.replies.specs.Turns.{isWhole, stateNumber, wholeOf};
 

@@ -26,6 +26,11 @@ ghost use mathlib.Core.Path.{_≡_};
 ghost use Rattle.area.specs.Refusals.{lowest};
 ghost use Rattle.reporting.specs.Report.{rowsBy, refusedReport, reportOn, reportOnArea};
 
+// The highest unit number, and the highest outcome.
+const LAST_UNIT: u8 = 9;
+
+const LAST_OUTCOME: u8 = 4;
+
 // The refusal of a report, 0 for none: by what the channel makes of it, whether the words given and those handed out are below 2^36, and
 // whether n words are as many as a delivered block may have.
 fn report_refusal(
@@ -46,7 +51,7 @@ fn report_refusal(
     let number = refusal_number(v);
     let brings = is_delivery(e);
     let given = (0 < n) & ((0 < outcome) | silent);
-    let c1 = wrong | (((9 < unit) | (4 < outcome)) | given);
+    let c1 = wrong | (((LAST_UNIT < unit) | (LAST_OUTCOME < outcome)) | given);
     let c2 = !fits | !clean;
     let c11 = number == 11;
     let c12 = number == 12;

@@ -8,23 +8,24 @@ use native.Mathlib.Omega.{arith}
 use lib.Dec.{ltb}
 use Rattle.area.proofs.Walks.{true-not-false, and-both, or-left, or-right}
 use Rattle.area.proofs.Lowest.{lowest-none}
-use Rattle.area.proofs.Exactly.{Exactly, exactly}
-use Rattle.area.specs.Refusals.{Rows, lowest}
+use Rattle.area.proofs.Exactly.{exactly}
+use Rattle.area.specs.Refusals.{Rows, lowest, Exactly}
 use Rattle.channel.specs.declared.Turn.{Turn}
 use Rattle.channel.specs.declared.Turn.the-variants.{Idle, Waiting, Displaced, Working}
 use Rattle.channel.specs.declared.Channel.{Channel}
-use Rattle.schedule.specs.declared.Asked.{Asked}
+use Rattle.beginning.specs.declared.Asked.{Asked}
 use Rattle.channel.specs.declared.Work.the-variants.{At}
 use Rattle.channel.specs.Units.{declaredAt, turnAt, isIdle, hasRequest, acceptsAt}
 use Rattle.service.specs.History.{station, ask, accepted, stepTo, askStep, step}
 use Rattle.service.specs.Lifted.{Agrees}
-use Rattle.schedule.proofs.Laws.Turns as turns
+use Rattle.beginning.proofs.Laws.Starts as turns
 use Rattle.files.specs.declared.File.{File}
 use Rattle.reads.specs.Input.{hasEmpty, hasFull}
 use Rattle.sends.specs.Sends.{hasUnsent}
 use Rattle.filing.specs.Soundness.{oneIf, takenCount}
 use Rattle.state.specs.declared.State.{State}
-use Rattle.state.specs.Places.{fileAt, channelAt, withFile, withChannel}
+use Rattle.state.specs.Places.{fileAt, channelAt}
+use Rattle.storing.specs.Stores.{withFile, withChannel}
 use Rattle.judging.specs.Requests.{requested, isRead}
 use Rattle.judging.specs.Soundness.{sound}
 use Rattle.judging.proofs.Facts.{SoundFacts, sound-facts, facts-sound}

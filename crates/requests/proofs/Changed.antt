@@ -13,7 +13,8 @@ use Rattle.files.specs.declared.File.{File}
 use Rattle.sizes.specs.Opening.{closedFile}
 use Rattle.filing.proofs.Replaced.{Alike}
 use Rattle.state.specs.declared.State.{State}
-use Rattle.state.specs.Places.{noChannel, fileAt, channelAt, withFile, withChannel}
+use Rattle.state.specs.Places.{noChannel, fileAt, channelAt}
+use Rattle.storing.specs.Stores.{withFile, withChannel}
 use Rattle.judging.specs.Requests.{requested}
 use Rattle.judging.specs.Judged.{fileReady}
 use Rattle.judging.proofs.Facts.{SoundFacts}

@@ -19,7 +19,8 @@ use Rattle.files.specs.declared.Side.{Side}
 use Rattle.files.specs.declared.Side.the-variants.{Low, High, Neither}
 use Rattle.files.specs.declared.File.{File}
 use Rattle.slots.specs.Slots.{isTaken}
-use Rattle.files.specs.Sides.{slotAt, isSide, lower, emptySide, takenSide, oldest, withSlot, turnedBy, nextBlock, filledAt, emptiedAt, withoutOldest}
+use Rattle.files.specs.Sides.{slotAt, isSide, lower, emptySide, takenSide, oldest}
+use Rattle.filling.specs.Fills.{withSlot, turnedBy, nextBlock, filledAt, emptiedAt, withoutOldest}
 use Rattle.sizes.specs.Opening.{extra}
 use Rattle.reads.specs.Input.{hasEmpty, hasFull, blockFits, tookBuffer, delivered, gaveBack, metMark}
 use Rattle.sends.specs.Sends.{hasUnsent, afterWrite}

@@ -14,10 +14,10 @@ use Rattle.area.specs.declared.Found.{Found}
 use Rattle.area.specs.declared.Found.the-variants as found
 use Rattle.area.specs.Lists.{allOf, isFound}
 use Rattle.area.specs.Parts.{isWord}
-use Rattle.area.specs.Refusals.{Rows, lowest}
+use Rattle.area.specs.Refusals.{Rows, lowest, Exactly}
 use Rattle.area.proofs.Walks.{true-not-false, and-left, and-right, and-both, or-left, or-right}
 use Rattle.area.proofs.Lowest.{lowest-none}
-use Rattle.area.proofs.Exactly.{Exactly, exactly}
+use Rattle.area.proofs.Exactly.{exactly}
 use Rattle.area.proofs.Firsts.{first-finds}
 use Rattle.channel.specs.declared.Request.{Request}
 use Rattle.channel.specs.declared.Turn.{Turn}
@@ -37,11 +37,13 @@ use Rattle.service.specs.Lifted.{Agrees}
 use Rattle.files.specs.declared.File.{File}
 use Rattle.sizes.specs.Opening.{closedFile}
 use Rattle.reads.specs.Input.{blockFits}
-use Rattle.pool.specs.Free.{fileCount, serves, servingFile}
+use Rattle.pool.specs.Free.{fileCount}
+use Rattle.serving.specs.Serving.{serves, servingFile}
 use Rattle.filing.specs.Soundness.{shareBuffer, shareUnit, apart}
 use Rattle.filing.proofs.Replaced.{alike-self, unbound}
 use Rattle.state.specs.declared.State.{State}
-use Rattle.state.specs.Places.{fileAt, channelAt, withFile, withChannel}
+use Rattle.state.specs.Places.{fileAt, channelAt}
+use Rattle.storing.specs.Stores.{withFile, withChannel}
 use Rattle.judging.specs.Requests.{requested, isNone}
 use Rattle.judging.specs.Soundness.{sound}
 use Rattle.judging.specs.Judged.{fileReady}
@@ -49,7 +51,7 @@ use Rattle.judging.proofs.Everywhere.{place-inside}
 use Rattle.judging.proofs.Facts.{Served, SoundFacts, sound-facts, facts-sound}
 use Rattle.judging.proofs.ChannelCalls.{repeat-moved, end-moved}
 use Rattle.judging.proofs.Kept.{line-of}
-use Rattle.word.specs.CheckWords.{address, chosen}
+use Rattle.checkword.specs.CheckWords.{address, chosen}
 use Rattle.word.specs.Sums.{logicalSum, firstHalf, folded}
 use Rattle.sealing.specs.Blocks.{dataWords, judgeRefusal, judged, errorOf}
 use Rattle.reporting.specs.declared.Effect.{Effect}

@@ -6,7 +6,8 @@ use lib.Dec.{ltb}
 use lib.ListN.{length}
 use Rattle.area.specs.declared.Found.{Found}
 use Rattle.area.specs.declared.Found.the-variants.{At, Nothing}
-use Rattle.pool.specs.Free.{fileCount, servingFile}
+use Rattle.pool.specs.Free.{fileCount}
+use Rattle.serving.specs.Serving.{servingFile}
 use Rattle.state.specs.declared.State.{State}
 use Rattle.state.specs.Places.{fileAt, channelAt, areaShort}
 use Rattle.judging.specs.Soundness.{sound}

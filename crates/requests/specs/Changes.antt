@@ -5,7 +5,7 @@ use lib.Dec.{eqb}
 use Rattle.channel.specs.declared.Channel.{Channel}
 use Rattle.files.specs.declared.File.{File}
 use Rattle.state.specs.declared.State.{State}
-use Rattle.state.specs.Places.{withFile, withChannel}
+use Rattle.storing.specs.Stores.{withFile, withChannel}
 
 -- the file i and the channel j are replaced; "A refusal returns the number alone and changes nothing."
 unfoldable pub changedState : State → ℕ → ℕ → ℕ → File → Channel → State

@@ -7,8 +7,8 @@ use area::part;
 use asking::ask_on;
 use judging::is_sound;
 use pool::FILES;
-use pool::serving_file;
 use reporting::report_on;
+use serving::serving_file;
 use state::State;
 use state::area_short;
 use state::channel_at;
@@ -17,6 +17,11 @@ ghost use mathlib.Core.Path.{_≡_};
 ghost use Rattle.area.specs.Parts.{partOf};
 ghost use Rattle.requests.specs.Calls.{askBy};
 ghost use Rattle.requests.specs.Calls.{fileOf, reportBy, reportByArea};
+
+// The highest file number, and the highest channel number.
+const LAST_FILE: u8 = 15;
+
+const LAST_CHANNEL: u8 = 4;
 
 // An ask of a file: operation 0 read, 1 write, 2 mark, priority 0 or 1. A refusal gives the state that was passed.
 pub fn ask(s: State, file: u8, op: u8, priority: u8) -> Asking
@@ -27,7 +32,7 @@ pub fn ask(s: State, file: u8, op: u8, priority: u8) -> Asking
     let j = f.channel as usize;
     let c = channel_at(s, j);
     let whole = is_sound(s);
-    let x = ask_on(!whole | (15 < file), f, c, op, priority, s.frozen);
+    let x = ask_on(!whole | (LAST_FILE < file), f, c, op, priority, s.frozen);
     let g = x.file;
     let d = x.channel;
     let t = changed_state(s, i, j, x.refusal, g, d);
@@ -68,7 +73,7 @@ pub fn report(
     let f = file_at(s, i);
     let j = channel as usize;
     let c = channel_at(s, j);
-    let wrong = !whole | (short | (4 < channel));
+    let wrong = !whole | (short | (LAST_CHANNEL < channel));
     let x = report_on(wrong, f, c, unit, outcome, s.w, s.frozen, area, words);
     let g = x.file;
     let d = x.channel;

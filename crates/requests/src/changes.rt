@@ -2,8 +2,8 @@
 use channel::Channel;
 use files::File;
 use state::State;
-use state::with_channel;
-use state::with_file;
+use storing::with_channel;
+use storing::with_file;
 ghost use mathlib.Core.Path.{_≡_};
 ghost use Rattle.requests.specs.Changes.{changedState};
 

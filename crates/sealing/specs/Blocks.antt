@@ -9,7 +9,7 @@ use Rattle.area.specs.Parts.{isWord}
 use Rattle.area.specs.Refusals.{lowest}
 use Rattle.sealing.specs.declared.blocks.Judged.{Judged}
 use Rattle.word.specs.Sums.{logicalSum, firstHalf, folded}
-use Rattle.word.specs.CheckWords.{address, chosen, checkWord}
+use Rattle.checkword.specs.CheckWords.{address, chosen, checkWord}
 
 -- "Let e be 1 if sequence or check is chosen, else 0."
 abbrev pub extra : Bool → Bool → ℕ

@@ -5,13 +5,13 @@ ghost use Prim.Native.Nat.{_-_, _≤_};
 ghost use lib.Dec.{eqb};
 ghost use lib.ListN.{take, getD};
 ghost use Rattle.word.specs.Sums.{logicalSum};
-ghost use Rattle.word.specs.CheckWords.{chosen, checkWord};
+ghost use Rattle.checkword.specs.CheckWords.{chosen, checkWord};
 ghost use Rattle.sealing.specs.Blocks.{extra, sealRefusal, sealed, errorOf, judged};
-use word::check_word;
+use checkword::check_word;
+use checkword::number_field;
+use checkword::sum_field;
 use word::folded;
 use word::logical_sum;
-use word::number_field;
-use word::sum_field;
 
 // What judging a delivered block tells: the refusal, or 0 and then the error: 0 none, 1 sequence, 2 check sum, 3 both.
 pub struct Judged {

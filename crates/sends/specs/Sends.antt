@@ -3,7 +3,8 @@ use Prim.Native.Nat.{ℕ, _+_}
 use mathlib.Core.Bool.{Bool, cond, _&&_, _||_}
 use Rattle.files.specs.declared.File.{File}
 use Rattle.slots.specs.Slots.{isPart, isFull, fullWords}
-use Rattle.files.specs.Sides.{slotAt, startAt, oldest, withoutOldest}
+use Rattle.files.specs.Sides.{slotAt, startAt, oldest}
+use Rattle.filling.specs.Fills.{withoutOldest}
 use Rattle.sizes.specs.Opening.{extra}
 
 -- "Ask write sends the oldest full block.": where its words begin in the area, and how many they are, check word last

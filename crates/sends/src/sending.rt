@@ -3,7 +3,7 @@ use files::File;
 use files::oldest;
 use files::slot_at;
 use files::start_at;
-use files::without_oldest;
+use filling::without_oldest;
 use sizes::extra;
 use slots::full_words;
 use slots::is_full;

@@ -12,12 +12,13 @@ use Rattle.channel.specs.declared.Unit.{Unit}
 use Rattle.channel.specs.declared.Channel.{Channel}
 use Rattle.outcomes.specs.declared.Verdict.{Verdict}
 use Rattle.outcomes.specs.declared.Verdict.the-variants.{Refused, Repeats, Ends}
-use Rattle.schedule.specs.declared.Asked.{Asked}
+use Rattle.beginning.specs.declared.Asked.{Asked}
 use Rattle.schedule.specs.declared.Reported.{Reported}
 use Rattle.outcomes.specs.Rules.{mostReports}
 use Rattle.channel.specs.Units.{freshWith}
 use Rattle.scanning.specs.Scans.{workingIn}
-use Rattle.schedule.specs.Turns.{thawOf, askOf, reportOf}
+use Rattle.schedule.specs.Turns.{reportOf}
+use Rattle.beginning.specs.Starts.{thawOf, askOf}
 
 -- ---- what is done to a channel
 

@@ -7,16 +7,16 @@ use mathlib.Core.List.{[], _∷_}
 use Prim.Native.Nat.{ℕ, _*_, _<_}
 use lib.Dec.{leb, ltb}
 use borrow.Author.Tests.{leb-true}
-use Rattle.area.specs.Refusals.{lowest}
+use Rattle.area.specs.Refusals.{lowest, Exactly, here}
 use Rattle.area.proofs.Walks.{and-left, or-left, or-first}
-use Rattle.area.proofs.Exactly.{Exactly, here, exactly}
+use Rattle.area.proofs.Exactly.{exactly}
 use Rattle.pool.specs.Free.{fileCount, bufferLimit, poolFits}
 use Rattle.state.specs.declared.State.{State}
 use Rattle.judging.specs.Soundness.{sound}
 use Rattle.judging.proofs.Wholes.{fresh-sound}
 use Rattle.starting.specs.declared.Masks.{Masks}
 use Rattle.starting.specs.Fresh.{areMasks, freshRows, freshRefusal, freshState, freshBy}
-use Rattle.starting.proofs.Answered.{not-so, state-refused, state-accepted}
+use Rattle.changing.proofs.Answered.{not-so, state-refused, state-accepted}
 
 module _ (s : State) (n m w : ℕ) (k : Masks) where
   -- refused with a number exactly if its row applies and none with a lower number does

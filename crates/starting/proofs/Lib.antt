@@ -1,4 +1,1 @@
-pub mod Answered
-pub mod Maps
 pub mod FreshTheorems
-pub mod FreezeTheorems

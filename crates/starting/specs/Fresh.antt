@@ -9,9 +9,9 @@ use Rattle.channel.specs.Units.{unitCount, freshOf}
 use Rattle.sizes.specs.Opening.{closedFile}
 use Rattle.pool.specs.Free.{fileCount, poolFits}
 use Rattle.state.specs.declared.State.{State}
-use Rattle.starting.specs.declared.Called.{Called}
+use Rattle.changing.specs.declared.Called.{Called}
 use Rattle.starting.specs.declared.Masks.{Masks}
-use Rattle.starting.specs.Answers.{called}
+use Rattle.changing.specs.Answers.{called}
 
 -- ---- its refusals
 

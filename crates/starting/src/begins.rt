@@ -1,6 +1,6 @@
 // Fresh start: it closes everything, drops all requests, thaws, resets the scans and declares the units. It touches no word.
-use crate::Called;
 use crate::Masks;
+use changing::Called;
 use channel::UNITS;
 use pool::FILES;
 use pool::pool_fits;

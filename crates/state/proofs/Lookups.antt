@@ -1,16 +1,13 @@
--- Laws of lookups and replacements in a state. Assumes nothing.
-use mathlib.Core.Path.{_≡_, refl, sym, ap, _∙_}
-use mathlib.Core.Logic.{_≢_}
+-- Laws of lookups in a state. Assumes nothing.
+use mathlib.Core.Path.{_≡_, refl}
 use mathlib.Core.List.{List, [], _∷_}
-use Prim.Native.Nat.{ℕ, zero, suc, _+_, _≤_, _<_}
+use Prim.Native.Nat.{ℕ, zero, suc, _≤_, _<_}
 use native.Mathlib.Nat.{le-of-suc-le-suc, not-suc-le-zero}
-use lib.ListN.{length, getD, set, List·getD-eq-default}
-use lib.Seq.{set-out, getD-set-same, getD-set-other}
+use lib.ListN.{length, getD, List·getD-eq-default}
 use Rattle.channel.specs.declared.Channel.{Channel}
 use Rattle.files.specs.declared.File.{File}
 use Rattle.sizes.specs.Opening.{closedFile}
-use Rattle.state.specs.declared.State.{State}
-use Rattle.state.specs.Places.{noChannel, fileAt, channelIn, channelAt, withFile, withChannel}
+use Rattle.state.specs.Places.{noChannel, channelIn}
 
 -- what stands past the end does not matter before it
 pub any-default : {A : Type 0} (xs : List A) (i : ℕ) (d e : A) → i < length xs → getD xs i d ≡ getD xs i e
@@ -23,11 +20,3 @@ file-beyond fs i h = List·getD-eq-default fs closedFile h
 
 pub channel-beyond : (cs : List Channel) (c : ℕ) → length cs ≤ c → channelIn cs c ≡ noChannel
 channel-beyond cs c h = List·getD-eq-default cs noChannel h
-
-pub with-file-beyond : (s : State) (i : ℕ) (f : File) → length (s .files) ≤ i → withFile s i f ≡ s
-unfolding withFile
-with-file-beyond s i f h = ap (λ (fs : List File). record { m = s .m; w = s .w; frozen = s .frozen; channels = s .channels; files = fs }) (set-out (s .files) i f h)
-
-pub with-channel-beyond : (s : State) (c : ℕ) (x : Channel) → length (s .channels) ≤ c → withChannel s c x ≡ s
-unfolding withChannel
-with-channel-beyond s c x h = ap (λ (cs : List Channel). record { m = s .m; w = s .w; frozen = s .frozen; channels = cs; files = s .files }) (set-out (s .channels) c x h)

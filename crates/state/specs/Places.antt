@@ -1,9 +1,9 @@
--- Where things stand in a state (document 01, "Sizes"): lookups for any number, and replacements. Assumes nothing.
+-- Where things stand in a state (document 01, "Sizes"): lookups for any number. Assumes nothing.
 use Prim.Native.Nat.{ℕ, _*_}
 use mathlib.Core.Bool.{Bool, false}
 use mathlib.Core.List.{List}
 use lib.Dec.{ltb}
-use lib.ListN.{getD, set, replicate}
+use lib.ListN.{getD, replicate}
 use Rattle.channel.specs.declared.Channel.{Channel}
 use Rattle.channel.specs.Units.{freshOf}
 use Rattle.files.specs.declared.File.{File}
@@ -38,13 +38,6 @@ channelIn cs c = getD cs c noChannel
 
 abbrev pub channelAt : State → ℕ → Channel
 channelAt s c = channelIn (s .channels) c
-
--- the state with another file, or another channel, in the place of a number; as it is past the last
-unfoldable pub withFile : State → ℕ → File → State
-withFile s i f = record { m = s .m; w = s .w; frozen = s .frozen; channels = s .channels; files = set (s .files) i f }
-
-unfoldable pub withChannel : State → ℕ → Channel → State
-withChannel s c x = record { m = s .m; w = s .w; frozen = s .frozen; channels = set (s .channels) c x; files = s .files }
 
 -- "An area under m×W is refused 1."
 abbrev pub areaShort : State → ℕ → Bool

@@ -1,5 +1,5 @@
 // The whole state of a pack: the pool's two numbers, the freeze, five channels and sixteen files, by value.
-// It looks a file or a channel up, and replaces one. Whether a state is sound stands in `judging`. It knows nothing of what a call does.
+// It looks a file or a channel up. What is replaced stands in `storing`, whether a state is sound in `judging`. It knows nothing of what a call does.
 mod places;
 
 use channel::Channel;
@@ -9,8 +9,6 @@ pub use places::before_start;
 pub use places::channel_at;
 pub use places::channel_in;
 pub use places::file_at;
-pub use places::with_channel;
-pub use places::with_file;
 use pool::FILES;
 
 // How many channels there are: the manual's A to E.

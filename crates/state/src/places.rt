@@ -1,4 +1,4 @@
-// Where things stand in a state: lookups that answer for any number, and replacements that leave all else alone.
+// Where things stand in a state: lookups that answer for any number.
 use crate::CHANNELS;
 use crate::State;
 use channel::Channel;
@@ -7,7 +7,7 @@ use files::File;
 use pool::FILES;
 use sizes::closed_file;
 ghost use mathlib.Core.Path.{_≡_};
-ghost use Rattle.state.specs.Places.{beforeStart, channelIn, fileAt, channelAt, withFile, withChannel, areaShort};
+ghost use Rattle.state.specs.Places.{beforeStart, channelIn, fileAt, channelAt, areaShort};
 
 // The state before the first fresh start: no buffers, no units, no file open.
 pub fn before_start() -> State
@@ -56,30 +56,6 @@ pub fn channel_at(s: State, c: usize) -> Channel
     }
     let x = s.channels[c];
     x
-}
-
-// The state with another file in the place of that number, unchanged past the last.
-pub fn with_file(s: State, i: usize, f: File) -> State
-    ensures { λ r. ⌜ r ≡ withFile s i f ⌝ }
-{
-    if FILES <= i {
-        return s;
-    }
-    let mut t = s;
-    t.files[i] = f;
-    t
-}
-
-// The state with another channel in the place of that number, unchanged past the last.
-pub fn with_channel(s: State, c: usize, x: Channel) -> State
-    ensures { λ r. ⌜ r ≡ withChannel s c x ⌝ }
-{
-    if CHANNELS <= c {
-        return s;
-    }
-    let mut t = s;
-    t.channels[c] = x;
-    t
 }
 
 // Whether an area of n words is too short for the pool.

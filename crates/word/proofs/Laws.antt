@@ -1,3 +1,2 @@
 pub mod Carry
 pub mod Sum
-pub mod CheckWord

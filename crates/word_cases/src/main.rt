@@ -87,11 +87,11 @@ fn play_sum(words: &[u64]) {
 // `2 sequence check number sum`: the check word, its two fields, and the next block number.
 fn play_check_word(head: &[u64]) {
     let n = block_number(head, 2);
-    let w = word::check_word(chosen(head, 0), chosen(head, 1), number(head, 3), n);
+    let w = checkword::check_word(chosen(head, 0), chosen(head, 1), number(head, 3), n);
     say(w);
-    also(word::sum_field(w));
-    also(word::number_field(w));
-    also(word::next_number(n) as u64);
+    also(checkword::sum_field(w));
+    also(checkword::number_field(w));
+    also(checkword::next_number(n) as u64);
 }
 
 // `3 len n sequence check number words`: sealing, the refusal and every word of the slice afterwards.

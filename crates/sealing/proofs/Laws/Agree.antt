@@ -15,9 +15,9 @@ use Rattle.area.specs.Lists.{allOf}
 use Rattle.area.specs.Parts.{isWord}
 use Rattle.area.proofs.Walks.{by-test, and-both, or-left, or-right, or-first, or-second, all-append}
 use Rattle.word.specs.Sums.{logicalSum, firstHalf, folded}
-use Rattle.word.specs.CheckWords.{address, chosen, checkWord}
+use Rattle.checkword.specs.CheckWords.{address, chosen, checkWord}
 use Rattle.sealing.specs.Blocks.{extra, sealRefusal, sealed, dataWords, errorOf, judged}
-use Rattle.word.proofs.Laws.CheckWord.{address-small, check-word-lt, check-word-first, check-word-address}
+use Rattle.checkword.proofs.Laws.CheckWord.{address-small, check-word-lt, check-word-first, check-word-address}
 use Rattle.sealing.proofs.Laws.Block.{seal-number, seal-room, seal-place, seal-writes, seal-leaves, judge-error}
 
 -- ---- the error of a word w where the check word is `checkWord sequence check sum number`

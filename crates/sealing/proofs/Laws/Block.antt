@@ -13,9 +13,9 @@ use Rattle.area.proofs.Walks.{by-test, or-left, or-right, or-first, or-second, 
 use Rattle.area.proofs.Pastes.{part-all}
 use Rattle.area.proofs.Lowest.{lowest-here, lowest-past, lowest-none, lowest-end}
 use Rattle.word.specs.Sums.{logicalSum}
-use Rattle.word.specs.CheckWords.{chosen, checkWord}
+use Rattle.checkword.specs.CheckWords.{chosen, checkWord}
 use Rattle.sealing.specs.Blocks.{extra, isNumber, sealRefusal, withCheckWord, sealed, dataWords, judgeRefusal, errorOf, judged}
-use Rattle.word.proofs.Laws.CheckWord.{check-word-unsummed}
+use Rattle.checkword.proofs.Laws.CheckWord.{check-word-unsummed}
 
 -- ---- sealing
 

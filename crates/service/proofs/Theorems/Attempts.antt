@@ -15,7 +15,7 @@ use Rattle.channel.specs.declared.Turn.the-variants.{Idle, Waiting}
 use Rattle.channel.specs.declared.Channel.{Channel}
 use Rattle.outcomes.specs.Rules.{rowOf}
 use Rattle.channel.specs.Units.{size, declaredAt, turnAt, withTurn, isIdle}
-use Rattle.schedule.specs.Turns.{startOf, newRequest}
+use Rattle.beginning.specs.Starts.{startOf, newRequest}
 use Rattle.service.specs.History.{Station, Event, ask, accepted, Step, step, run, oneIf, count, aReportOf, anAnswerTo}
 use Rattle.service.proofs.Theorems.Turning.{held, at-set, busy-inside, declared-inside}
 use Rattle.service.proofs.Theorems.Starts.{Started, isFrozen, isBusy, isQuiet, begins, started}

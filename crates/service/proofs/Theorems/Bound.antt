@@ -5,7 +5,8 @@ use Rattle.area.specs.Lists.{anyOf, firstAlong}
 use Rattle.outcomes.specs.Rules.{redundancy, rowOf, isAllowed, isPermanent, nextAttempt, endingOf, verdictOf}
 use Rattle.channel.specs.Units.{withTurn, freshWith, acceptsAt}
 use Rattle.scanning.specs.Scans.{scanFrom, workingIn, priorityIn, ordinaryIn, nextTurn}
-use Rattle.schedule.specs.Turns.{startOf, thawOf, askOf, judgeOf, goesOn, repeatOf, markAfter, endOf, bookOf, reportOf}
+use Rattle.schedule.specs.Turns.{judgeOf, goesOn, repeatOf, markAfter, endOf, bookOf, reportOf}
+use Rattle.beginning.specs.Starts.{startOf, thawOf, askOf}
 use Rattle.service.specs.History.{report, step, fresh, run, count, aReport, anAnswerTo}
 use Rattle.service.specs.Bound.{twoAsk, allButOne}
 

@@ -13,7 +13,8 @@ use Rattle.channel.specs.declared.Turn.the-variants.{Idle, Waiting, Displaced, 
 use Rattle.channel.specs.declared.Channel.{Channel}
 use Rattle.outcomes.specs.Rules.{mostReports}
 use Rattle.channel.specs.Units.{size, declaredAt, turnAt, withTurn}
-use Rattle.schedule.specs.Turns.{newRequest, isOrdinary}
+use Rattle.schedule.specs.Turns.{isOrdinary}
+use Rattle.beginning.specs.Starts.{newRequest}
 use Rattle.service.specs.History.{oneIf, holdsPriority}
 use Rattle.service.proofs.Laws.Sums.{sum, sum-at, sum-le, sum-mul, sum-term}
 use Rattle.service.proofs.Theorems.Turning.{held, at-set, busy-inside}

@@ -15,7 +15,8 @@ use Rattle.outcomes.specs.declared.Verdict.{Verdict}
 use Rattle.outcomes.specs.declared.Verdict.the-variants.{Refused, Repeats, Ends}
 use Rattle.outcomes.specs.Rules.{verdictOf}
 use Rattle.channel.specs.Units.{declaredAt, turnAt, withTurn, withMark, isIdle, acceptsAt}
-use Rattle.schedule.specs.Turns.{startOf, thawOf, newRequest, askOf, judgeTurn, judgeOf, goesOn, incompleteTurn, repeatOf, markAfter, endOf, bookOf, reportOf}
+use Rattle.schedule.specs.Turns.{judgeTurn, judgeOf, goesOn, incompleteTurn, repeatOf, markAfter, endOf, bookOf, reportOf}
+use Rattle.beginning.specs.Starts.{startOf, thawOf, newRequest, askOf}
 use Rattle.service.specs.History.{Station, station, Event, ask, report, freeze, thaw, refused, accepted, repeated, answered, Step, stepTo, askStep, reportAnswer, step, aReportOf, aRequestOf, anAnswerTo}
 use Rattle.service.proofs.Theorems.Turning.{held}
 

@@ -13,7 +13,7 @@ use Rattle.channel.specs.declared.Turn.the-variants.{Idle, Waiting, Displaced, 
 use Rattle.channel.specs.declared.Unit.{Unit}
 use Rattle.channel.specs.declared.Channel.{Channel}
 use Rattle.channel.specs.Units.{size, idleUnit, declaredAt, turnAt, freshWith}
-use Rattle.schedule.specs.Turns.{startOf}
+use Rattle.beginning.specs.Starts.{startOf}
 use Rattle.service.specs.History.{oneIf, holdsPriority, urgentIn, declaredIn}
 use Rattle.service.proofs.Laws.Sums.{sum, sum-le, count-sum}
 use Rattle.service.proofs.Theorems.Turning.{held, at-set}

@@ -11,7 +11,8 @@ use Rattle.channel.specs.declared.Turn.the-variants.{Idle, Waiting, Displaced, 
 use Rattle.channel.specs.declared.Channel.{Channel}
 use Rattle.outcomes.specs.Rules.{mostReports}
 use Rattle.channel.specs.Units.{size, turnAt, withTurn, freshWith}
-use Rattle.schedule.specs.Turns.{startOf, newRequest, isOrdinary}
+use Rattle.schedule.specs.Turns.{isOrdinary}
+use Rattle.beginning.specs.Starts.{startOf, newRequest}
 use Rattle.service.specs.History.{Station, Event, ask, accepted, Step, step, fresh, run, oneIf, count, aReport, aPriority, anAnswerTo, holdsPriority, declaredIn, Kept}
 use Rattle.service.proofs.Theorems.Turning.{held, size-with, at-set, declared-inside}
 use Rattle.service.proofs.Theorems.Starts.{turn-busy, started}

@@ -10,7 +10,7 @@ use Rattle.channel.specs.declared.Turn.the-variants.{Idle}
 use Rattle.channel.specs.declared.Unit.{Unit}
 use Rattle.channel.specs.declared.Channel.{Channel}
 use Rattle.channel.specs.Units.{size, idleUnit, unitAt, declaredAt, withTurn, isIdle, freshWith}
-use Rattle.schedule.specs.Turns.{startOf}
+use Rattle.beginning.specs.Starts.{startOf}
 use Rattle.service.specs.History.{Station, Event, Step, step, fresh, run}
 use Rattle.channel.specs.Units.{isWorking}
 use Rattle.service.proofs.Theorems.Turning.{held, size-with, at-set, busy-inside, declared-inside}

@@ -7,7 +7,7 @@ use Rattle.channel.specs.declared.Request.{Request}
 use Rattle.channel.specs.declared.Turn.the-variants.{Idle, Waiting, Working}
 use Rattle.channel.specs.declared.Channel.{Channel}
 use Rattle.channel.specs.Units.{turnAt, isIdle, withTurn}
-use Rattle.schedule.specs.Turns.{startOf, newRequest}
+use Rattle.beginning.specs.Starts.{startOf, newRequest}
 use Rattle.channel.specs.Units.{isWorking}
 use Rattle.service.proofs.Theorems.Turning.{at-set, declared-inside}
 use Rattle.service.proofs.Theorems.Sound.{OneWorks}

@@ -14,7 +14,8 @@ use Rattle.channel.specs.declared.Channel.{Channel}
 use Rattle.outcomes.specs.Rules.{mostReports}
 use Rattle.channel.specs.Units.{size, declaredAt, turnAt, withTurn, withMark}
 use Rattle.scanning.specs.Scans.{nextUnit}
-use Rattle.schedule.specs.Turns.{startOf, newRequest, isOrdinary, markAfter}
+use Rattle.schedule.specs.Turns.{isOrdinary, markAfter}
+use Rattle.beginning.specs.Starts.{startOf, newRequest}
 use Rattle.service.specs.History.{Station, station, Event, ask, report, thaw, Answer, accepted, repeated, answered, Step, stepTo, oneIf, aReport, aPriority, anAnswerTo}
 use Rattle.service.proofs.Theorems.Turning.{worksTurn, held, declared-inside}
 use Rattle.service.proofs.Theorems.Starts.{started}

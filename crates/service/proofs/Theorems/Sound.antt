@@ -18,7 +18,7 @@ use Rattle.channel.specs.declared.Channel.{Channel}
 use Rattle.outcomes.specs.declared.Verdict.the-variants.{Refused, Repeats, Ends}
 use Rattle.outcomes.specs.Rules.{mostAttempts, incompleteWord, rowOf, isAllowed, isFailure, isPermanent, nextAttempt, endingOf, verdictOf}
 use Rattle.channel.specs.Units.{size, declaredAt, turnAt, withTurn, isIdle}
-use Rattle.schedule.specs.Turns.{newRequest}
+use Rattle.beginning.specs.Starts.{newRequest}
 use Rattle.service.specs.History.{Station, Event, Step, step, run}
 use Rattle.channel.specs.Units.{isWorking}
 use Rattle.service.proofs.Theorems.Turning.{held, at-set, busy-inside, declared-inside}

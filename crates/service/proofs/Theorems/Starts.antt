@@ -12,7 +12,8 @@ use Rattle.channel.specs.declared.Channel.{Channel}
 use Rattle.channel.specs.Units.{size, turnAt, withTurn, isIdle}
 use Rattle.scanning.specs.Scans.{priority, beginOf, workingIn, priorityIn, ordinaryIn, orElse, nextTurn, Before, Scanned, finds, misses}
 use Rattle.area.specs.Lists.{isFound}
-use Rattle.schedule.specs.Turns.{begunTurn, begunAt, startOf, isOrdinary}
+use Rattle.schedule.specs.Turns.{isOrdinary}
+use Rattle.beginning.specs.Starts.{begunTurn, begunAt, startOf}
 use Rattle.service.proofs.Theorems.Order.{Compared, same, first, later, compare-before}
 use Rattle.channel.specs.Units.{isWorking}
 use Rattle.service.proofs.Theorems.Turning.{wantsPriority, wantsTurn, worksTurn, held, beginIn, working-scan, priority-scan, ordinary-scan, at-set, everywhere, busy-inside}

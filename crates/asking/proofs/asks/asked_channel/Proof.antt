@@ -1,9 +1,9 @@
 -- `asking::asks::asked_channel` meets its contract, from those of `op_of` and of the channel's `ask`. Assumes nothing.
 use lib.Dec.{eqb}
 use Rattle.channel.specs.declared.Op.{Op}
-use Rattle.schedule.specs.Turns.{askOf}
+use Rattle.beginning.specs.Starts.{askOf}
 use mathlib.Core.Path.{ap, _∙_}
-use Rattle.schedule.specs.declared.Asked.{Asked}
+use Rattle.beginning.specs.declared.Asked.{Asked}
 use Rattle.asking.specs.Ask.{askedChannel}
 use borrow.Author.Needs.{needs}
 use Rattle.asking.proofs.asks.asked_channel.Statement.{statement}

@@ -7,7 +7,8 @@ use lib.ListN.{length, drop}
 use Rattle.area.specs.Lists.{anyOf}
 use Rattle.area.proofs.Walks.{any-hit, any-miss, any-done}
 use Rattle.sizes.specs.Opening.{closedFile}
-use Rattle.pool.specs.Free.{serves, fileCount}
+use Rattle.pool.specs.Free.{fileCount}
+use Rattle.serving.specs.Serving.{serves}
 use Rattle.judging.proofs.channels.is_served.Statement.{statement}
 use Rattle.judging.proofs.channels.is_served.Tie as tie
 

@@ -1,6 +1,6 @@
 -- `replies::calls::closed` meets its contract, by the inner form. Assumes nothing.
 use mathlib.Core.Path.{ap, _∙_}
-use Rattle.starting.specs.declared.FileChange.{FileChange}
+use Rattle.changing.specs.declared.FileChange.{FileChange}
 use Rattle.replies.specs.Changes.{quietChange, closeChangeOn}
 use borrow.Author.Needs.{needs}
 use Rattle.replies.proofs.calls.closed.Statement.{statement}

@@ -1,6 +1,6 @@
 -- `replies::calls::skipped` meets its contract, by the inner form. Assumes nothing.
 use mathlib.Core.Path.{ap, _∙_}
-use Rattle.input.specs.declared.SkipChange.{SkipChange}
+use Rattle.changing.specs.declared.FileChange.{FileChange}
 use Rattle.replies.specs.Changes.{quietChange, skipChangeOn}
 use borrow.Author.Needs.{needs}
 use Rattle.replies.proofs.calls.skipped.Statement.{statement}
@@ -14,7 +14,7 @@ quiet-requires c κs = search needs
 
 returns : tie.Need-returns
 unfolding skipChangeOn
-returns c = c .quiet .ensures ∙ ap (λ (x : SkipChange). quietChange (x .refusal) (x .file) (c .before .before .before .args .c)) (c .before .before .skip-on .ensures)
+returns c = c .quiet .ensures ∙ ap (λ (x : FileChange). quietChange (x .refusal) (x .file) (c .before .before .before .args .c)) (c .before .before .skip-on .ensures)
 
 pub skipped-spec : {M : Type 1} → statement M
 skipped-spec = tie.close (tie.spec skip-on-requires quiet-requires returns)

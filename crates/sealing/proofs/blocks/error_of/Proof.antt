@@ -4,7 +4,7 @@ use mathlib.Core.Path.{ap, ap₂, _∙_}
 use mathlib.Core.Bool.{cond}
 use Prim.Native.Nat.{ℕ, _+_}
 use lib.Dec.{eqb}
-use Rattle.word.specs.CheckWords.{chosen}
+use Rattle.checkword.specs.CheckWords.{chosen}
 use Rattle.sealing.specs.Blocks.{errorOf}
 use Rattle.sealing.proofs.blocks.error_of.Statement.{statement}
 use Rattle.sealing.proofs.blocks.error_of.Tie as tie

@@ -11,7 +11,7 @@ use lib.ListN.{length, take}
 use Rattle.area.specs.Lists.{allOf}
 use Rattle.area.specs.Parts.{isWord}
 use Rattle.word.specs.Sums.{logicalSum}
-use Rattle.word.specs.CheckWords.{checkWord}
+use Rattle.checkword.specs.CheckWords.{checkWord}
 use Rattle.sealing.specs.Blocks.{extra}
 use Rattle.sealing.proofs.Laws.Block.{seal-bad-number, seal-no-room, seal-spoilt, seal-accepted, seal-summed, seal-word}
 use Rattle.word.proofs.Laws.Sum.{summed-fits, summed-sum}

@@ -1,6 +1,6 @@
 -- `starting::fresh` meets its contract, from the contracts of `fresh_refusal` and `fresh_state`. Assumes nothing.
 use Rattle.starting.specs.Fresh.{freshBy}
-use Rattle.starting.proofs.Answered.{answers-refused, answers-accepted}
+use Rattle.changing.proofs.Answered.{answers-refused, answers-accepted}
 use borrow.Author.Needs.{needs}
 use Rattle.starting.proofs.begins.fresh.Statement.{statement}
 use Rattle.starting.proofs.begins.fresh.Tie as tie

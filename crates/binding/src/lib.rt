@@ -1,0 +1,16 @@
+// Open and close on the one file and the one channel that they concern: their rows of the refusal table, and the file after them.
+// It knows nothing of states.
+mod closes;
+mod opens;
+
+pub use closes::close_on;
+pub use opens::free_of;
+pub use opens::open_on;
+pub use opens::wish_of;
+
+// The free buffers: how many, and the two lowest of them.
+pub struct Free {
+    pub count: usize,
+    pub low: u8,
+    pub high: u8,
+}

@@ -1,0 +1,2 @@
+pub mod Seals
+pub mod StepsOn

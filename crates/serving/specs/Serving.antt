@@ -1,0 +1,23 @@
+-- Which file serves a unit (document 01, "Sizes"). Assumes nothing.
+use Prim.Native.Nat.{ℕ, suc, _-_}
+use mathlib.Core.Bool.{Bool, _&&_}
+use mathlib.Core.List.{List}
+use lib.Dec.{eqb}
+use lib.ListN.{getD}
+use Rattle.area.specs.declared.Found.{Found}
+use Rattle.area.specs.Lists.{firstAlong, isFound}
+use Rattle.files.specs.declared.File.{File}
+use Rattle.sizes.specs.Opening.{closedFile}
+use Rattle.pool.specs.Free.{fileCount}
+
+-- "An open file is bound to one unit"
+abbrev pub serves : ℕ → ℕ → File → Bool
+serves channel unit f = f .opened && (eqb (f .channel) channel && eqb (f .unit) unit)
+
+-- the file number that serves a unit
+unfoldable pub servingFile : List File → ℕ → ℕ → Found
+servingFile fs channel unit = firstAlong suc (λ i. serves channel unit (getD fs i closedFile)) fileCount 0
+
+-- refusal 4, "unit already bound"
+abbrev pub isBound : List File → ℕ → ℕ → Bool
+isBound fs channel unit = isFound (servingFile fs channel unit)
