@@ -1,6 +1,6 @@
 -- "Requests, reports, turns" (document 01): a start, a thaw and an ask on one channel. Assumes nothing.
 use Prim.Native.Nat.{ℕ}
-use mathlib.Core.Bool.{Bool, true, false, not, cond, _||_}
+use mathlib.Core.Bool.{Bool, true, false, cond, _||_}
 use Rattle.area.specs.declared.Found.{Found}
 use Rattle.area.specs.declared.Found.the-variants.{At, Nothing}
 use Rattle.channel.specs.declared.Op.{Op}
@@ -12,6 +12,8 @@ use Rattle.beginning.specs.declared.Asked.{Asked}
 use Rattle.scanning.specs.Scans.{workingIn, nextTurn}
 use Rattle.area.specs.Lists.{isFound}
 use Rattle.channel.specs.Units.{turnAt, withTurn, acceptsAt}
+
+-- ---- a start
 
 abbrev pub begunTurn : Turn → Turn
 begunTurn Idle = Idle
@@ -32,9 +34,12 @@ startOf c frozen = cond (frozen || isFound (workingIn c)) c (begunAt c (nextTurn
 unfoldable pub thawOf : Channel → Channel
 thawOf c = startOf c false
 
+-- ---- ask
+
 abbrev pub newRequest : Op → Bool → Request
 newRequest op priority = record { op = op; priority = priority; attempts = 1; incomplete = 0 }
 
+-- "A unit holds one unanswered request at most": accepted if the unit is declared and has none
 unfoldable pub askOf : Channel → ℕ → Op → Bool → Bool → Asked
 askOf c u op priority frozen =
     cond (acceptsAt c u)

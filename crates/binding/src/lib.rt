@@ -8,6 +8,9 @@ pub use opens::free_of;
 pub use opens::open_on;
 pub use opens::wish_of;
 
+// All four flags of an open together.
+pub const FLAGS: u8 = 15;
+
 // The free buffers: how many, and the two lowest of them.
 pub struct Free {
     pub count: usize,

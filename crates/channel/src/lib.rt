@@ -11,8 +11,10 @@ pub use units::operation_of;
 pub use units::turn_of;
 pub use units::with_turn;
 
-// The units of a channel.
+// The units of a channel, and the number of the last.
 pub const UNITS: usize = 10;
+
+pub const LAST_UNIT: u8 = 9;
 
 pub enum Op {
     Read,

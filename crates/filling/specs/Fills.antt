@@ -1,6 +1,6 @@
 -- The file with something else in one of its buffers. Assumes nothing.
 use Prim.Native.Nat.{ℕ, _+_, _%_}
-use mathlib.Core.Bool.{Bool, false, not}
+use mathlib.Core.Bool.{Bool, false}
 use Rattle.slots.specs.declared.Slot.{Slot}
 use Rattle.slots.specs.declared.Slot.the-variants.{Empty, Full}
 use Rattle.files.specs.declared.Side.{Side}

@@ -21,7 +21,7 @@ use Rattle.getting.specs.Skip.{skipRows, skipRefusal, skipOn}
 
 abbrev rows : Bool → Bool → Bool → Bool → Bool → Rows
 rows c1 c2 c5 c6 c9 =
-    (1, c1) ∷ (2, c2) ∷ (3, false) ∷ (4, false) ∷ (5, c5) ∷ (6, c6) ∷ (7, false) ∷ (8, false) ∷ (9, c9) ∷ (10, false) ∷ (11, false) ∷ (12, false) ∷ (13, false) ∷ (15, false) ∷ []
+    (1, c1) ∷ (2, c2) ∷ (5, c5) ∷ (6, c6) ∷ (9, c9) ∷ (13, false) ∷ []
 
 pub get-rows : (c1 right : Bool) (f : File) (g : Got) (area words : List ℕ) → words ≡ shown area g → right ≡ allOf isWord words
     → lowest (rows c1 ((f .opened && not (f .output)) && not right) (not (f .opened)) (f .output) false) ≡ getRefusal c1 f g area

@@ -3,7 +3,7 @@ use changing::FileChange;
 use files::File;
 use filling::without_oldest;
 use reads::has_full;
-use refusing::lowest_of;
+use refusing::job_refusal;
 ghost use mathlib.Core.Path.{_≡_};
 ghost use Rattle.getting.specs.Skip.{skipRefusal, skipOn};
 
@@ -15,22 +15,7 @@ fn skip_refusal(c1: bool, f: File) -> u8
     let c5 = !f.opened;
     let c6 = f.output;
     let c9 = !full;
-    lowest_of(
-        c1,
-        false,
-        false,
-        false,
-        c5,
-        c6,
-        false,
-        false,
-        c9,
-        false,
-        false,
-        false,
-        false,
-        false,
-    )
+    job_refusal(c1, false, c5, c6, c9, false)
 }
 
 // Skip on one file.

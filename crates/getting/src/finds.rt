@@ -2,7 +2,7 @@
 use crate::GetChange;
 use files::File;
 use gets::Got;
-use refusing::lowest_of;
+use refusing::job_refusal;
 use showing::got_start;
 ghost use mathlib.Core.Path.{_≡_};
 ghost use Rattle.gets.specs.Histories.{shown};
@@ -25,22 +25,7 @@ fn get_refusal(c1: bool, f: File, g: Got, area: &[u64]) -> u8
     let c2 = (f.opened & !f.output) & !right;
     let c5 = !f.opened;
     let c6 = f.output;
-    lowest_of(
-        c1,
-        c2,
-        false,
-        false,
-        c5,
-        c6,
-        false,
-        false,
-        false,
-        false,
-        false,
-        false,
-        false,
-        false,
-    )
+    job_refusal(c1, c2, c5, c6, false, false)
 }
 
 // Get on one file, in an area with w words for each buffer.

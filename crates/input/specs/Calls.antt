@@ -13,7 +13,7 @@ use Rattle.getting.specs.declared.GetChange.{GetChange}
 use Rattle.input.specs.declared.Getting.{Getting}
 use Rattle.getting.specs.Get.{getOn}
 
--- on a state
+-- what changes: the file of that number
 abbrev pub getChange : State → List ℕ → ℕ → GetChange
 getChange s area file = getOn (misused s (length area) file) (fileAt s file) (s .w) area
 

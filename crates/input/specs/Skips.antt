@@ -11,12 +11,11 @@ use Rattle.changing.specs.declared.FileChange.{FileChange}
 use Rattle.changing.specs.declared.Called.{Called}
 use Rattle.getting.specs.Skip.{skipOn}
 
--- ---- the refusal
-
 -- 1: "an argument is outside its range, .. a state passed back is unsound"; skip takes no area
 abbrev pub skipMisused : State → ℕ → Bool
 skipMisused s file = ltb 15 file || not (sound s)
 
+-- what changes: the file of that number
 abbrev pub skipChange : State → ℕ → FileChange
 skipChange s file = skipOn (skipMisused s file) (fileAt s file)
 

@@ -15,6 +15,3 @@ pub struct Getting {
     pub got: Got,
     pub state: State,
 }
-
-// The highest file number.
-const LAST_FILE: u8 = 15;

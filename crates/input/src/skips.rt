@@ -1,8 +1,8 @@
 // Skip on a whole state.
-use crate::LAST_FILE;
 use changing::Called;
 use getting::skip_on;
 use judging::is_sound;
+use pool::LAST_FILE;
 use state::State;
 use state::file_at;
 use storing::with_file;

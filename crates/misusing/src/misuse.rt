@@ -1,12 +1,10 @@
 // Row 1 of a call on a file that is lent the area.
 use judging::is_sound;
+use pool::LAST_FILE;
 use state::State;
 use state::area_short;
 ghost use mathlib.Core.Path.{_≡_};
 ghost use Rattle.misusing.specs.Misused.{misused};
-
-// The highest file number.
-const LAST_FILE: u8 = 15;
 
 // Whether the file number is outside its range, an area of n words is short, or the state is unsound.
 pub fn is_misused(s: State, n: usize, file: u8) -> bool

@@ -1,4 +1,5 @@
 // Open and close on a whole state.
+use binding::FLAGS;
 use binding::free_of;
 use binding::open_on;
 use binding::wish_of;
@@ -24,7 +25,7 @@ fn open_off(s: State, file: u8, channel: u8, unit: u8, flags: u8) -> bool
     let i = file as usize;
     let c = channel as usize;
     let u = unit as usize;
-    (FILES <= i) | ((CHANNELS <= c) | ((UNITS <= u) | ((15 < flags) | !good)))
+    (FILES <= i) | ((CHANNELS <= c) | ((UNITS <= u) | ((FLAGS < flags) | !good)))
 }
 
 // An open, with its arguments as a frame has them.

@@ -11,7 +11,7 @@ use Rattle.changing.specs.declared.FileChange.{FileChange}
 use Rattle.changing.specs.declared.Called.{Called}
 use Rattle.putting.specs.Put.{putOn, putOnArea}
 
--- on a state
+-- what changes: the file of that number
 abbrev pub putChange : State → List ℕ → ℕ → List ℕ → FileChange
 putChange s area file words = putOn (misused s (length area) file) (fileAt s file) (s .w) area words
 

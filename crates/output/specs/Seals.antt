@@ -11,7 +11,7 @@ use Rattle.changing.specs.declared.FileChange.{FileChange}
 use Rattle.changing.specs.declared.Called.{Called}
 use Rattle.putting.specs.Seal.{sealOn, sealOnArea}
 
--- on a state
+-- what changes: the file of that number
 abbrev pub sealChange : State → List ℕ → ℕ → FileChange
 sealChange s area file = sealOn (misused s (length area) file) (fileAt s file) (s .w) area
 

@@ -8,8 +8,10 @@ pub use free::lowest_free;
 pub use free::pool_fits;
 pub use free::pool_sound;
 
-// How many files there are; how many buffers a pool may have, and how many words a buffer.
+// How many files there are, and the number of the last; how many buffers a pool may have, and how many words a buffer.
 pub const FILES: usize = 16;
+
+pub const LAST_FILE: u8 = 15;
 
 pub const BUFFERS: u8 = 32;
 

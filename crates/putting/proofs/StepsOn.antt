@@ -19,7 +19,7 @@ use Rattle.putting.specs.Seal.{sealSums, sealRows, sealRefusal, sealOn, 
 
 abbrev rows : Bool → Bool → Bool → Bool → Bool → Bool → Rows
 rows c1 c2 c5 c6 c9 c13 =
-    (1, c1) ∷ (2, c2) ∷ (3, false) ∷ (4, false) ∷ (5, c5) ∷ (6, c6) ∷ (7, false) ∷ (8, false) ∷ (9, c9) ∷ (10, false) ∷ (11, false) ∷ (12, false) ∷ (13, c13) ∷ (15, false) ∷ []
+    (1, c1) ∷ (2, c2) ∷ (5, c5) ∷ (6, c6) ∷ (9, c9) ∷ (13, c13) ∷ []
 
 pub put-rows : (c1 right summed spoilt room : Bool) (f : File) (w : ℕ) (area words : List ℕ)
     → right ≡ allOf isWord words → summed ≡ sums f (length words) → spoilt ≡ (summed && not (heldRight w f area)) → room ≡ hasRoom f

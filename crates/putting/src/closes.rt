@@ -5,7 +5,7 @@ use changing::FileChange;
 use files::File;
 use puts::has_part;
 use puts::sealed;
-use refusing::lowest_of;
+use refusing::job_refusal;
 ghost use mathlib.Core.Path.{_≡_};
 ghost use Rattle.putting.specs.Seal.{sealRefusal, sealOn, sealOnArea};
 
@@ -19,22 +19,7 @@ fn seal_refusal(c1: bool, f: File, w: u16, area: &[u64]) -> u8
     let c5 = !f.opened;
     let c6 = !f.output;
     let c9 = !part;
-    lowest_of(
-        c1,
-        c2,
-        false,
-        false,
-        c5,
-        c6,
-        false,
-        false,
-        c9,
-        false,
-        false,
-        false,
-        false,
-        false,
-    )
+    job_refusal(c1, c2, c5, c6, c9, false)
 }
 
 // Seal on one file, in an area with w words for each buffer.

@@ -8,7 +8,7 @@ use puts::has_room;
 use puts::is_complete;
 use puts::put_start;
 use puts::sealed;
-use refusing::lowest_of;
+use refusing::job_refusal;
 ghost use mathlib.Core.Path.{_≡_};
 ghost use Rattle.putting.specs.Put.{sums, putRefusal, filledArea, putOn, putOnArea};
 
@@ -37,22 +37,7 @@ fn put_refusal(c1: bool, f: File, w: u16, area: &[u64], words: &[u64]) -> u8
     let c6 = !f.output;
     let c9 = !room;
     let c13 = !fits;
-    lowest_of(
-        c1,
-        c2,
-        false,
-        false,
-        c5,
-        c6,
-        false,
-        false,
-        c9,
-        false,
-        false,
-        false,
-        c13,
-        false,
-    )
+    job_refusal(c1, c2, c5, c6, c9, c13)
 }
 
 // The words go after those of the part-filled buffer, or from the start of the lowest empty one.

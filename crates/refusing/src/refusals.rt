@@ -46,6 +46,28 @@ pub fn lowest_of(
     later_of(c8, c9, c10, c11, c12, c13, c15)
 }
 
+// The same of the rows that a job's own calls on a file have: get, skip, put and seal.
+pub fn job_refusal(c1: bool, c2: bool, c5: bool, c6: bool, c9: bool, c13: bool) -> u8
+    ensures { λ r. ⌜ r ≡ lowest ((1, c1) ∷ (2, c2) ∷ (5, c5) ∷ (6, c6) ∷ (9, c9) ∷ (13, c13) ∷ []) ⌝ }
+{
+    lowest_of(
+        c1,
+        c2,
+        false,
+        false,
+        c5,
+        c6,
+        false,
+        false,
+        c9,
+        false,
+        false,
+        false,
+        c13,
+        false,
+    )
+}
+
 fn later_of(c8: bool, c9: bool, c10: bool, c11: bool, c12: bool, c13: bool, c15: bool) -> u8
     ensures { λ r. ⌜ r ≡ lowest ((8, c8) ∷ (9, c9) ∷ (10, c10) ∷ (11, c11) ∷ (12, c12) ∷ (13, c13) ∷ (15, c15) ∷ []) ⌝ }
 {

@@ -12,13 +12,12 @@ use Rattle.frame.specs.Frames.{frameOf}
 use Rattle.channel.specs.declared.Channel.{Channel}
 use Rattle.files.specs.declared.File.{File}
 use Rattle.pool.specs.Free.{fileCount}
-use Rattle.serving.specs.Serving.{servingFile}
+use Rattle.serving.specs.Serving.{fileServing}
 use Rattle.state.specs.declared.State.{State}
 use Rattle.state.specs.Places.{fileAt, channelAt}
 use Rattle.storing.specs.Stores.{withFile, withChannel}
 use Rattle.starting.specs.Fresh.{freshRefusal, freshState}
 use Rattle.freezing.specs.Freeze.{frozenState, thawedState}
-use Rattle.requests.specs.Calls.{numberOr}
 use Rattle.replies.specs.declared.Change.{Change}
 use Rattle.replies.specs.declared.Turned.{Turned}
 use Rattle.replies.specs.Replies.{Reply, masksOf, givenWords}
@@ -64,7 +63,7 @@ abbrev pub fileNumber : Frame → List File → ℕ
 fileNumber (Open file channel unit flags size rlen) files = file
 fileNumber (Close file) files = file
 fileNumber (Ask file op priority) files = file
-fileNumber (Report channel unit outcome n) files = numberOr (servingFile files channel unit) fileCount
+fileNumber (Report channel unit outcome n) files = fileServing files channel unit
 fileNumber (Get file) files = file
 fileNumber (Put file n) files = file
 fileNumber (Seal file) files = file

@@ -3,6 +3,7 @@
 use crate::Change;
 use answers::Answer;
 use asking::ask_on;
+use binding::FLAGS;
 use binding::close_on;
 use binding::free_of;
 use binding::open_on;
@@ -12,6 +13,7 @@ use channel::UNITS;
 use files::File;
 use getting::skip_on;
 use pool::FILES;
+use pool::LAST_FILE;
 use serving::is_bound;
 use state::CHANNELS;
 ghost use mathlib.Core.Path.{_≡_};
@@ -61,7 +63,7 @@ pub fn opened(
     let i = file as usize;
     let j = channel as usize;
     let u = unit as usize;
-    let c1 = (FILES <= i) | ((CHANNELS <= j) | ((UNITS <= u) | ((15 < flags) | unsound)));
+    let c1 = (FILES <= i) | ((CHANNELS <= j) | ((UNITS <= u) | ((FLAGS < flags) | unsound)));
     let bound = is_bound(files, channel, unit);
     let free = free_of(m, files);
     let q = wish_of(channel, unit, flags, size, rlen);
@@ -90,7 +92,7 @@ pub fn asked(
 ) -> Change
     ensures { λ r. ⌜ r ≡ askChangeOn unsound frozen f c file op priority ⌝ }
 {
-    let x = ask_on(unsound | (15 < file), f, c, op, priority, frozen);
+    let x = ask_on(unsound | (LAST_FILE < file), f, c, op, priority, frozen);
     let g = x.file;
     let d = x.channel;
     let working = x.working;
@@ -107,7 +109,7 @@ pub fn asked(
 pub fn skipped(unsound: bool, f: File, c: Channel, file: u8) -> Change
     ensures { λ r. ⌜ r ≡ skipChangeOn unsound f c file ⌝ }
 {
-    let x = skip_on((15 < file) | unsound, f);
+    let x = skip_on((LAST_FILE < file) | unsound, f);
     let g = x.file;
     quiet(x.refusal, g, c)
 }

@@ -1,13 +1,9 @@
 // The file and the channel that a frame concerns.
-use area::Found;
 use files::File;
 use frame::Frame;
 use pool::FILES;
-use serving::serving_file;
+use serving::file_of;
 ghost use mathlib.Core.Path.{_≡_};
-ghost use Rattle.pool.specs.Free.{fileCount};
-ghost use Rattle.serving.specs.Serving.{servingFile};
-ghost use Rattle.requests.specs.Calls.{numberOr};
 ghost use Rattle.replies.specs.Turns.{fileNumber, channelNumber};
 
 // The number of the file that a frame concerns, past the last for none.
@@ -40,23 +36,13 @@ pub fn file_number(f: Frame, files: [File; FILES]) -> usize
             unit,
             outcome: _,
             words: _,
-        } => serving(files, channel, unit),
+        } => file_of(files, channel, unit),
         Frame::Get { file } => file as usize,
         Frame::Put { file, words: _ } => file as usize,
         Frame::Seal { file } => file as usize,
         Frame::Skip { file } => file as usize,
         Frame::Freeze => FILES,
         Frame::Thaw => FILES,
-    }
-}
-
-// The number of the file that is open on a unit, past the last for none.
-fn serving(files: [File; FILES], channel: u8, unit: u8) -> usize
-    ensures { λ r. ⌜ r ≡ numberOr (servingFile files channel unit) fileCount ⌝ }
-{
-    match serving_file(files, channel, unit) {
-        Found::At(i) => i,
-        Found::Nothing => FILES,
     }
 }
 

@@ -8,10 +8,12 @@ use channel::Channel;
 use files::File;
 use gets::Got;
 use getting::get_on;
+use pool::LAST_FILE;
 use putting::put_on;
 use putting::seal_on;
 use reporting::report_on;
 use showing::got_start;
+use state::LAST_CHANNEL;
 ghost use mathlib.Core.Path.{_≡_};
 ghost use Prim.Native.Nat.{_*_};
 ghost use lib.Dec.{ltb};
@@ -42,7 +44,7 @@ pub fn reported(
     ensures { λ _. ⌜ now (area .exit) ≡ reportAreaOn unsound m w f c channel unit outcome (now (area .entry)) (now (words .entry)) ⌝ }
 {
     let short = is_short(m, w, area.len());
-    let wrong = unsound | (short | (4 < channel));
+    let wrong = unsound | (short | (LAST_CHANNEL < channel));
     let x = report_on(wrong, f, c, unit, outcome, w, frozen, area, words);
     let g = x.file;
     let d = x.channel;
@@ -83,7 +85,7 @@ pub fn got(unsound: bool, m: u8, w: u16, f: File, c: Channel, file: u8, area: &[
     ensures { λ r. ⌜ r ≡ getChangeOn unsound m w f c file (now (area .entry)) ⌝ }
 {
     let short = is_short(m, w, area.len());
-    let x = get_on((15 < file) | (short | unsound), f, w, area);
+    let x = get_on((LAST_FILE < file) | (short | unsound), f, w, area);
     let g = x.file;
     let found = x.got;
     let told = got_answer(found);
@@ -113,7 +115,7 @@ pub fn filled(
     ensures { λ _. ⌜ now (area .exit) ≡ putAreaOn unsound m w f file (now (area .entry)) (now (words .entry)) ⌝ }
 {
     let short = is_short(m, w, area.len());
-    let x = put_on((15 < file) | (short | unsound), f, w, area, words);
+    let x = put_on((LAST_FILE < file) | (short | unsound), f, w, area, words);
     let g = x.file;
     quiet(x.refusal, g, c)
 }
@@ -131,7 +133,7 @@ pub fn sealed(
     ensures { λ _. ⌜ now (area .exit) ≡ sealAreaOn unsound m w f file (now (area .entry)) ⌝ }
 {
     let short = is_short(m, w, area.len());
-    let x = seal_on((15 < file) | (short | unsound), f, w, area);
+    let x = seal_on((LAST_FILE < file) | (short | unsound), f, w, area);
     let g = x.file;
     quiet(x.refusal, g, c)
 }

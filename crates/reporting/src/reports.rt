@@ -11,6 +11,7 @@ use crate::effects::is_delivery;
 use crate::effects::takes_no_words;
 use area::part_are_words;
 use channel::Channel;
+use channel::LAST_UNIT;
 use channel::Work;
 use channel::operation_of;
 use files::File;
@@ -26,9 +27,7 @@ ghost use mathlib.Core.Path.{_≡_};
 ghost use Rattle.area.specs.Refusals.{lowest};
 ghost use Rattle.reporting.specs.Report.{rowsBy, refusedReport, reportOn, reportOnArea};
 
-// The highest unit number, and the highest outcome.
-const LAST_UNIT: u8 = 9;
-
+// The highest outcome.
 const LAST_OUTCOME: u8 = 4;
 
 // The refusal of a report, 0 for none: by what the channel makes of it, whether the words given and those handed out are below 2^36, and

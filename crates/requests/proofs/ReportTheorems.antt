@@ -38,7 +38,7 @@ use Rattle.files.specs.declared.File.{File}
 use Rattle.sizes.specs.Opening.{closedFile}
 use Rattle.reads.specs.Input.{blockFits}
 use Rattle.pool.specs.Free.{fileCount}
-use Rattle.serving.specs.Serving.{serves, servingFile}
+use Rattle.serving.specs.Serving.{serves, servingFile, numberOr}
 use Rattle.filing.specs.Soundness.{shareBuffer, shareUnit, apart}
 use Rattle.filing.proofs.Replaced.{alike-self, unbound}
 use Rattle.state.specs.declared.State.{State}
@@ -59,7 +59,7 @@ use Rattle.reporting.specs.declared.ReportChange.{ReportChange}
 use Rattle.requests.specs.declared.Reporting.{Reporting}
 use Rattle.reporting.specs.Effects.{effectOf, opEffect, isDelivery}
 use Rattle.reporting.specs.Report.{isIdleFor, takesNoWords, isForbidden, shownStart, shownCount, shownBlock, effectAt, reportRows, reportRefusal, deliveryError, reportedFile, refusedReport, reportOn, reportOnArea}
-use Rattle.requests.specs.Calls.{numberOr, fileOf, reportWrong, reportBy, reportByArea}
+use Rattle.requests.specs.Calls.{fileOf, reportWrong, reportBy, reportByArea}
 use Rattle.requests.proofs.Ready.{not-false, ended-file}
 use Rattle.requests.proofs.Changed.{Frame, changed-refused, changed-taken, changed-frame, here-channel, became-sound}
 

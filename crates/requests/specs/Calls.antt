@@ -4,10 +4,7 @@ use mathlib.Core.Bool.{Bool, not, _||_}
 use mathlib.Core.List.{List}
 use lib.Dec.{ltb}
 use lib.ListN.{length}
-use Rattle.area.specs.declared.Found.{Found}
-use Rattle.area.specs.declared.Found.the-variants.{At, Nothing}
-use Rattle.pool.specs.Free.{fileCount}
-use Rattle.serving.specs.Serving.{servingFile}
+use Rattle.serving.specs.Serving.{fileServing}
 use Rattle.state.specs.declared.State.{State}
 use Rattle.state.specs.Places.{fileAt, channelAt, areaShort}
 use Rattle.judging.specs.Soundness.{sound}
@@ -37,12 +34,8 @@ askBy s file op priority =
 -- ---- report
 
 -- the file that is open on unit u of channel c; past the last file if there is none
-abbrev pub numberOr : Found → ℕ → ℕ
-numberOr (At i) none = i
-numberOr Nothing none = none
-
 abbrev pub fileOf : State → ℕ → ℕ → ℕ
-fileOf s c u = numberOr (servingFile (s .files) c u) fileCount
+fileOf s c u = fileServing (s .files) c u
 
 -- what row 1 says of the state, of an area of n words and of the channel's number: "Channels 0 to 4"
 abbrev pub reportWrong : State → ℕ → ℕ → Bool

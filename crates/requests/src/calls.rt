@@ -2,26 +2,20 @@
 use crate::Asking;
 use crate::Reporting;
 use crate::changes::changed_state;
-use area::Found;
 use area::part;
 use asking::ask_on;
 use judging::is_sound;
-use pool::FILES;
+use pool::LAST_FILE;
 use reporting::report_on;
-use serving::serving_file;
+use serving::file_of;
+use state::LAST_CHANNEL;
 use state::State;
 use state::area_short;
 use state::channel_at;
 use state::file_at;
 ghost use mathlib.Core.Path.{_≡_};
 ghost use Rattle.area.specs.Parts.{partOf};
-ghost use Rattle.requests.specs.Calls.{askBy};
-ghost use Rattle.requests.specs.Calls.{fileOf, reportBy, reportByArea};
-
-// The highest file number, and the highest channel number.
-const LAST_FILE: u8 = 15;
-
-const LAST_CHANNEL: u8 = 4;
+ghost use Rattle.requests.specs.Calls.{askBy, reportBy, reportByArea};
 
 // An ask of a file: operation 0 read, 1 write, 2 mark, priority 0 or 1. A refusal gives the state that was passed.
 pub fn ask(s: State, file: u8, op: u8, priority: u8) -> Asking
@@ -43,17 +37,6 @@ pub fn ask(s: State, file: u8, op: u8, priority: u8) -> Asking
     }
 }
 
-// The number of the file that is open on a unit, past the last for none.
-fn file_of(s: State, channel: u8, unit: u8) -> usize
-    ensures { λ r. ⌜ r ≡ fileOf s channel unit ⌝ }
-{
-    let files = s.files;
-    match serving_file(files, channel, unit) {
-        Found::At(i) => i,
-        Found::Nothing => FILES,
-    }
-}
-
 // A report of a unit: its outcome, 0 good, 1 redundancy, 2 incomplete word, 3 file mark, 4 end of medium, and the words of a block that a
 // good read brings, which go into the area. A refusal gives the state that was passed and changes no word.
 pub fn report(
@@ -69,7 +52,8 @@ pub fn report(
 {
     let short = area_short(s, area.len());
     let whole = is_sound(s);
-    let i = file_of(s, channel, unit);
+    let files = s.files;
+    let i = file_of(files, channel, unit);
     let f = file_at(s, i);
     let j = channel as usize;
     let c = channel_at(s, j);

@@ -14,12 +14,6 @@ use Rattle.area.specs.Lists.{isFound}
 use Rattle.channel.specs.Units.{size, turnAt, withTurn, withMark}
 use Rattle.beginning.specs.Starts.{startOf}
 
--- ---- a start
-
--- ---- ask
-
--- ---- report
-
 -- "11 | report: the channel is not working for that unit"
 abbrev pub judgeTurn : Turn → ℕ → Verdict
 judgeTurn Idle outcome = Refused 11

@@ -1,10 +1,11 @@
 -- Which file serves a unit (document 01, "Sizes"). Assumes nothing.
-use Prim.Native.Nat.{ℕ, suc, _-_}
+use Prim.Native.Nat.{ℕ, suc}
 use mathlib.Core.Bool.{Bool, _&&_}
 use mathlib.Core.List.{List}
 use lib.Dec.{eqb}
 use lib.ListN.{getD}
 use Rattle.area.specs.declared.Found.{Found}
+use Rattle.area.specs.declared.Found.the-variants.{At, Nothing}
 use Rattle.area.specs.Lists.{firstAlong, isFound}
 use Rattle.files.specs.declared.File.{File}
 use Rattle.sizes.specs.Opening.{closedFile}
@@ -17,6 +18,14 @@ serves channel unit f = f .opened && (eqb (f .channel) channel && eqb (f .unit) 
 -- the file number that serves a unit
 unfoldable pub servingFile : List File → ℕ → ℕ → Found
 servingFile fs channel unit = firstAlong suc (λ i. serves channel unit (getD fs i closedFile)) fileCount 0
+
+-- its number; past the last file if there is none
+abbrev pub numberOr : Found → ℕ → ℕ
+numberOr (At i) none = i
+numberOr Nothing none = none
+
+abbrev pub fileServing : List File → ℕ → ℕ → ℕ
+fileServing fs channel unit = numberOr (servingFile fs channel unit) fileCount
 
 -- refusal 4, "unit already bound"
 abbrev pub isBound : List File → ℕ → ℕ → Bool

@@ -4,7 +4,7 @@ use area::is_found;
 use files::File;
 use pool::FILES;
 ghost use mathlib.Core.Path.{_≡_};
-ghost use Rattle.serving.specs.Serving.{serves as servesUnit, servingFile, isBound};
+ghost use Rattle.serving.specs.Serving.{serves as servesUnit, servingFile, fileServing, isBound};
 
 // Whether the file is open on that unit.
 pub fn serves(f: File, channel: u8, unit: u8) -> bool
@@ -26,6 +26,16 @@ pub fn serving_file(files: [File; FILES], channel: u8, unit: u8) -> Found
         i += 1;
     }
     Found::Nothing
+}
+
+// That number; past the last file if there is none.
+pub fn file_of(files: [File; FILES], channel: u8, unit: u8) -> usize
+    ensures { λ r. ⌜ r ≡ fileServing files channel unit ⌝ }
+{
+    match serving_file(files, channel, unit) {
+        Found::At(i) => i,
+        Found::Nothing => FILES,
+    }
 }
 
 // Whether a file is open on that unit.

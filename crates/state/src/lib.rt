@@ -11,8 +11,10 @@ pub use places::channel_in;
 pub use places::file_at;
 use pool::FILES;
 
-// How many channels there are: the manual's A to E.
+// How many channels there are, the manual's A to E, and the number of the last.
 pub const CHANNELS: usize = 5;
+
+pub const LAST_CHANNEL: u8 = 4;
 
 // A pool of m buffers of w words; whether starts are frozen; the channels with their units; the files.
 pub struct State {

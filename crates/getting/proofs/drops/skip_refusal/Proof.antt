@@ -8,13 +8,13 @@ use Rattle.getting.proofs.drops.skip_refusal.Tie as tie
 has-full-requires : tie.Need-has-full-requires
 has-full-requires c κs = search needs
 
-lowest-of-requires : tie.Need-lowest-of-requires
-lowest-of-requires c κs = search needs
+job-refusal-requires : tie.Need-job-refusal-requires
+job-refusal-requires c κs = search needs
 
 returns : tie.Need-returns
 returns c =
     let a = c .before .before .before .args in
-    c .lowest-of .ensures ∙ skip-rows (a .c1) (c .before .before .has-full .result) (a .f) (c .before .before .has-full .ensures)
+    c .job-refusal .ensures ∙ skip-rows (a .c1) (c .before .before .has-full .result) (a .f) (c .before .before .has-full .ensures)
 
 pub skip-refusal-spec : {M : Type 1} → statement M
-skip-refusal-spec = tie.close (tie.spec has-full-requires lowest-of-requires returns)
+skip-refusal-spec = tie.close (tie.spec has-full-requires job-refusal-requires returns)

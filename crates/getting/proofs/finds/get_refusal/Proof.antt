@@ -11,14 +11,14 @@ got-words-requires c κs = search needs
 are-words-requires : tie.Need-are-words-requires
 are-words-requires c κs = search needs
 
-lowest-of-requires : tie.Need-lowest-of-requires
-lowest-of-requires c κs = search needs
+job-refusal-requires : tie.Need-job-refusal-requires
+job-refusal-requires c κs = search needs
 
 returns : tie.Need-returns
 returns c =
     let a = c .before .before .before .before .before .before .before .args in
-    c .lowest-of .ensures ∙ get-rows (a .c1) (c .before .before .before .before .are-words .result) (a .f) (a .g) (a .area .now) _ (c .before .before .before .before .before .got-words .ensures) (c .before .before .before .before .are-words .ensures)
+    c .job-refusal .ensures ∙ get-rows (a .c1) (c .before .before .before .before .are-words .result) (a .f) (a .g) (a .area .now) _ (c .before .before .before .before .before .got-words .ensures) (c .before .before .before .before .are-words .ensures)
 
 pub get-refusal-spec : {M : Type 1} → statement M
 get-refusal-spec =
-    tie.close (tie.spec got-words-requires are-words-requires lowest-of-requires returns)
+    tie.close (tie.spec got-words-requires are-words-requires job-refusal-requires returns)

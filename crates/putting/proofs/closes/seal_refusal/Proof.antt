@@ -11,14 +11,14 @@ has-part-requires c κs = search needs
 sums-spoilt-requires : tie.Need-sums-spoilt-requires
 sums-spoilt-requires c κs = search needs
 
-lowest-of-requires : tie.Need-lowest-of-requires
-lowest-of-requires c κs = search needs
+job-refusal-requires : tie.Need-job-refusal-requires
+job-refusal-requires c κs = search needs
 
 returns : tie.Need-returns
 returns c =
     let a = c .before .before .before .before .before .before .before .before .before .args in
-    c .lowest-of .ensures ∙ seal-rows (a .c1) (c .before .before .before .before .before .before .before .has-part .result) _ (c .before .before .before .sums-spoilt .result) (a .f) (a .w) (a .area .now) (c .before .before .before .before .before .before .before .has-part .ensures) refl (c .before .before .before .sums-spoilt .ensures)
+    c .job-refusal .ensures ∙ seal-rows (a .c1) (c .before .before .before .before .before .before .before .has-part .result) _ (c .before .before .before .sums-spoilt .result) (a .f) (a .w) (a .area .now) (c .before .before .before .before .before .before .before .has-part .ensures) refl (c .before .before .before .sums-spoilt .ensures)
 
 pub seal-refusal-spec : {M : Type 1} → statement M
 seal-refusal-spec =
-    tie.close (tie.spec has-part-requires sums-spoilt-requires lowest-of-requires returns)
+    tie.close (tie.spec has-part-requires sums-spoilt-requires job-refusal-requires returns)

@@ -20,13 +20,13 @@ has-room-requires c κs = search needs
 cast-fits : tie.Need-cast-fits
 cast-fits c = search needs
 
-lowest-of-requires : tie.Need-lowest-of-requires
-lowest-of-requires c κs = search needs
+job-refusal-requires : tie.Need-job-refusal-requires
+job-refusal-requires c κs = search needs
 
 returns : tie.Need-returns
 returns c =
     let a = c .before .before .before .before .before .before .before .before .before .before .args in
-    c .lowest-of .ensures ∙ put-rows (a .c1) (c .before .before .before .before .before .before .before .are-words .result) (c .before .before .before .before .before .before .is-summed .result) (c .before .before .before .before .before .sums-spoilt .result) (c .before .before .before .before .has-room .result) (a .f) (a .w) (a .area .now) (a .words .now) (c .before .before .before .before .before .before .before .are-words .ensures) (c .before .before .before .before .before .before .is-summed .ensures) (c .before .before .before .before .before .sums-spoilt .ensures) (c .before .before .before .before .has-room .ensures)
+    c .job-refusal .ensures ∙ put-rows (a .c1) (c .before .before .before .before .before .before .before .are-words .result) (c .before .before .before .before .before .before .is-summed .result) (c .before .before .before .before .before .sums-spoilt .result) (c .before .before .before .before .has-room .result) (a .f) (a .w) (a .area .now) (a .words .now) (c .before .before .before .before .before .before .before .are-words .ensures) (c .before .before .before .before .before .before .is-summed .ensures) (c .before .before .before .before .before .sums-spoilt .ensures) (c .before .before .before .before .has-room .ensures)
 
 pub put-refusal-spec : {M : Type 1} → statement M
 put-refusal-spec =
@@ -37,5 +37,5 @@ put-refusal-spec =
     sums-spoilt-requires
     has-room-requires
     cast-fits
-    lowest-of-requires
+    job-refusal-requires
     returns)

@@ -30,8 +30,8 @@ cast-result-3 c = search needs
 enum-known-f-4 : tie.Need-enum-known-f-4
 enum-known-f-4 c = search needs
 
-serving-requires : tie.Need-serving-requires
-serving-requires c κs = search needs
+file-of-requires : tie.Need-file-of-requires
+file-of-requires c κs = search needs
 
 enum-known-f-5 : tie.Need-enum-known-f-5
 enum-known-f-5 c = search needs
@@ -79,7 +79,7 @@ returns-5 : tie.Need-returns-5
 returns-5 c = rw (c .before .f3 .given .1)
 
 returns-6 : tie.Need-returns-6
-returns-6 c = rw (c .before .before .f4 .given .1) (c .serving .ensures)
+returns-6 c = rw (c .before .before .f4 .given .1) (c .file-of .ensures)
 
 returns-7 : tie.Need-returns-7
 returns-7 c = search needs
@@ -112,7 +112,7 @@ file-number-spec =
     enum-known-f-3
     cast-result-3
     enum-known-f-4
-    serving-requires
+    file-of-requires
     enum-known-f-5
     cast-result-4
     enum-known-f-6

@@ -1,7 +1,7 @@
--- `replies::concerns::serving` meets its contract. Assumes nothing.
+-- `serving::file_of` meets its contract, a case each. Assumes nothing.
 use borrow.Author.Needs.{needs}
-use Rattle.replies.proofs.concerns.serving.Statement.{statement}
-use Rattle.replies.proofs.concerns.serving.Tie as tie
+use Rattle.serving.proofs.units.file_of.Statement.{statement}
+use Rattle.serving.proofs.units.file_of.Tie as tie
 
 serving-file-requires : tie.Need-serving-file-requires
 serving-file-requires c κs = search needs
@@ -18,5 +18,5 @@ returns c = rw (← c .before .before .before .serving-file .ensures, c .before 
 returns-2 : tie.Need-returns-2
 returns-2 c = rw (← c .before .before .serving-file .ensures, c .enum-told .given .1)
 
-pub serving-spec : {M : Type 1} → statement M
-serving-spec = tie.close (tie.spec serving-file-requires enum-known-i enum-told returns returns-2)
+pub file-of-spec : {M : Type 1} → statement M
+file-of-spec = tie.close (tie.spec serving-file-requires enum-known-i enum-told returns returns-2)
