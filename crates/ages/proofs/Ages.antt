@@ -18,7 +18,8 @@ use Rattle.files.specs.Sides.{bufferAt, slotAt, isSide, emptySide, takenSide, p
 use Rattle.filling.specs.Fills.{withSlot, filledAt, emptiedAt, withoutOldest}
 use Rattle.sizes.specs.Opening.{openedFile}
 use Rattle.reads.specs.Input.{tookBuffer, delivered, gaveBack, withMark, metMark}
-use Rattle.puts.specs.Output.{putSide, wordsAfter, added, partLength, sealed}
+use Rattle.puts.specs.Output.{putSide, wordsAfter, added}
+use Rattle.partly.specs.Parts.{partLength, sealed}
 use Rattle.ages.specs.Blocks.{Block, fullIn, fullAt, inOrder, line}
 use Rattle.files.proofs.Which.{lower-cases}
 

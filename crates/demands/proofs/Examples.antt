@@ -16,7 +16,8 @@ use Rattle.beginning.specs.Starts.{startOf, askOf}
 use Rattle.files.specs.Sides.{emptySide, takenSide, partSide, oldest}
 use Rattle.filling.specs.Fills.{nextBlock, filledAt, emptiedAt, withoutOldest}
 use Rattle.reads.specs.Input.{tookBuffer, delivered, gaveBack, metMark}
-use Rattle.puts.specs.Output.{putSide, putStart, added, partStart, partLength, isComplete, sealed, afterPut}
+use Rattle.puts.specs.Output.{putSide, putStart, added, afterPut}
+use Rattle.partly.specs.Parts.{partStart, partLength, isComplete, sealed}
 use Rattle.sends.specs.Sends.{sendStart, sendWords, afterWrite}
 use Rattle.sizes.specs.Opening.{openedFile}
 use Rattle.pool.specs.Free.{lowestFree, freeCount}

@@ -72,16 +72,16 @@ fn get(f: File, w: u16) -> File {
 fn put(f: File, w: u16) -> File {
     let g = puts::added(f);
     number(puts::put_start(f, w) as u64);
-    number(puts::part_length(g) as u64);
-    let sealed = if puts::is_complete(g) { 1 } else { 0 };
+    number(partly::part_length(g) as u64);
+    let sealed = if partly::is_complete(g) { 1 } else { 0 };
     number(sealed);
     puts::after_put(f)
 }
 
 fn seal(f: File, w: u16) -> File {
-    number(puts::part_start(f, w) as u64);
-    number(puts::part_length(f) as u64);
-    puts::sealed(f)
+    number(partly::part_start(f, w) as u64);
+    number(partly::part_length(f) as u64);
+    partly::sealed(f)
 }
 
 fn send(f: File, w: u16) -> File {

@@ -46,12 +46,12 @@ fn taken(f: File) {
 
 // The part-filled buffer and its words, 255 and 0 for none.
 fn part(f: File) {
-    if puts::has_part(f) {
-        number(puts::part_start(f, 1) as u64);
+    if partly::has_part(f) {
+        number(partly::part_start(f, 1) as u64);
     } else {
         number(255);
     }
-    number(puts::part_length(f) as u64);
+    number(partly::part_length(f) as u64);
 }
 
 // The whole file: its full blocks, the oldest first, the taken and the part-filled buffer, the next block number and the mark.

@@ -17,7 +17,7 @@ use Rattle.files.specs.Sides.{slotAt, isSide, emptySide, takenSide, partSide, o
 use Rattle.filling.specs.Fills.{withSlot, emptiedAt, withoutOldest}
 use Rattle.sizes.specs.Opening.{sizesFit, openedFile}
 use Rattle.reads.specs.Input.{tookBuffer, delivered, gaveBack, withMark, metMark}
-use Rattle.puts.specs.Output.{partLength, sealed}
+use Rattle.partly.specs.Parts.{partLength, sealed}
 use Rattle.sends.specs.Sends.{afterWrite}
 use Rattle.files.proofs.Which.{lower-cases, taken-there, part-there, full-there}
 use Rattle.ages.proofs.Ages.{Aged, noBlock, old, aged}

@@ -9,7 +9,8 @@ use Rattle.files.specs.declared.File.{File}
 use Rattle.files.specs.Sides.{slotAt, isSide, emptySide, takenSide, partSide, oldest}
 use Rattle.filling.specs.Fills.{turnedBy, nextBlock, filledAt, emptiedAt, withoutOldest, withSlot}
 use Rattle.reads.specs.Input.{hasEmpty, tookBuffer, delivered, gaveBack, withMark, metMark}
-use Rattle.puts.specs.Output.{putSide, hasRoom, hasPart, wordsAfter, added, isComplete, partLength, sealed, afterPut}
+use Rattle.puts.specs.Output.{putSide, hasRoom, wordsAfter, added, afterPut}
+use Rattle.partly.specs.Parts.{hasPart, isComplete, partLength, sealed}
 use Rattle.gets.specs.Gets.{isUsedUp, passed, lookedAt, slotAfter, afterFound}
 use Rattle.gets.specs.Histories.{Event, read, giveBack, mark, get, skip, put, seal, send, deliver, after}
 use Rattle.filing.specs.Soundness.{takenCount, fileSound}

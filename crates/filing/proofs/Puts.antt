@@ -15,7 +15,8 @@ use Rattle.files.specs.declared.File.{File}
 use Rattle.slots.specs.Slots.{isPart, partWords}
 use Rattle.files.specs.Sides.{slotAt, isSide, lower, emptySide, partSide}
 use Rattle.filling.specs.Fills.{withSlot, filledAt}
-use Rattle.puts.specs.Output.{putSide, wordsAfter, added, partLength, isComplete, sealed, afterPut}
+use Rattle.puts.specs.Output.{putSide, wordsAfter, added, afterPut}
+use Rattle.partly.specs.Parts.{partLength, isComplete, sealed}
 use Rattle.files.proofs.Which.{lower-cases, empty-there, part-there}
 use Rattle.filing.specs.Soundness.{oneIf}
 use Rattle.filing.proofs.Facts.{slotFits, Sound}

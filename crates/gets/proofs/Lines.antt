@@ -18,7 +18,8 @@ use Rattle.sizes.specs.declared.Wish.{Wish}
 use Rattle.files.specs.Sides.{bufferAt, slotAt, isSide, takenSide, partSide, oldest}
 use Rattle.filling.specs.Fills.{withSlot, filledAt, withoutOldest}
 use Rattle.reads.specs.Input.{tookBuffer, delivered, gaveBack, metMark}
-use Rattle.puts.specs.Output.{added, isComplete, partLength, sealed, afterPut}
+use Rattle.puts.specs.Output.{added, afterPut}
+use Rattle.partly.specs.Parts.{isComplete, partLength, sealed}
 use Rattle.sizes.specs.Opening.{openedFile}
 use Rattle.ages.specs.Blocks.{Block, fullIn, fullAt, inOrder, line}
 use Rattle.ages.proofs.Ages.{block, taken-none, part-none, young, Aged, noBlock, old, aged, opened-line, took-line, back-line, met-line, added-line, oldest-leaves}

@@ -8,7 +8,8 @@ use Rattle.files.specs.declared.File.{File}
 use Rattle.files.specs.Sides.{bufferAt, slotAt, isSide, takenSide, partSide, oldest}
 use Rattle.filling.specs.Fills.{withoutOldest}
 use Rattle.reads.specs.Input.{tookBuffer, delivered, gaveBack, metMark}
-use Rattle.puts.specs.Output.{added, isComplete, sealed, afterPut}
+use Rattle.puts.specs.Output.{added, afterPut}
+use Rattle.partly.specs.Parts.{isComplete, sealed}
 use Rattle.ages.specs.Blocks.{Block, line}
 use Rattle.gets.specs.declared.Got.{Got}
 use Rattle.gets.specs.Gets.{isUsedUp, passed, lookedAt, afterFound, getFrom, gotStart, gotWords}

@@ -21,7 +21,7 @@ use Rattle.files.specs.Sides.{bufferAt, slotAt, startAt, isSide, lower, takenSi
 use Rattle.filling.specs.Fills.{withSlot, turnedBy, nextBlock, filledAt, emptiedAt, withoutOldest}
 use Rattle.sizes.specs.Opening.{extra}
 use Rattle.reads.specs.Input.{blockFits, delivered, gaveBack, withMark, metMark}
-use Rattle.puts.specs.Output.{partStart, partLength}
+use Rattle.partly.specs.Parts.{partStart, partLength}
 use Rattle.sends.specs.Sends.{sendStart, sendWords}
 use Rattle.ages.specs.Blocks.{line}
 use Rattle.ages.proofs.Ages.{block, Aged, noBlock, old, aged, delivered-line, back-line}

@@ -10,7 +10,7 @@ use Rattle.files.specs.declared.File.{File}
 use Rattle.slots.specs.Slots.{isPart, isFull, partWords}
 use Rattle.files.specs.Sides.{slotAt, startAt, lower, partSide}
 use Rattle.sizes.specs.Opening.{extra}
-use Rattle.puts.specs.Output.{partStart, partLength}
+use Rattle.partly.specs.Parts.{partStart, partLength}
 use Rattle.sends.specs.Sends.{hasUnsent}
 use Rattle.ages.specs.Blocks.{Block, inOrder, line}
 use Rattle.area.specs.Parts.{partOf}

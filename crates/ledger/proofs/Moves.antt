@@ -12,7 +12,8 @@ use Rattle.slots.specs.declared.Slot.the-variants.{Empty, Part, Full}
 use Rattle.files.specs.declared.File.{File}
 use Rattle.files.specs.Sides.{bufferAt, slotAt, isSide, partSide, oldest}
 use Rattle.filling.specs.Fills.{withSlot, turnedBy, nextBlock, filledAt, emptiedAt, withoutOldest}
-use Rattle.puts.specs.Output.{putSide, wordsAfter, partStart, partLength, sealed, afterPut}
+use Rattle.puts.specs.Output.{putSide, wordsAfter, afterPut}
+use Rattle.partly.specs.Parts.{partStart, partLength, sealed}
 use Rattle.gets.specs.Gets.{isUsedUp, passed, lookedAt, slotAfter, afterFound, getFrom}
 use Rattle.filing.proofs.Facts.{Sound}
 use Rattle.filing.proofs.Inside.{held-own}

@@ -16,7 +16,8 @@ use Rattle.files.specs.declared.File.{File}
 use Rattle.slots.specs.Slots.{isEmpty, isPart, isFull, partWords}
 use Rattle.files.specs.Sides.{bufferAt, slotAt, startAt, isSide, lower, emptySide, partSide}
 use Rattle.filling.specs.Fills.{withSlot}
-use Rattle.puts.specs.Output.{putSide, partStart, partLength, isComplete}
+use Rattle.puts.specs.Output.{putSide}
+use Rattle.partly.specs.Parts.{partStart, partLength, isComplete}
 use Rattle.ages.specs.Blocks.{fullIn, fullAt}
 use Rattle.files.proofs.Which.{none-side, empty-there, part-there}
 use Rattle.filing.proofs.Facts.{Sound}

@@ -16,7 +16,7 @@ use Rattle.files.specs.Sides.{slotAt, isSide, emptySide, partSide}
 use Rattle.filling.specs.Fills.{withSlot}
 use Rattle.sizes.specs.Opening.{openedFile, closedFile}
 use Rattle.reads.specs.Input.{tookBuffer}
-use Rattle.puts.specs.Output.{partStart, partLength}
+use Rattle.partly.specs.Parts.{partStart, partLength}
 use Rattle.ages.specs.Blocks.{line}
 use Rattle.ages.proofs.Ages.{took-line}
 use Rattle.files.proofs.Which.{empty-there}

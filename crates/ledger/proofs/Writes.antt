@@ -16,7 +16,8 @@ use Rattle.slots.specs.Slots.{isPart, partWords, fullWords}
 use Rattle.files.specs.Sides.{bufferAt, slotAt, startAt, isSide, partSide, oldest}
 use Rattle.filling.specs.Fills.{withSlot, turnedBy, nextBlock, filledAt, emptiedAt, withoutOldest}
 use Rattle.sizes.specs.Opening.{extra}
-use Rattle.puts.specs.Output.{putSide, wordsAfter, added, partStart, partLength, isComplete, sealed, afterPut}
+use Rattle.puts.specs.Output.{putSide, wordsAfter, added, afterPut}
+use Rattle.partly.specs.Parts.{partStart, partLength, isComplete, sealed}
 use Rattle.sends.specs.Sends.{sendStart, sendWords}
 use Rattle.ages.specs.Blocks.{Block, line}
 use Rattle.ages.proofs.Ages.{block, young, Aged, noBlock, old, aged, added-line}

@@ -9,7 +9,7 @@ use Rattle.sealing.specs.Blocks.{judged}
 use Rattle.files.specs.declared.File.{File}
 use Rattle.filling.specs.Fills.{nextBlock}
 use Rattle.sizes.specs.Opening.{extra}
-use Rattle.puts.specs.Output.{partStart, partLength}
+use Rattle.partly.specs.Parts.{partStart, partLength}
 use Rattle.ages.specs.Blocks.{Block, line}
 use Rattle.ledger.specs.Ledgers.{Item, word, wrongs, contentsOf}
 

@@ -21,7 +21,8 @@ use Rattle.slots.specs.Slots.{isPart, partWords}
 use Rattle.files.specs.Sides.{bufferAt, slotAt, startAt, isSide, lower, emptySide, partSide}
 use Rattle.filling.specs.Fills.{withSlot}
 use Rattle.sizes.specs.Opening.{extra}
-use Rattle.puts.specs.Output.{putSide, wordsAfter, added, partStart, partLength}
+use Rattle.puts.specs.Output.{putSide, wordsAfter, added}
+use Rattle.partly.specs.Parts.{partStart, partLength}
 use Rattle.files.proofs.Which.{none-side, empty-there}
 use Rattle.filing.proofs.Facts.{Sound}
 use Rattle.filing.proofs.Kept.{other}

@@ -16,7 +16,8 @@ use Rattle.files.specs.declared.File.{File}
 use Rattle.slots.specs.Slots.{partWords}
 use Rattle.files.specs.Sides.{slotAt, startAt, isSide, partSide}
 use Rattle.sizes.specs.Opening.{extra}
-use Rattle.puts.specs.Output.{putSide, putStart, wordsAfter, added, isComplete, partStart, partLength}
+use Rattle.puts.specs.Output.{putSide, putStart, wordsAfter, added}
+use Rattle.partly.specs.Parts.{isComplete, partStart, partLength}
 use Rattle.filing.proofs.Facts.{Sound}
 use Rattle.output.specs.Only.{Only}
 use Rattle.putting.specs.Blocks.{heldRight, sealedArea}

@@ -18,7 +18,8 @@ use Rattle.files.specs.declared.File.{File}
 use Rattle.slots.specs.Slots.{partWords}
 use Rattle.files.specs.Sides.{bufferAt, slotAt, startAt}
 use Rattle.sizes.specs.Opening.{closedFile, extra}
-use Rattle.puts.specs.Output.{putSide, hasRoom, putStart, wordsAfter, added, isComplete, afterPut}
+use Rattle.puts.specs.Output.{putSide, hasRoom, putStart, wordsAfter, added, afterPut}
+use Rattle.partly.specs.Parts.{isComplete}
 use Rattle.gets.specs.Histories as histories
 use Rattle.filing.proofs.Facts.{Sound}
 use Rattle.filing.proofs.Puts.{put-sound}

@@ -17,7 +17,8 @@ use Rattle.slots.specs.Slots.{isFull}
 use Rattle.files.specs.Sides.{isSide, lower, oldest, partSide}
 use Rattle.filling.specs.Fills.{withSlot, turnedBy, filledAt}
 use Rattle.reads.specs.Input.{hasFull}
-use Rattle.puts.specs.Output.{putSide, wordsAfter, added, partLength, sealed, afterPut}
+use Rattle.puts.specs.Output.{putSide, wordsAfter, added, afterPut}
+use Rattle.partly.specs.Parts.{partLength, sealed}
 use Rattle.ages.specs.Blocks.{line}
 use Rattle.ages.proofs.Ages.{Aged, noBlock, old, aged, added-line}
 use Rattle.filing.specs.Soundness.{oneIf, takenCount}

@@ -16,7 +16,7 @@ use Rattle.area.proofs.Exactly.{exactly}
 use Rattle.files.specs.declared.File.{File}
 use Rattle.files.specs.Sides.{bufferAt, partSide}
 use Rattle.sizes.specs.Opening.{closedFile, extra}
-use Rattle.puts.specs.Output.{hasPart, partStart, partLength, sealed}
+use Rattle.partly.specs.Parts.{hasPart, partStart, partLength, sealed}
 use Rattle.gets.specs.Histories as histories
 use Rattle.filing.proofs.Facts.{Sound}
 use Rattle.filing.proofs.Changes.{sealed-sound}

@@ -10,7 +10,8 @@ use Rattle.area.specs.Lists.{allOf}
 use Rattle.area.specs.Parts.{isWord}
 use Rattle.area.specs.Refusals.{Rows, lowest}
 use Rattle.files.specs.declared.File.{File}
-use Rattle.puts.specs.Output.{hasRoom, hasPart, added, isComplete, sealed, afterPut}
+use Rattle.puts.specs.Output.{hasRoom, added, afterPut}
+use Rattle.partly.specs.Parts.{hasPart, isComplete, sealed}
 use Rattle.putting.specs.Blocks.{heldRight, sealedArea}
 use Rattle.putting.specs.Put.{sums, putRows, putRefusal, filledArea, putArea, putOn, putOnArea}
 use Rattle.putting.specs.Seal.{sealSums, sealRows, sealRefusal, sealOn, sealOnArea}

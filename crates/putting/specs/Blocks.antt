@@ -6,7 +6,7 @@ use Rattle.area.specs.Lists.{allOf}
 use Rattle.area.specs.Parts.{isWord, partOf, paste}
 use Rattle.sealing.specs.Blocks.{sealed}
 use Rattle.files.specs.declared.File.{File}
-use Rattle.puts.specs.Output.{partStart, partLength}
+use Rattle.partly.specs.Parts.{partStart, partLength}
 
 -- the words that the part-filled buffer holds are all below 2^36
 abbrev pub heldRight : ℕ → File → List ℕ → Bool

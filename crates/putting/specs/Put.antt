@@ -8,7 +8,8 @@ use Rattle.area.specs.Lists.{allOf}
 use Rattle.area.specs.Parts.{isWord, pastedIn}
 use Rattle.area.specs.Refusals.{Rows, lowest}
 use Rattle.files.specs.declared.File.{File}
-use Rattle.puts.specs.Output.{hasRoom, putStart, added, isComplete, afterPut}
+use Rattle.puts.specs.Output.{hasRoom, putStart, added, afterPut}
+use Rattle.partly.specs.Parts.{isComplete}
 use Rattle.changing.specs.Answers.{fileChange}
 use Rattle.changing.specs.declared.FileChange.{FileChange}
 use Rattle.putting.specs.Blocks.{heldRight, sealedArea}

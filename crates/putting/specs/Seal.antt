@@ -5,7 +5,7 @@ use mathlib.Core.List.{List, [], _∷_}
 use lib.Dec.{eqb}
 use Rattle.area.specs.Refusals.{Rows, lowest}
 use Rattle.files.specs.declared.File.{File}
-use Rattle.puts.specs.Output.{hasPart, sealed}
+use Rattle.partly.specs.Parts.{hasPart, sealed}
 use Rattle.changing.specs.Answers.{fileChange}
 use Rattle.changing.specs.declared.FileChange.{FileChange}
 use Rattle.putting.specs.Blocks.{heldRight, sealedArea}

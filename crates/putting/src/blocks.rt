@@ -1,7 +1,7 @@
 // What put and seal share: the words that a part-filled buffer holds, and a block sealed where it lies in the area.
 use files::File;
-use puts::part_length;
-use puts::part_start;
+use partly::part_length;
+use partly::part_start;
 ghost use mathlib.Core.Path.{_≡_};
 ghost use mathlib.Core.Bool.{not, _&&_};
 ghost use Rattle.putting.specs.Blocks.{heldRight, sealedIn, sealedArea};

@@ -12,7 +12,7 @@ ghost use mathlib.Core.Path.{_≡_};
 ghost use Prim.Native.Nat.{_<_};
 ghost use Rattle.sends.specs.Sends.{sendStart, sendWords, afterWrite, hasUnsent};
 
-// Where the block that a write sends begins in that area.
+// Where the block that a write sends begins in an area with w words for each buffer.
 pub fn send_start(f: File, w: u16) -> usize
     ensures { λ r. ⌜ (r ≡ sendStart w f) × (r < 16777216) ⌝ }
 {

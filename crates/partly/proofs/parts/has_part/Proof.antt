@@ -1,7 +1,7 @@
--- `puts::has_part` meets its contract, from the contracts of `is_side` and `part_side`. Assumes nothing.
+-- `partly::has_part` meets its contract, from the contracts of `is_side` and `part_side`. Assumes nothing.
 use borrow.Author.Needs.{needs}
-use Rattle.puts.proofs.writing.has_part.Statement.{statement}
-use Rattle.puts.proofs.writing.has_part.Tie as tie
+use Rattle.partly.proofs.parts.has_part.Statement.{statement}
+use Rattle.partly.proofs.parts.has_part.Tie as tie
 
 part-side-requires : tie.Need-part-side-requires
 part-side-requires c κs = search needs

@@ -1,8 +1,8 @@
--- `puts::sealed` meets its contract, from the contracts of `part_length`, `filled_at` and `part_side`. Assumes nothing.
-use Rattle.puts.specs.Output.{sealed}
+-- `partly::sealed` meets its contract, from the contracts of `part_length`, `filled_at` and `part_side`. Assumes nothing.
+use Rattle.partly.specs.Parts.{sealed}
 use borrow.Author.Needs.{needs}
-use Rattle.puts.proofs.writing.sealed.Statement.{statement}
-use Rattle.puts.proofs.writing.sealed.Tie as tie
+use Rattle.partly.proofs.parts.sealed.Statement.{statement}
+use Rattle.partly.proofs.parts.sealed.Tie as tie
 
 part-side-requires : tie.Need-part-side-requires
 part-side-requires c κs = search needs

@@ -1,8 +1,8 @@
--- `puts::part_length` meets its contract, from the contracts of `part_side`, `slot_at` and `part_words`. Assumes nothing.
-use Rattle.puts.specs.Output.{partLength}
+-- `partly::part_length` meets its contract, from the contracts of `part_side`, `slot_at` and `part_words`. Assumes nothing.
+use Rattle.partly.specs.Parts.{partLength}
 use borrow.Author.Needs.{needs}
-use Rattle.puts.proofs.writing.part_length.Statement.{statement}
-use Rattle.puts.proofs.writing.part_length.Tie as tie
+use Rattle.partly.proofs.parts.part_length.Statement.{statement}
+use Rattle.partly.proofs.parts.part_length.Tie as tie
 
 part-side-requires : tie.Need-part-side-requires
 part-side-requires c κs = search needs

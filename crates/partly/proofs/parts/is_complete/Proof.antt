@@ -1,8 +1,8 @@
--- `puts::is_complete` meets its contract, from the contract of `part_length`. Assumes nothing.
-use Rattle.puts.specs.Output.{isComplete}
+-- `partly::is_complete` meets its contract, from the contract of `part_length`. Assumes nothing.
+use Rattle.partly.specs.Parts.{isComplete}
 use borrow.Author.Needs.{needs}
-use Rattle.puts.proofs.writing.is_complete.Statement.{statement}
-use Rattle.puts.proofs.writing.is_complete.Tie as tie
+use Rattle.partly.proofs.parts.is_complete.Statement.{statement}
+use Rattle.partly.proofs.parts.is_complete.Tie as tie
 
 part-length-requires : tie.Need-part-length-requires
 part-length-requires c κs = search needs

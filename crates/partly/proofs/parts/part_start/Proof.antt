@@ -1,8 +1,8 @@
--- `puts::part_start` meets its contract, from the contracts of `part_side` and `start_at`. Assumes nothing.
-use Rattle.puts.specs.Output.{partStart}
+-- `partly::part_start` meets its contract, from the contracts of `part_side` and `start_at`. Assumes nothing.
+use Rattle.partly.specs.Parts.{partStart}
 use borrow.Author.Needs.{needs}
-use Rattle.puts.proofs.writing.part_start.Statement.{statement}
-use Rattle.puts.proofs.writing.part_start.Tie as tie
+use Rattle.partly.proofs.parts.part_start.Statement.{statement}
+use Rattle.partly.proofs.parts.part_start.Tie as tie
 
 part-side-requires : tie.Need-part-side-requires
 part-side-requires c κs = search needs
