@@ -1,4 +1,4 @@
-// Open and close on a whole state.
+// Open on a whole state.
 use binding::FLAGS;
 use binding::free_of;
 use binding::open_on;
