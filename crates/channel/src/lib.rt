@@ -1,5 +1,5 @@
 // One channel as a value: its units with their requests, and what can be seen of them.
-// Every function answers for any channel value and any number. What a report comes to stands in `outcomes`, whose turn it is in `schedule`.
+// Every function answers for any channel value and any number. What a report comes to stands in `outcomes`, whose turn it is in `scanning`.
 // The crate knows nothing of files, buffers or words.
 mod units;
 
