@@ -64,7 +64,7 @@ fn get(f: File, w: u16) -> File {
     let g = r.got;
     number(showing::got_number(g) as u64);
     number(showing::got_start(g) as u64);
-    number(showing::got_words(g) as u64);
+    number(showing::got_count(g) as u64);
     number(showing::got_error(g) as u64);
     r.file
 }

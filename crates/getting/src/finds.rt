@@ -13,7 +13,7 @@ pub fn got_words<'a>(area: &'a [u64], g: Got) -> &'a [u64]
     ensures { λ r. ⌜ now r ≡ shown (now (area .entry)) g ⌝ }
 {
     let at = got_start(g);
-    let n = showing::got_words(g);
+    let n = showing::got_count(g);
     area::part(area, at, n)
 }
 

@@ -24,7 +24,7 @@ pub use requests::reported_words;
 pub use showing::got_error;
 pub use showing::got_number;
 pub use showing::got_start;
-pub use showing::got_words as got_count;
+pub use showing::got_count;
 pub use starting::Masks;
 pub use starting::fresh;
 pub use state::State;

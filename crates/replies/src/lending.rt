@@ -91,7 +91,7 @@ pub fn got(unsound: bool, m: u8, w: u16, f: File, c: Channel, file: u8, area: &[
     let told = got_answer(found);
     let answer = answer_or(x.refusal, told);
     let start = got_start(found);
-    let count = showing::got_words(found);
+    let count = showing::got_count(found);
     Change {
         answer,
         start,

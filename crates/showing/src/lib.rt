@@ -5,4 +5,4 @@ mod shows;
 pub use shows::got_error;
 pub use shows::got_number;
 pub use shows::got_start;
-pub use shows::got_words;
+pub use shows::got_count;

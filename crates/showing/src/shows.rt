@@ -43,7 +43,7 @@ pub fn got_start(g: Got) -> usize
 }
 
 // How many words an answer shows.
-pub fn got_words(g: Got) -> usize
+pub fn got_count(g: Got) -> usize
     ensures { λ r. ⌜ r ≡ gotWords g ⌝ }
 {
     match g {

@@ -6,14 +6,14 @@ use Rattle.getting.proofs.finds.got_words.Tie as tie
 got-start-requires : tie.Need-got-start-requires
 got-start-requires c κs = search needs
 
-got-words-requires : tie.Need-got-words-requires
-got-words-requires c κs = search needs
+got-count-requires : tie.Need-got-count-requires
+got-count-requires c κs = search needs
 
 part-requires : tie.Need-part-requires
 part-requires c κs = search needs
 
 returns : tie.Need-returns
-returns c = rw (← c .before .before .got-start .ensures, ← c .before .got-words .ensures) (c .part .ensures)
+returns c = rw (← c .before .before .got-start .ensures, ← c .before .got-count .ensures) (c .part .ensures)
 
 pub got-words-spec : {M : Type 1} → statement M
-got-words-spec = tie.close (tie.spec got-start-requires got-words-requires part-requires returns)
+got-words-spec = tie.close (tie.spec got-start-requires got-count-requires part-requires returns)
