@@ -1,4 +1,4 @@
 pub mod Lists
+pub mod Numbered
 pub mod Parts
 pub mod Refusals
-pub mod Numbered

@@ -1,9 +1,14 @@
 // Words in a lent area: a part of it, words copied into a part, and whether words are below 2^36.
 // Here too is the one home of the general laws on lists that the crates above cite.
 // It knows nothing of blocks, buffers or files.
-ghost use mathlib.Core.Path.{_≡_};
+// Document 01's refusal table: the lowest number that applies. It knows nothing of states and calls.
+mod refusals;
+
 ghost use Rattle.area.specs.Lists.{allOf, isFound};
 ghost use Rattle.area.specs.Parts.{isWord, partOf, pasteFits, pastedIn};
+ghost use mathlib.Core.Path.{_≡_};
+pub use refusals::job_refusal;
+pub use refusals::lowest_of;
 
 // What a search for a number finds.
 pub enum Found {

@@ -37,18 +37,18 @@ fn fresh_start(text: &[u8], p: Desk) -> Desk {
 
 // An ask for an operation that there is.
 fn ask_for(c: Channel, unit: usize, op: Op, priority: u64, frozen: bool) -> Channel {
-    let asked = beginning::ask(c, unit, op, priority == 1, frozen);
+    let asked = channel_turns::ask(c, unit, op, priority == 1, frozen);
     let d = asked.channel;
     let told = if asked.accepted { 1 } else { 0 };
     answer(told);
-    number(scanning::working_number(d) as u64);
+    number(channel_turns::working_number(d) as u64);
     end_line();
     d
 }
 
 fn refuse(c: Channel) -> Channel {
     answer(0);
-    number(scanning::working_number(c) as u64);
+    number(channel_turns::working_number(c) as u64);
     end_line();
     c
 }
@@ -83,12 +83,12 @@ fn report(text: &[u8], p: Desk) -> Desk {
     let unit = next(text, p.at);
     let outcome = next(text, unit.at);
     let c = p.channel;
-    let told = schedule::report(c, unit.value as usize, small(outcome.value), p.frozen);
+    let told = channel_turns::report(c, unit.value as usize, small(outcome.value), p.frozen);
     let d = told.channel;
     let v = told.verdict;
-    answer(outcomes::refusal_number(v) as u64);
-    number(outcomes::result_number(v) as u64);
-    number(scanning::working_number(d) as u64);
+    answer(channel_outcomes::refusal_number(v) as u64);
+    number(channel_outcomes::result_number(v) as u64);
+    number(channel_turns::working_number(d) as u64);
     end_line();
     Desk {
         channel: d,
@@ -99,8 +99,8 @@ fn report(text: &[u8], p: Desk) -> Desk {
 
 fn hold(p: Desk, frozen: bool) -> Desk {
     let c = p.channel;
-    let d = if frozen { c } else { beginning::thaw(c) };
-    answer(scanning::working_number(d) as u64);
+    let d = if frozen { c } else { channel_turns::thaw(c) };
+    answer(channel_turns::working_number(d) as u64);
     end_line();
     Desk {
         channel: d,

@@ -5,20 +5,20 @@ use mathlib.Core.Bool.{true, false}
 use mathlib.Core.List.{List, []}
 use Prim.Native.Nat.{ℕ, _+_, _%_}
 use lib.ListN.{length}
-use Rattle.sealing.specs.Blocks.{judged}
-use Rattle.filling.specs.Fills.{blockNumbers}
-use Rattle.serving.specs.Serving.{serves}
+use Rattle.block.specs.Blocks.{judged}
+use Rattle.file.specs.Fills.{blockNumbers}
+use Rattle.pool.specs.Serving.{serves}
 use Rattle.state.specs.declared.State.{State}
 use Rattle.state.specs.Places.{fileAt}
-use Rattle.requests.specs.Calls.{fileOf}
-use Rattle.requests.proofs.ReportTheorems.{report-books-own}
-use Rattle.histories.specs.Calls.{close, report, answerOf}
-use Rattle.ledger.specs.Ledgers.{Ledger, errorOf}
-use Rattle.ledger.specs.Blocks.{joined}
-use Rattle.ledger.proofs.Frames.{Kept}
-use Rattle.ledger.proofs.Shown.{wrote-checks, wrote-words, numbers}
-use Rattle.ledger.proofs.Closed.{sent-all, close-unsent}
-use Rattle.ledger.proofs.Reported.{report-judged}
+use Rattle.pack_request.specs.Calls.{fileOf}
+use Rattle.pack_request.proofs.ReportTheorems.{report-books-own}
+use Rattle.pack.specs.Calls.{close, report, answerOf}
+use Rattle.demands_ledger.specs.Ledgers.{Ledger, errorOf}
+use Rattle.demands_ledger.specs.Blocks.{joined}
+use Rattle.demands_ledger.proofs.Frames.{Kept}
+use Rattle.demands_ledger.proofs.Shown.{wrote-checks, wrote-words, numbers}
+use Rattle.demands_ledger.proofs.Closed.{sent-all, close-unsent}
+use Rattle.demands_ledger.proofs.Reported.{report-judged}
 use Rattle.demands.specs.Demands.{dataIn, Writes, Reads}
 
 module _ (s : State) (area : List ℕ) (ledgers : ℕ → Ledger) (K : Kept s area ledgers) where

@@ -7,22 +7,22 @@ use Prim.Native.Nat.{ℕ, _+_}
 use native.Mathlib.Decide.{ℕ-discrete}
 use Rattle.area.proofs.Walks.{true-not-false}
 use Rattle.area.proofs.Marks.{cond-true}
-use Rattle.files.specs.declared.File.{File}
-use Rattle.sizes.specs.Opening.{openedFile}
+use Rattle.file.specs.declared.File.{File}
+use Rattle.file.specs.Sizes.{openedFile}
 use Rattle.pool.specs.Free.{heldBy, Lowest}
-use Rattle.filing.proofs.Shares.{apart-holds}
+use Rattle.state_sound.proofs.Shares.{apart-holds}
 use Rattle.state.specs.declared.State.{State}
 use Rattle.state.specs.Places.{fileAt}
-use Rattle.judging.specs.Soundness.{sound}
-use Rattle.judging.proofs.Facts.{sound-facts}
-use Rattle.judging.proofs.Buffers.{held-once, free-and-held}
-use Rattle.opening.specs.Calls.{openBy}
-use Rattle.opening.proofs.OpenTheorems.{lowOf, highOf, open-lowest, open-next, open-file, open-sound}
-use Rattle.opening.proofs.CloseTheorems.{close-frees}
-use Rattle.requests.specs.Calls.{fileOf}
-use Rattle.requests.proofs.ReportTheorems.{report-books-own}
-use Rattle.histories.specs.Calls.{opening, close, report, answerOf}
-use Rattle.histories.proofs.Kept.{Good}
+use Rattle.state_sound.specs.Soundness.{sound}
+use Rattle.state_sound.proofs.Facts.{sound-facts}
+use Rattle.state_sound.proofs.Buffers.{held-once, free-and-held}
+use Rattle.pack_open.specs.Open.{openBy}
+use Rattle.pack_open.proofs.OpenTheorems.{lowOf, highOf, open-lowest, open-next, open-file, open-sound}
+use Rattle.pack_open.proofs.CloseTheorems.{close-frees}
+use Rattle.pack_request.specs.Calls.{fileOf}
+use Rattle.pack_request.proofs.ReportTheorems.{report-books-own}
+use Rattle.pack.specs.Calls.{opening, close, report, answerOf}
+use Rattle.pack.proofs.Kept.{Good}
 use Rattle.demands.specs.Demands.{Holds, Frees, Takes, Books}
 
 pub good-holds : (s : State) → Good s → Holds s

@@ -5,23 +5,23 @@ use mathlib.Core.Bool.{Bool, true, false}
 use mathlib.Core.List.{List, []}
 use Prim.Native.Nat.{ℕ, _+_, _%_}
 use lib.ListN.{length}
-use Rattle.checkword.specs.CheckWords.{checkWord, IsCheckWord}
-use Rattle.sealing.specs.Blocks.{judged}
-use Rattle.checkword.proofs.Laws.CheckWord.{check-word-is, check-word-only}
-use Rattle.files.specs.declared.File.{File}
-use Rattle.filling.specs.Fills.{blockNumbers}
-use Rattle.serving.specs.Serving.{serves}
+use Rattle.word.specs.CheckWords.{checkWord, IsCheckWord}
+use Rattle.block.specs.Blocks.{judged}
+use Rattle.word.proofs.Laws.CheckWord.{check-word-is, check-word-only}
+use Rattle.file.specs.declared.File.{File}
+use Rattle.file.specs.Fills.{blockNumbers}
+use Rattle.pool.specs.Serving.{serves}
 use Rattle.state.specs.declared.State.{State}
 use Rattle.state.specs.Places.{beforeStart, fileAt}
-use Rattle.starting.specs.declared.Masks.{Masks}
-use Rattle.asking.specs.Ask.{isPriority}
-use Rattle.histories.specs.Calls.{Call, fresh, opening, close, ask, report, answerOf}
-use Rattle.histories.specs.Histories.{Lent, after, count, freshStart, declaredOn}
-use Rattle.histories.proofs.Kept.{Good, good-before, good-start, history-kept}
-use Rattle.ledger.specs.Ledgers.{Ledger, blankLedger, errorOf, stateAfter, areaAfter, ledgerAfter}
-use Rattle.ledger.specs.Blocks.{joined}
-use Rattle.ledger.proofs.Frames.{Kept}
-use Rattle.ledger.proofs.Always.{always, started as begun}
+use Rattle.pack_start.specs.declared.Masks.{Masks}
+use Rattle.call_request.specs.Ask.{isPriority}
+use Rattle.pack.specs.Calls.{Call, fresh, opening, close, ask, report, answerOf}
+use Rattle.pack.specs.Histories.{Lent, after, count, freshStart, declaredOn}
+use Rattle.pack.proofs.Kept.{Good, good-before, good-start, history-kept}
+use Rattle.demands_ledger.specs.Ledgers.{Ledger, blankLedger, errorOf, stateAfter, areaAfter, ledgerAfter}
+use Rattle.demands_ledger.specs.Blocks.{joined}
+use Rattle.demands_ledger.proofs.Frames.{Kept}
+use Rattle.demands_ledger.proofs.Always.{always, started as begun}
 use Rattle.demands.specs.Demands.{Refuses, Holds, Frees, Takes, Books, dataIn, Writes, Reads, Answers}
 use Rattle.demands.proofs.Refusals.{refuses}
 use Rattle.demands.proofs.Buffers.{good-holds, closed-frees, opened-takes, reported-books}

@@ -6,38 +6,38 @@ use Rattle.area.specs.Parts.{paste, pastedIn}
 use Rattle.area.specs.Refusals.{lowest}
 use Rattle.area.specs.Numbered.{allFrom}
 use Rattle.word.specs.Sums.{carryBack, sumFrom, logicalSum, firstHalf, lastHalf, folded}
-use Rattle.checkword.specs.CheckWords.{address, checkWord, nextNumber}
-use Rattle.sealing.specs.Blocks as blocks
-use Rattle.outcomes.specs.Rules.{rowOf, isAllowed, isPermanent, nextAttempt, endingOf, verdictOf}
+use Rattle.word.specs.CheckWords.{address, checkWord, nextNumber}
+use Rattle.block.specs.Blocks as blocks
+use Rattle.channel_outcomes.specs.Rules.{rowOf, isAllowed, isPermanent, nextAttempt, endingOf, verdictOf}
 use Rattle.channel.specs.Units.{withTurn, freshWith, bitsFrom, freshOf, hasRequest, acceptsAt, operationAt}
-use Rattle.scanning.specs.Scans.{scanFrom, workingIn, priorityIn, ordinaryIn, nextTurn}
-use Rattle.schedule.specs.Turns.{judgeOf, goesOn, repeatOf, markAfter, endOf, bookOf}
-use Rattle.beginning.specs.Starts.{startOf, askOf}
-use Rattle.files.specs.Sides.{emptySide, takenSide, partSide, oldest}
-use Rattle.filling.specs.Fills.{nextBlock, filledAt, emptiedAt, withoutOldest}
-use Rattle.reads.specs.Input.{tookBuffer, delivered, gaveBack, metMark}
-use Rattle.puts.specs.Output.{putSide, putStart, added, afterPut}
-use Rattle.partly.specs.Parts.{partStart, partLength, isComplete, sealed}
-use Rattle.sends.specs.Sends.{sendStart, sendWords, afterWrite}
-use Rattle.sizes.specs.Opening.{openedFile}
+use Rattle.channel_turns.specs.Scans.{scanFrom, workingIn, priorityIn, ordinaryIn, nextTurn}
+use Rattle.channel_turns.specs.Turns.{judgeOf, goesOn, repeatOf, markAfter, endOf, bookOf}
+use Rattle.channel_turns.specs.Starts.{startOf, askOf}
+use Rattle.file.specs.Sides.{emptySide, takenSide, partSide, oldest}
+use Rattle.file.specs.Fills.{nextBlock, filledAt, emptiedAt, withoutOldest}
+use Rattle.file_input.specs.Delivers.{tookBuffer, delivered, gaveBack, metMark}
+use Rattle.file_output.specs.Puts.{putSide, putStart, added, afterPut}
+use Rattle.file_output.specs.Parts.{partStart, partLength, isComplete, sealed}
+use Rattle.file_output.specs.Sends.{sendStart, sendWords, afterWrite}
+use Rattle.file.specs.Sizes.{openedFile}
 use Rattle.pool.specs.Free.{lowestFree, freeCount}
-use Rattle.serving.specs.Serving.{servingFile}
-use Rattle.filing.specs.Soundness.{isBlank}
+use Rattle.pool.specs.Serving.{servingFile}
+use Rattle.state_sound.specs.Files.{isBlank}
 use Rattle.state.specs.Places.{beforeStart}
-use Rattle.storing.specs.Stores.{withFile, withChannel}
-use Rattle.judging.specs.Soundness.{numbersInRange, noBufferHeldTwice, eachHasItsOwn, requestsFit, channelsWork, readsAloneTake, writesHaveBlocks, fullBlocksRight, partBuffersRight, placesRight, attemptsInLimit, sound}
-use Rattle.starting.specs.Fresh.{freshRows, freshState, freshBy}
-use Rattle.binding.specs.Open.{freeOf, openRows, openOn}
-use Rattle.opening.specs.Calls.{openBy}
-use Rattle.requests.specs.Changes.{changedState}
-use Rattle.asking.specs.Ask.{opOf, askRefusal, askedFile, askedChannel, askOn}
-use Rattle.requests.specs.Calls.{askBy}
-use Rattle.reporting.specs.Report.{reportRefusal, reportedFile, reportedArea, reportOn, reportOnArea}
-use Rattle.requests.specs.Calls.{reportBy, reportByArea}
-use Rattle.putting.specs.Blocks.{sealedIn, sealedArea}
-use Rattle.putting.specs.Put.{putRows, putRefusal, filledArea, putArea, putOn, putOnArea}
-use Rattle.output.specs.Calls.{putBy, putByArea}
-use Rattle.histories.specs.Calls.{answerOf}
+use Rattle.state.specs.Stores.{withFile, withChannel}
+use Rattle.state_sound.specs.Soundness.{numbersInRange, noBufferHeldTwice, eachHasItsOwn, requestsFit, channelsWork, readsAloneTake, writesHaveBlocks, fullBlocksRight, partBuffersRight, placesRight, attemptsInLimit, sound}
+use Rattle.pack_start.specs.Fresh.{freshRows, freshState, freshBy}
+use Rattle.call_open.specs.Open.{freeOf, openRows, openOn}
+use Rattle.pack_open.specs.Open.{openBy}
+use Rattle.pack_request.specs.Changes.{changedState}
+use Rattle.call_request.specs.Ask.{opOf, askRefusal, askedFile, askedChannel, askOn}
+use Rattle.pack_request.specs.Calls.{askBy}
+use Rattle.call_request.specs.Report.{reportRefusal, reportedFile, reportedArea, reportOn, reportOnArea}
+use Rattle.pack_request.specs.Calls.{reportBy, reportByArea}
+use Rattle.call_record.specs.Blocks.{sealedIn, sealedArea}
+use Rattle.call_record.specs.Put.{putRows, putRefusal, filledArea, putArea, putOn, putOnArea}
+use Rattle.pack_record.specs.Puts.{putBy, putByArea}
+use Rattle.pack.specs.Calls.{answerOf}
 use Rattle.demands.specs.Examples.{play, repeatedFrom, table, allShown, allWanted}
 
 -- the next block number is one thing, of a file and of a check word

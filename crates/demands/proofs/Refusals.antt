@@ -3,8 +3,8 @@ use mathlib.Core.Path.{sym, _∙_}
 use mathlib.Core.List.{List}
 use Prim.Native.Nat.{ℕ}
 use Rattle.state.specs.declared.State.{State}
-use Rattle.histories.specs.Calls.{Call}
-use Rattle.histories.proofs.Refused.{call-exactly, call-carries, call-alone}
+use Rattle.pack.specs.Calls.{Call}
+use Rattle.pack.proofs.Refused.{call-exactly, call-carries, call-alone}
 use Rattle.demands.specs.Demands.{Refuses}
 
 pub refuses : (s : State) (area : List ℕ) (call : Call) → Refuses s area call

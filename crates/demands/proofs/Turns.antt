@@ -7,23 +7,23 @@ use Prim.Native.Nat.{ℕ, _+_, _*_, _<_}
 use native.Mathlib.Omega.{arith}
 use borrow.Author.Tests.{eq-eqb}
 use Rattle.channel.specs.declared.Op.{Op}
-use Rattle.outcomes.specs.Rules.{mostReports}
-use Rattle.service.specs.History as history
-use Rattle.service.specs.History.{accepted, aReport, aPriority, aRequestOf, anAnswerTo, urgentIn, isAlive}
-use Rattle.service.specs.Lifted.{runIn, KeptIn}
+use Rattle.channel_outcomes.specs.Rules.{mostReports}
+use Rattle.channel_theorems.specs.History as history
+use Rattle.channel_theorems.specs.History.{accepted, aReport, aPriority, aRequestOf, anAnswerTo, urgentIn, isAlive}
+use Rattle.channel_theorems.specs.Lifted.{runIn, KeptIn}
 use Rattle.state.specs.declared.State.{State}
 use Rattle.state.specs.Places.{fileAt, channelAt}
-use Rattle.starting.specs.declared.Masks.{Masks}
-use Rattle.starting.specs.Fresh.{freshState}
-use Rattle.starting.proofs.FreshTheorems.{fresh-accepted}
-use Rattle.asking.specs.Ask.{opOf, isPriority}
-use Rattle.histories.specs.Calls.{fresh, ask, answerOf}
-use Rattle.histories.specs.Histories.{Lent, after, count, freshStart, reportOn, answerFor, priorityOn, requestOf, declaredOn}
-use Rattle.histories.proofs.Kept.{Good, good-start, history-kept, call-kept}
-use Rattle.histories.proofs.Seen.{stationAt, seen, nextOf}
-use Rattle.histories.proofs.Around.{packAround, run-same, count-same}
-use Rattle.histories.proofs.Counted.{report-matches, answer-matches, priority-matches, request-matches}
-use Rattle.histories.proofs.Turns.{fresh-declared, turns-kept}
+use Rattle.pack_start.specs.declared.Masks.{Masks}
+use Rattle.pack_start.specs.Fresh.{freshState}
+use Rattle.pack_start.proofs.FreshTheorems.{fresh-accepted}
+use Rattle.call_request.specs.Ask.{opOf, isPriority}
+use Rattle.pack.specs.Calls.{fresh, ask, answerOf}
+use Rattle.pack.specs.Histories.{Lent, after, count, freshStart, reportOn, answerFor, priorityOn, requestOf, declaredOn}
+use Rattle.pack.proofs.Kept.{Good, good-start, history-kept, call-kept}
+use Rattle.pack.proofs.Seen.{stationAt, seen, nextOf}
+use Rattle.pack.proofs.Around.{packAround, run-same, count-same}
+use Rattle.pack.proofs.Counted.{report-matches, answer-matches, priority-matches, request-matches}
+use Rattle.pack.proofs.Turns.{fresh-declared, turns-kept}
 use Rattle.demands.specs.Demands.{Answers}
 
 -- in the pack's words

@@ -6,23 +6,23 @@ use mathlib.Core.Bool.{Bool, true, false, cond, _||_}
 use mathlib.Core.List.{List, _++_, map}
 use Prim.Native.Nat.{ℕ, _+_, _*_, _≤_, _<_}
 use Rattle.area.specs.Refusals.{Given, NoneApplies}
-use Rattle.files.specs.declared.File.{File}
-use Rattle.outcomes.specs.Rules.{mostReports}
-use Rattle.scanning.specs.Scans.{workingIn}
+use Rattle.file.specs.declared.File.{File}
+use Rattle.channel_outcomes.specs.Rules.{mostReports}
+use Rattle.channel_turns.specs.Scans.{workingIn}
 use Rattle.area.specs.Lists.{isFound}
 use Rattle.channel.specs.Units.{operationAt}
-use Rattle.service.specs.History.{urgentIn}
+use Rattle.channel_theorems.specs.History.{urgentIn}
 use Rattle.pool.specs.Free.{heldBy, isFree, freeCount, holders, allHolding, Lowest}
-use Rattle.serving.specs.Serving.{serves}
+use Rattle.pool.specs.Serving.{serves}
 use Rattle.state.specs.declared.State.{State}
 use Rattle.state.specs.Places.{fileAt, channelAt}
-use Rattle.judging.specs.Soundness.{sound}
-use Rattle.reporting.specs.Report.{isIdleFor}
-use Rattle.histories.specs.Calls.{Call, answerOf, numberAlone}
-use Rattle.histories.specs.Tables.{isTableNumber, rowsOf}
-use Rattle.ledger.specs.Ledgers.{Ledger, dataOf}
-use Rattle.ledger.specs.Blocks.{blocksIn, unreadOf, partIn, allChecked, joined, contents}
-use Rattle.histories.specs.Histories.{Lent, after, count, reportOn, answerFor, priorityOn, requestOf}
+use Rattle.state_sound.specs.Soundness.{sound}
+use Rattle.call_request.specs.Report.{isIdleFor}
+use Rattle.pack.specs.Calls.{Call, answerOf, numberAlone}
+use Rattle.pack.specs.Tables.{isTableNumber, rowsOf}
+use Rattle.demands_ledger.specs.Ledgers.{Ledger, dataOf}
+use Rattle.demands_ledger.specs.Blocks.{blocksIn, unreadOf, partIn, allChecked, joined, contents}
+use Rattle.pack.specs.Histories.{Lent, after, count, reportOn, answerFor, priorityOn, requestOf}
 
 -- ---- Demand 1: "Any call, with any numbers, words and lengths, gets an answer." `answerOf` is one answer for every state, area and call.
 

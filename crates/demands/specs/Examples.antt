@@ -7,17 +7,17 @@ use lib.ListN.{replicate}
 use Rattle.area.specs.declared.Found.{Found}
 use Rattle.area.specs.declared.Found.the-variants.{At, Nothing}
 use Rattle.word.specs.Sums.{logicalSum, folded}
-use Rattle.checkword.specs.CheckWords.{checkWord}
+use Rattle.word.specs.CheckWords.{checkWord}
 use Rattle.channel.specs.declared.Turn.{Turn}
 use Rattle.channel.specs.declared.Turn.the-variants.{Idle, Waiting, Displaced, Working}
 use Rattle.channel.specs.declared.Channel.{Channel}
-use Rattle.outcomes.specs.Rules.{good, redundancy}
+use Rattle.channel_outcomes.specs.Rules.{good, redundancy}
 use Rattle.channel.specs.Units.{turnAt}
-use Rattle.scanning.specs.Scans.{workingIn}
-use Rattle.filling.specs.Fills.{nextBlock}
+use Rattle.channel_turns.specs.Scans.{workingIn}
+use Rattle.file.specs.Fills.{nextBlock}
 use Rattle.state.specs.declared.State.{State}
 use Rattle.state.specs.Places.{beforeStart, channelAt}
-use Rattle.histories.specs.Calls.{Call, fresh, opening, ask, report, put, Added, nothing, working, reported, Answer, answerOf}
+use Rattle.pack.specs.Calls.{Call, fresh, opening, ask, report, put, Added, nothing, working, reported, Answer, answerOf}
 
 -- ---- what a call shows
 

@@ -3,12 +3,12 @@
 // 12 not written. Each answer ends with the whole file.
 mod print;
 
-use files::File;
+use file::File;
+use file::Wish;
 use libc::STDIN_FILENO;
 use numbers::next;
 use print::number;
 use print::whole;
-use sizes::Wish;
 
 // The file, the words of a buffer, and where the next event is read.
 struct Desk {
@@ -47,46 +47,46 @@ fn open(text: &[u8], p: Desk) -> Desk {
         rlen: size(r.value),
     };
     Desk {
-        file: sizes::opened_file(q, byte(low.value), byte(high.value)),
+        file: file::opened_file(q, byte(low.value), byte(high.value)),
         w: size(w.value),
         at: high.at,
     }
 }
 
 fn take(f: File, w: u16) -> File {
-    let g = reads::took_buffer(f);
-    number(reads::taken_start(g, w) as u64);
+    let g = file_input::took_buffer(f);
+    number(file_input::taken_start(g, w) as u64);
     g
 }
 
 fn get(f: File, w: u16) -> File {
-    let r = gets::get(f, w);
+    let r = file_input::get(f, w);
     let g = r.got;
-    number(showing::got_number(g) as u64);
-    number(showing::got_start(g) as u64);
-    number(showing::got_count(g) as u64);
-    number(showing::got_error(g) as u64);
+    number(file_input::got_number(g) as u64);
+    number(file_input::got_start(g) as u64);
+    number(file_input::got_count(g) as u64);
+    number(file_input::got_error(g) as u64);
     r.file
 }
 
 fn put(f: File, w: u16) -> File {
-    let g = puts::added(f);
-    number(puts::put_start(f, w) as u64);
-    number(partly::part_length(g) as u64);
-    let sealed = if partly::is_complete(g) { 1 } else { 0 };
+    let g = file_output::added(f);
+    number(file_output::put_start(f, w) as u64);
+    number(file_output::part_length(g) as u64);
+    let sealed = if file_output::is_complete(g) { 1 } else { 0 };
     number(sealed);
-    puts::after_put(f)
+    file_output::after_put(f)
 }
 
 fn seal(f: File, w: u16) -> File {
-    number(partly::part_start(f, w) as u64);
-    number(partly::part_length(f) as u64);
-    partly::sealed(f)
+    number(file_output::part_start(f, w) as u64);
+    number(file_output::part_length(f) as u64);
+    file_output::sealed(f)
 }
 
 fn send(f: File, w: u16) -> File {
-    number(sends::send_start(f, w) as u64);
-    number(sends::send_words(f) as u64);
+    number(file_output::send_start(f, w) as u64);
+    number(file_output::send_words(f) as u64);
     f
 }
 
@@ -94,15 +94,15 @@ fn send(f: File, w: u16) -> File {
 fn after(kind: u64, f: File, w: u16) -> File {
     match kind {
         2 => take(f, w),
-        4 => reads::gave_back(f),
-        5 => reads::met_mark(f),
+        4 => file_input::gave_back(f),
+        5 => file_input::met_mark(f),
         6 => get(f, w),
-        7 => filling::without_oldest(f),
+        7 => file::without_oldest(f),
         8 => put(f, w),
         9 => seal(f, w),
         10 => send(f, w),
-        11 => sends::after_write(f, true),
-        _ => sends::after_write(f, false),
+        11 => file_output::after_write(f, true),
+        _ => file_output::after_write(f, false),
     }
 }
 
@@ -111,7 +111,7 @@ fn deliver(text: &[u8], p: Desk) -> Desk {
     let error = next(text, n.at);
     let f = p.file;
     Desk {
-        file: reads::delivered(f, size(n.value), byte(error.value)),
+        file: file_input::delivered(f, size(n.value), byte(error.value)),
         w: p.w,
         at: error.at,
     }
@@ -137,7 +137,7 @@ fn event(text: &[u8], kind: u64, p: Desk) -> Desk {
 // Plays the whole text. There are no more events than bytes.
 fn play(text: &[u8]) {
     let mut p = Desk {
-        file: sizes::closed_file(),
+        file: file::closed_file(),
         w: 0,
         at: 0,
     };

@@ -1,5 +1,5 @@
 // Answers: numbers with one blank between them, a line feed after the last; and a file as a list of its blocks.
-use files::File;
+use file::File;
 use libc::STDOUT_FILENO;
 ghost use Prim.Native.Nat.{_≤_};
 
@@ -22,13 +22,13 @@ fn flag(b: bool) -> u64
 
 // The oldest full block, if there is one: its buffer, data words, the place of get in it, and its check error that was not told.
 fn block(f: File) {
-    if reads::has_full(f) {
-        let k = files::oldest(f);
-        let x = files::slot_at(f, k);
-        number(files::start_at(f, 1, k) as u64);
-        number(slots::full_words(x) as u64);
-        number(slots::full_place(x) as u64);
-        number(slots::full_error(x) as u64);
+    if file_input::has_full(f) {
+        let k = file::oldest(f);
+        let x = file::slot_at(f, k);
+        number(file::start_at(f, 1, k) as u64);
+        number(file::full_words(x) as u64);
+        number(file::full_place(x) as u64);
+        number(file::full_error(x) as u64);
     }
 }
 
@@ -38,26 +38,26 @@ fn taken(f: File) {
     let high = f.high;
     let x = low.slot;
     let y = high.slot;
-    if slots::is_taken(x) | slots::is_taken(y) {
-        return number(reads::taken_start(f, 1) as u64);
+    if file::is_taken(x) | file::is_taken(y) {
+        return number(file_input::taken_start(f, 1) as u64);
     }
     number(255)
 }
 
 // The part-filled buffer and its words, 255 and 0 for none.
 fn part(f: File) {
-    if partly::has_part(f) {
-        number(partly::part_start(f, 1) as u64);
+    if file_output::has_part(f) {
+        number(file_output::part_start(f, 1) as u64);
     } else {
         number(255);
     }
-    number(partly::part_length(f) as u64);
+    number(file_output::part_length(f) as u64);
 }
 
 // The whole file: its full blocks, the oldest first, the taken and the part-filled buffer, the next block number and the mark.
 pub fn whole(f: File) {
-    let rest = filling::without_oldest(f);
-    number(flag(reads::has_full(f)) + flag(reads::has_full(rest)));
+    let rest = file::without_oldest(f);
+    number(flag(file_input::has_full(f)) + flag(file_input::has_full(rest)));
     block(f);
     block(rest);
     taken(f);

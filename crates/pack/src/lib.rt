@@ -1,31 +1,34 @@
 // The pack: the eleven calls under one roof, with the state that they take and hand back and what each of them answers.
 // This is all that a caller needs to name in its code; its line of crates.txt also lists the crates below, which declare the types, and hold the code,
 // the definitions and the proofs.
-pub use changing::Called;
-pub use files::File;
-pub use freezing::freeze;
-pub use freezing::thaw;
-pub use gets::Got;
-pub use getting::got_words;
-pub use input::Getting;
-pub use input::get;
-pub use input::get_words;
-pub use input::skip;
-pub use judging::is_sound;
-pub use opening::close;
-pub use opening::open;
-pub use output::put;
-pub use output::seal;
-pub use requests::Asking;
-pub use requests::Reporting;
-pub use requests::ask;
-pub use requests::report;
-pub use requests::reported_words;
-pub use showing::got_error;
-pub use showing::got_number;
-pub use showing::got_start;
-pub use showing::got_count;
-pub use starting::Masks;
-pub use starting::fresh;
+// Histories of the pack: the eleven calls as values, what each makes of a state and an area, and what is promised of call after call.
+// It has no code: its definitions say what a history is, and its theorems are what the crate `demands` cites.
+
+pub use call_record::got_words;
+pub use file::File;
+pub use file_input::Got;
+pub use file_input::got_count;
+pub use file_input::got_error;
+pub use file_input::got_number;
+pub use file_input::got_start;
+pub use pack_open::close;
+pub use pack_open::open;
+pub use pack_record::Getting;
+pub use pack_record::get;
+pub use pack_record::get_words;
+pub use pack_record::put;
+pub use pack_record::seal;
+pub use pack_record::skip;
+pub use pack_request::Asking;
+pub use pack_request::Reporting;
+pub use pack_request::ask;
+pub use pack_request::report;
+pub use pack_request::reported_words;
+pub use pack_start::Masks;
+pub use pack_start::freeze;
+pub use pack_start::fresh;
+pub use pack_start::thaw;
+pub use state::Called;
 pub use state::State;
 pub use state::before_start;
+pub use state_sound::is_sound;

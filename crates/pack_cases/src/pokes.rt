@@ -5,14 +5,14 @@ use channel::Request;
 use channel::Turn;
 use channel::UNITS;
 use channel::Unit;
-use files::Buffer;
-use files::File;
-use slots::Slot;
+use file::Buffer;
+use file::File;
+use file::Slot;
 use state::State;
 use state::channel_at;
 use state::file_at;
-use storing::with_channel;
-use storing::with_file;
+use state::with_channel;
+use state::with_file;
 
 fn byte(n: u64) -> u8 {
     (n % 256) as u8

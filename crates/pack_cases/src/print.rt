@@ -4,11 +4,11 @@ use channel::Op;
 use channel::Request;
 use channel::Turn;
 use channel::UNITS;
-use files::Buffer;
-use files::File;
+use file::Buffer;
+use file::File;
+use file::Slot;
 use libc::STDOUT_FILENO;
 use pool::FILES;
-use slots::Slot;
 use state::CHANNELS;
 use state::State;
 
@@ -115,9 +115,9 @@ fn one_channel(c: Channel) {
 
 fn slot(x: Slot) {
     number(kind(x));
-    number(slots::part_words(x) as u64 | slots::full_words(x) as u64);
-    number(slots::full_place(x) as u64);
-    number(slots::full_error(x) as u64);
+    number(file::part_words(x) as u64 | file::full_words(x) as u64);
+    number(file::full_place(x) as u64);
+    number(file::full_error(x) as u64);
 }
 
 fn kind(x: Slot) -> u64 {
@@ -141,7 +141,7 @@ fn buffer(b: Buffer) {
 
 fn is_blank(b: Buffer) -> bool {
     let x = b.slot;
-    (b.number == 0) & slots::is_empty(x)
+    (b.number == 0) & file::is_empty(x)
 }
 
 // Whether every field is zero.

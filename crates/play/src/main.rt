@@ -3,10 +3,10 @@
 use libc::STDERR_FILENO;
 use libc::STDIN_FILENO;
 use libc::STDOUT_FILENO;
-use lines::Line;
-use lines::no_line;
 use session::play_end;
 use session::play_part;
+use session_line::Line;
+use session_line::no_line;
 use state::State;
 use state::before_start;
 

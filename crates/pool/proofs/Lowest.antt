@@ -9,7 +9,7 @@ use native.Mathlib.Omega.{arith}
 use Rattle.area.specs.declared.Found.the-variants.{At}
 use Rattle.area.specs.Lists.{firstAlong, countAlong}
 use Rattle.area.proofs.Marks.{first-counted, first-lowest}
-use Rattle.files.specs.declared.File.{File}
+use Rattle.file.specs.declared.File.{File}
 use Rattle.pool.specs.Free.{isFree, lowestFree, Lowest, freeCount}
 
 pub found-lowest : (m : ℕ) (fs : List File) (k b : ℕ) → lowestFree m fs k ≡ At b → Lowest m fs k b

@@ -6,8 +6,8 @@ use mathlib.Core.List.{List, [], _∷_}
 use lib.Dec.{leb, eqb}
 use Rattle.area.specs.declared.Found.{Found}
 use Rattle.area.specs.Lists.{anyOf, countOf, firstAlong, countAlong}
-use Rattle.files.specs.declared.File.{File}
-use Rattle.sizes.specs.Opening.{buffersFor}
+use Rattle.file.specs.declared.File.{File}
+use Rattle.file.specs.Sizes.{buffersFor}
 
 -- "Files 0 to 15."
 abbrev pub fileCount : ℕ

@@ -3,7 +3,7 @@ use crate::BUFFERS;
 use crate::FILES;
 use crate::WORDS;
 use area::Found;
-use files::File;
+use file::File;
 ghost use mathlib.Core.Path.{_≡_};
 ghost use Prim.Native.Nat.{_≤_};
 ghost use Rattle.pool.specs.Free.{poolFits, poolSound, heldBy, isHeld, lowestFree, freeCount};

@@ -1,12 +1,17 @@
 // The files over one pool of buffers: which buffers are free. It knows nothing of channels and requests, and only numbers the buffers.
 // When the files are sound stands in `filing`.
+// Which file serves a unit of a channel. It knows nothing of requests.
 mod free;
+mod units;
 
 pub use free::free_count;
 pub use free::holds;
 pub use free::lowest_free;
 pub use free::pool_fits;
 pub use free::pool_sound;
+pub use units::file_of;
+pub use units::is_bound;
+pub use units::serves;
 
 // How many files there are, and the number of the last; how many buffers a pool may have, and how many words a buffer.
 pub const FILES: usize = 16;

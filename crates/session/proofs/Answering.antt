@@ -13,25 +13,25 @@ use Rattle.area.specs.Parts.{paste, pastedIn}
 use Rattle.area.proofs.Pastes.{length-paste}
 use Rattle.area.proofs.Joins.{take-paste}
 use Rattle.area.proofs.Walks.{by-test, or-neither}
-use Rattle.digits.specs.Digits.{bytesOf}
-use Rattle.figures.specs.Writes.{placeAfter}
-use Rattle.frame.specs.declared.Frame.{Frame}
-use Rattle.frame.specs.declared.Frame.the-variants.{Malformed}
-use Rattle.frame.specs.Frames.{longest, isText, sized, freshOf, kindBy, kindOf, frameOf}
-use Rattle.frame.proofs.Laws.Accepts.{frame-long}
-use Rattle.lines.specs.declared.Line.{Line}
-use Rattle.lines.specs.Lines.{Text, Overlong}
-use Rattle.lines.specs.Machine.{heldOf, Holds}
-use Rattle.lines.proofs.Laws.Holding.{clip-text, clip-over}
+use Rattle.session_frame.specs.Digits.{bytesOf}
+use Rattle.session_frame.specs.Writes.{placeAfter}
+use Rattle.session_frame.specs.declared.Frame.{Frame}
+use Rattle.session_frame.specs.declared.Frame.the-variants.{Malformed}
+use Rattle.session_frame.specs.Frames.{longest, isText, sized, freshOf, kindBy, kindOf, frameOf}
+use Rattle.session_frame.proofs.Laws.Accepts.{frame-long}
+use Rattle.session_line.specs.declared.Line.{Line}
+use Rattle.session_line.specs.Lines.{Text, Overlong}
+use Rattle.session_line.specs.Machine.{heldOf, Holds}
+use Rattle.session_line.proofs.Laws.Holding.{clip-text, clip-over}
 use Rattle.state.specs.declared.State.{State}
-use Rattle.judging.specs.Soundness.{sound}
-use Rattle.replies.specs.Replies.{Reply, givenWords, replyTo, answerTo, textOf}
-use Rattle.replies.specs.Turns.{answerOn}
-use Rattle.answering.specs.Rooms.{mostWords, mostText, lacksRooms, After}
-use Rattle.replies.proofs.Stores.{Counts}
-use Rattle.answering.proofs.Written.{IsAfter, given-within, given-all, with-rooms}
-use Rattle.replies.proofs.Agrees.{sound-right}
-use Rattle.answering.proofs.Fits.{text-written}
+use Rattle.state_sound.specs.Soundness.{sound}
+use Rattle.session_reply.specs.Replies.{Reply, givenWords, replyTo, answerTo, textOf}
+use Rattle.session_reply.specs.Turns.{answerOn}
+use Rattle.session.specs.Rooms.{mostWords, mostText, lacksRooms, After}
+use Rattle.session_reply.proofs.Stores.{Counts}
+use Rattle.session.proofs.Written.{IsAfter, given-within, given-all, with-rooms}
+use Rattle.session_reply.proofs.Agrees.{sound-right}
+use Rattle.session.proofs.Fits.{text-written}
 use Rattle.session.specs.Player.{heldText, afterHeld}
 
 -- ---- malformed lines are answered alike

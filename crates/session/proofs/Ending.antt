@@ -4,11 +4,11 @@ use mathlib.Core.Bool.{Bool, true, false}
 use mathlib.Core.List.{List}
 use Prim.Native.Nat.{ℕ}
 use Rattle.area.proofs.Marks.{cond-true, cond-false}
-use Rattle.lines.specs.declared.Line.{Line}
-use Rattle.lines.specs.Machine.{hasBegun}
+use Rattle.session_line.specs.declared.Line.{Line}
+use Rattle.session_line.specs.Machine.{hasBegun}
 use Rattle.state.specs.declared.State.{State}
-use Rattle.answering.specs.Rooms.{After}
-use Rattle.answering.proofs.Written.{IsAfter, after-same}
+use Rattle.session.specs.Rooms.{After}
+use Rattle.session.proofs.Written.{IsAfter, after-same}
 use Rattle.session.specs.Player.{afterHeld, endOf}
 
 module _ (s : State) (area : List ℕ) (line : Line) (room words out : List ℕ) (b : Bool) (begun : b ≡ hasBegun line) where

@@ -1,3 +1,5 @@
+pub mod Fits
+pub mod Written
 pub mod Turning
 pub mod Ending
 pub mod Answering

@@ -12,23 +12,23 @@ use Rattle.area.specs.Parts.{paste}
 use Rattle.area.proofs.Pastes.{length-paste, paste-part}
 use Rattle.area.proofs.Marks.{cond-true, cond-false}
 use Rattle.area.proofs.Walks.{by-test, or-right, or-neither}
-use Rattle.frame.specs.Frames.{longest}
-use Rattle.lines.specs.declared.Step.{Step}
-use Rattle.lines.specs.Lines.{feedAt, endedLines, begunLine, lastLine}
-use Rattle.lines.specs.Machine.{noLine, Holds, stepOf, roomOf}
-use Rattle.lines.specs.Runs.{joined}
-use Rattle.lines.proofs.Laws.Feeds.{ended-append, begun-append, lines-ended}
-use Rattle.lines.proofs.Laws.Holding.{holds-none, begun-none, begun-some}
-use Rattle.lines.proofs.Laws.Steps.{step-length, step-holds, step-ended, step-stopped}
+use Rattle.session_frame.specs.Frames.{longest}
+use Rattle.session_line.specs.declared.Step.{Step}
+use Rattle.session_line.specs.Lines.{feedAt, endedLines, begunLine, lastLine}
+use Rattle.session_line.specs.Machine.{noLine, Holds, stepOf, roomOf}
+use Rattle.session_line.specs.Runs.{joined}
+use Rattle.session_line.proofs.Laws.Feeds.{ended-append, begun-append, lines-ended}
+use Rattle.session_line.proofs.Laws.Holding.{holds-none, begun-none, begun-some}
+use Rattle.session_line.proofs.Laws.Steps.{step-length, step-holds, step-ended, step-stopped}
 use Rattle.state.specs.declared.State.{State}
 use Rattle.state.specs.Places.{beforeStart}
-use Rattle.judging.specs.Soundness.{sound}
-use Rattle.judging.proofs.Wholes.{before-start-sound}
-use Rattle.replies.specs.Replies.{Reply, answerTo, textOf}
-use Rattle.answering.specs.Rooms.{mostWords, mostText, After}
-use Rattle.replies.proofs.Stores.{Counts}
-use Rattle.replies.proofs.Kept.{answer-kept, answer-counts, answer-area}
-use Rattle.answering.proofs.Fits.{text-longest}
+use Rattle.state_sound.specs.Soundness.{sound}
+use Rattle.state_sound.proofs.Wholes.{before-start-sound}
+use Rattle.session_reply.specs.Replies.{Reply, answerTo, textOf}
+use Rattle.session.specs.Rooms.{mostWords, mostText, After}
+use Rattle.session_reply.proofs.Stores.{Counts}
+use Rattle.session_reply.proofs.Kept.{answer-kept, answer-counts, answer-area}
+use Rattle.session.proofs.Fits.{text-longest}
 use Rattle.session.specs.Session.{playLines, areaWords, sessionOf}
 use Rattle.session.specs.Player.{Player, afterHeld, answeredTurn, openTurn, turnOf, isDone, playTurns, playPart, endOf, Written, fromFront, after, playCalls, playParts, playSession}
 use Rattle.session.proofs.Answering.{Answered, held-answered, written-after}

@@ -12,17 +12,17 @@ use Rattle.area.specs.Parts.{paste, pastedIn}
 use Rattle.area.proofs.Pastes.{part-all, paste-fitting, paste-misfit, length-paste}
 use Rattle.area.proofs.Marks.{cond-true, cond-false}
 use Rattle.area.proofs.Walks.{by-test, or-left, or-first, or-second, or-neither}
-use Rattle.figures.specs.Writes.{placeAfter}
-use Rattle.lines.specs.declared.Line.{Line}
-use Rattle.lines.specs.declared.Step.{Step}
-use Rattle.lines.specs.Lines.{feedAt}
-use Rattle.lines.specs.Machine.{noLine, stepOf, roomOf}
-use Rattle.frame.specs.Frames.{frameOf}
+use Rattle.session_frame.specs.Writes.{placeAfter}
+use Rattle.session_line.specs.declared.Line.{Line}
+use Rattle.session_line.specs.declared.Step.{Step}
+use Rattle.session_line.specs.Lines.{feedAt}
+use Rattle.session_line.specs.Machine.{noLine, stepOf, roomOf}
+use Rattle.session_frame.specs.Frames.{frameOf}
 use Rattle.state.specs.declared.State.{State}
-use Rattle.replies.specs.Replies.{Reply, givenWords, textOf}
-use Rattle.replies.specs.Turns.{answerOn}
-use Rattle.answering.specs.Rooms.{mostText, lacksRooms, After, afterLine}
-use Rattle.answering.proofs.Written.{IsAfter}
+use Rattle.session_reply.specs.Replies.{Reply, givenWords, textOf}
+use Rattle.session_reply.specs.Turns.{answerOn}
+use Rattle.session.specs.Rooms.{mostText, lacksRooms, After, afterLine}
+use Rattle.session.proofs.Written.{IsAfter}
 use Rattle.session.specs.declared.Played.{Played}
 use Rattle.session.specs.Player.{Player, heldText, afterHeld, answeredTurn, openTurn, turnOf, isDone, playTurns, playPart, playedOf}
 

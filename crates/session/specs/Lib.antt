@@ -1,2 +1,3 @@
-pub mod Session
+pub mod Rooms
 pub mod Player
+pub mod Session

@@ -5,13 +5,13 @@ use mathlib.Core.Bool.{Bool, false, cond, _||_}
 use mathlib.Core.List.{List, [], _∷_, _++_}
 use lib.Dec.{leb, ltb}
 use lib.ListN.{length, take, drop, replicate}
-use Rattle.lines.specs.declared.Line.{Line}
-use Rattle.lines.specs.declared.Step.{Step}
-use Rattle.lines.specs.Machine.{noLine, hasBegun, stepOf, roomOf}
+use Rattle.session_line.specs.declared.Line.{Line}
+use Rattle.session_line.specs.declared.Step.{Step}
+use Rattle.session_line.specs.Machine.{noLine, hasBegun, stepOf, roomOf}
 use Rattle.state.specs.declared.State.{State}
 use Rattle.state.specs.Places.{beforeStart}
-use Rattle.replies.specs.Turns.{answerOn}
-use Rattle.answering.specs.Rooms.{mostText, After, afterLine}
+use Rattle.session_reply.specs.Turns.{answerOn}
+use Rattle.session.specs.Rooms.{mostText, After, afterLine}
 use Rattle.session.specs.declared.Played.{Played}
 use Rattle.session.specs.Session.{areaWords}
 

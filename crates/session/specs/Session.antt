@@ -2,10 +2,10 @@
 use Prim.Native.Nat.{ℕ}
 use mathlib.Core.List.{List, [], _∷_, _++_}
 use lib.ListN.{replicate}
-use Rattle.lines.specs.Lines.{linesOf}
+use Rattle.session_line.specs.Lines.{linesOf}
 use Rattle.state.specs.declared.State.{State}
 use Rattle.state.specs.Places.{beforeStart}
-use Rattle.replies.specs.Replies.{answerTo, textOf}
+use Rattle.session_reply.specs.Replies.{answerTo, textOf}
 
 -- lines one after the other, each against the state and the area that the one before left: these at the end, and the answers' text
 pub record Course : Type 0 where

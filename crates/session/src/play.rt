@@ -1,11 +1,11 @@
 // The player: a line more, answered; as many as a part has; and the last one.
+use crate::Answered;
 use crate::Played;
-use answering::Answered;
-use answering::answer_on;
-use lines::Line;
-use lines::has_begun;
-use lines::next_line;
-use lines::no_line;
+use crate::line::answer_on;
+use session_line::Line;
+use session_line::has_begun;
+use session_line::next_line;
+use session_line::no_line;
 use state::State;
 ghost use mathlib.Core.Path.{_≡_};
 ghost use Prim.Native.Nat.{_≤_};

@@ -1,1 +1,3 @@
 pub mod Lookups
+pub mod Stored
+pub mod Answered

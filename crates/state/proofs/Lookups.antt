@@ -5,8 +5,8 @@ use Prim.Native.Nat.{ℕ, zero, suc, _≤_, _<_}
 use native.Mathlib.Nat.{le-of-suc-le-suc, not-suc-le-zero}
 use lib.ListN.{length, getD, List·getD-eq-default}
 use Rattle.channel.specs.declared.Channel.{Channel}
-use Rattle.files.specs.declared.File.{File}
-use Rattle.sizes.specs.Opening.{closedFile}
+use Rattle.file.specs.declared.File.{File}
+use Rattle.file.specs.Sizes.{closedFile}
 use Rattle.state.specs.Places.{noChannel, channelIn}
 
 -- what stands past the end does not matter before it

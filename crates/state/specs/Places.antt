@@ -6,8 +6,8 @@ use lib.Dec.{ltb}
 use lib.ListN.{getD, replicate}
 use Rattle.channel.specs.declared.Channel.{Channel}
 use Rattle.channel.specs.Units.{freshOf}
-use Rattle.files.specs.declared.File.{File}
-use Rattle.sizes.specs.Opening.{closedFile}
+use Rattle.file.specs.declared.File.{File}
+use Rattle.file.specs.Sizes.{closedFile}
 use Rattle.pool.specs.Free.{fileCount}
 use Rattle.state.specs.declared.State.{State}
 

@@ -3,9 +3,9 @@ use crate::CHANNELS;
 use crate::State;
 use channel::Channel;
 use channel::fresh;
-use files::File;
+use file::File;
+use file::closed_file;
 use pool::FILES;
-use sizes::closed_file;
 ghost use mathlib.Core.Path.{_≡_};
 ghost use Rattle.state.specs.Places.{beforeStart, channelIn, fileAt, channelAt, areaShort};
 

@@ -87,17 +87,17 @@ fn play_sum(words: &[u64]) {
 // `2 sequence check number sum`: the check word, its two fields, and the next block number.
 fn play_check_word(head: &[u64]) {
     let n = block_number(head, 2);
-    let w = checkword::check_word(chosen(head, 0), chosen(head, 1), number(head, 3), n);
+    let w = word::check_word(chosen(head, 0), chosen(head, 1), number(head, 3), n);
     say(w);
-    also(checkword::sum_field(w));
-    also(checkword::number_field(w));
-    also(checkword::next_number(n) as u64);
+    also(word::sum_field(w));
+    also(word::number_field(w));
+    also(word::next_number(n) as u64);
 }
 
 // `3 len n sequence check number words`: sealing, the refusal and every word of the slice afterwards.
 fn play_seal(head: &[u64], block: &mut [u64]) {
     let n = count(head, 1);
-    let refusal = sealing::seal(
+    let refusal = block::seal(
         block,
         n,
         chosen(head, 2),
@@ -114,7 +114,7 @@ fn play_seal(head: &[u64], block: &mut [u64]) {
 
 // `4 sequence check number len words`: judging a block as delivered, the refusal and the error.
 fn play_judge(head: &[u64], block: &[u64]) {
-    let j = sealing::judge(
+    let j = block::judge(
         block,
         chosen(head, 0),
         chosen(head, 1),

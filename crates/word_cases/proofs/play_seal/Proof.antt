@@ -2,7 +2,7 @@
 use borrow.Author.Needs.{needs}
 use Prim.Native.Nat.{_-_, _≤_}
 use lib.ListN.{length}
-use Rattle.sealing.proofs.seal.Reads as seal-reads
+use Rattle.block.proofs.seal.Reads as seal-reads
 use Rattle.word_cases.proofs.play_seal.Statement.{statement}
 use Rattle.word_cases.proofs.play_seal.Tie as tie
 use Rattle.word_cases.proofs.play_seal.Reads as reads

@@ -6,7 +6,7 @@ use native.Mathlib.Omega.{arith}
 use lib.ListN.{length, drop}
 use Rattle.area.specs.Lists.{anyOf}
 use Rattle.area.proofs.Walks.{any-hit, any-miss, any-done}
-use Rattle.sizes.specs.Opening.{closedFile}
+use Rattle.file.specs.Sizes.{closedFile}
 use Rattle.pool.specs.Free.{heldBy, fileCount}
 use Rattle.pool.proofs.free.is_held.Statement.{statement}
 use Rattle.pool.proofs.free.is_held.Tie as tie

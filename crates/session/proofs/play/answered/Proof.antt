@@ -3,9 +3,9 @@ use mathlib.Core.Path.{ap}
 use mathlib.Core.Bool.{false}
 use mathlib.Core.List.{List}
 use Prim.Native.Nat.{ℕ}
-use Rattle.replies.specs.Turns.{answerOn}
-use Rattle.answering.specs.Rooms.{afterLine}
-use Rattle.answering.proofs.Written.{IsAfter, after-same}
+use Rattle.session_reply.specs.Turns.{answerOn}
+use Rattle.session.specs.Rooms.{afterLine}
+use Rattle.session.proofs.Written.{IsAfter, after-same}
 use Rattle.session.specs.Player.{afterHeld}
 use borrow.Author.Needs.{needs}
 use Rattle.session.proofs.play.answered.Statement.{statement}

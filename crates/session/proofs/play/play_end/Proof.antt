@@ -1,5 +1,5 @@
 -- `session::play::play_end` meets its contract, by whether a line has begun. Assumes nothing.
-use Rattle.answering.proofs.Written.{IsAfter}
+use Rattle.session.proofs.Written.{IsAfter}
 use Rattle.session.proofs.Ending.{end-none, end-some}
 use borrow.Author.Needs.{needs}
 use Rattle.session.proofs.play.play_end.Statement.{statement}

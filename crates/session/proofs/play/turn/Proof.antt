@@ -1,7 +1,7 @@
 -- `session::play::turn` meets its contract, by whether the line has ended. Assumes nothing.
 use Rattle.session.proofs.Turning.{sum-within, IsPlayer, turn-open, turn-ended}
 use native.Mathlib.Omega.{arith}
-use Rattle.answering.proofs.Written.{IsAfter}
+use Rattle.session.proofs.Written.{IsAfter}
 use borrow.Author.Needs.{needs}
 use Rattle.session.proofs.play.turn.Statement.{statement}
 use Rattle.session.proofs.play.turn.Tie as tie

@@ -1,0 +1,162 @@
+// Blocks on a slice: sealed with their check word, and judged by it as delivered.
+ghost use mathlib.Core.Path.{_≡_};
+ghost use mathlib.Core.Bool.{cond};
+ghost use Prim.Native.Nat.{_-_, _≤_};
+ghost use lib.Dec.{eqb};
+ghost use lib.ListN.{take, getD};
+ghost use Rattle.word.specs.Sums.{logicalSum};
+ghost use Rattle.word.specs.CheckWords.{chosen, checkWord};
+ghost use Rattle.block.specs.Blocks.{extra, sealRefusal, sealed, errorOf, judged};
+use word::check_word;
+use word::folded;
+use word::logical_sum;
+use word::number_field;
+use word::sum_field;
+
+// What judging a delivered block tells: the refusal, or 0 and then the error: 0 none, 1 sequence, 2 check sum, 3 both.
+pub struct Judged {
+    pub refusal: u8,
+    pub error: u8,
+}
+
+// The refusal of sealing a block, or 0 and then the block's check word.
+struct Sealing {
+    refusal: u8,
+    word: u64,
+}
+
+// The highest block number.
+const LAST_NUMBER: u16 = 32767;
+
+// How many words a check word takes: 1 if sequence or check sums are chosen, else 0.
+fn extra_words(sequence: bool, check: bool) -> usize
+    ensures { λ r. ⌜ (r ≡ extra sequence check) × (r ≤ 1) ⌝ }
+{
+    if sequence | check { 1 } else { 0 }
+}
+
+// How many of n data words are summed: all if check sums are chosen, else none.
+fn summed_words(check: bool, n: usize) -> usize
+    ensures { λ r. ⌜ (r ≡ chosen check n) × (r ≤ n) ⌝ }
+{
+    if check { n } else { 0 }
+}
+
+// What sealing the n data words at the start of the slice would write, or its refusal.
+fn sealed_word(block: &[u64], n: usize, sequence: bool, check: bool, number: u16) -> Sealing
+    ensures { λ r. ⌜ r .refusal ≡ sealRefusal (now (block .entry)) n sequence check number ⌝ }
+    ensures { λ r. ⌜ (r .refusal ≡ 0 → r .word ≡ checkWord sequence check (logicalSum (take n (now (block .entry)))) number) ⌝ }
+{
+    let e = extra_words(sequence, check);
+    if LAST_NUMBER < number {
+        return Sealing {
+            refusal: 1,
+            word: 0,
+        };
+    }
+    if block.len() < n {
+        return Sealing {
+            refusal: 1,
+            word: 0,
+        };
+    }
+    if block.len() - n < e {
+        return Sealing {
+            refusal: 1,
+            word: 0,
+        };
+    }
+    let k = summed_words(check, n);
+    let s = logical_sum(&block[..k]);
+    if s.fits {
+        let word = check_word(sequence, check, s.sum, number);
+        return Sealing { refusal: 0, word };
+    }
+    Sealing {
+        refusal: 2,
+        word: 0,
+    }
+}
+
+// Seals the block of n data words at the start of the slice: the check word, if one is chosen, is written after them.
+// No other word changes, and a refusal changes none.
+pub fn seal(block: &mut [u64], n: usize, sequence: bool, check: bool, number: u16) -> u8
+    ensures { λ r. ⌜ r ≡ sealRefusal (now (block .entry)) n sequence check number ⌝ }
+    ensures { λ _. ⌜ now (block .exit) ≡ sealed (now (block .entry)) n sequence check number ⌝ }
+{
+    let s = sealed_word(&block[..], n, sequence, check, number);
+    if s.refusal != 0 {
+        return s.refusal;
+    }
+    if sequence | check {
+        block[n] = s.word;
+    }
+    0
+}
+
+// How many data words a delivered block of `len` words has, e of them check words.
+fn data_words(len: usize, e: usize) -> usize
+    ensures { λ r. ⌜ (r ≡ len - e) × (r ≤ len) ⌝ }
+{
+    if len < e { 0 } else { len - e }
+}
+
+// The word at an index, 0 past the end.
+fn word_at(block: &[u64], i: usize) -> u64
+    ensures { λ r. ⌜ r ≡ getD (now (block .entry)) i 0 ⌝ }
+{
+    if i < block.len() { block[i] } else { 0 }
+}
+
+// The error of a field that is to hold `due`, if it is chosen.
+fn mismatch(choice: bool, found: u64, due: u64, error: u8) -> u8
+    ensures { λ r. ⌜ (r ≡ chosen choice (cond (eqb found due) 0 error)) × (r ≤ error) ⌝ }
+{
+    if choice {
+        if found == due {
+            return 0;
+        }
+        return error;
+    }
+    0
+}
+
+// The error of a check word, for the logical sum of its block and the number that is due. Only the chosen fields are compared.
+fn error_of(sequence: bool, check: bool, sum: u64, number: u16, word: u64) -> u8
+    ensures { λ r. ⌜ r ≡ errorOf sequence check sum number word ⌝ }
+{
+    let a = mismatch(sequence, number_field(word), number as u64, 1);
+    let b = mismatch(check, sum_field(word), folded(sum), 2);
+    a + b
+}
+
+// Judges a block as delivered, its check word last if one is chosen, by the number it is due.
+pub fn judge(block: &[u64], sequence: bool, check: bool, number: u16) -> Judged
+    ensures { λ r. ⌜ r ≡ judged (now (block .entry)) sequence check number ⌝ }
+{
+    if LAST_NUMBER < number {
+        return Judged {
+            refusal: 1,
+            error: 0,
+        };
+    }
+    let e = extra_words(sequence, check);
+    let n = data_words(block.len(), e);
+    let s = logical_sum(&block[..n]);
+    let last = area::are_words(&block[n..]);
+    if !(s.fits & last) {
+        return Judged {
+            refusal: 2,
+            error: 0,
+        };
+    }
+    if n == 0 {
+        return Judged {
+            refusal: 13,
+            error: 0,
+        };
+    }
+    let w = word_at(block, n);
+    let error = error_of(sequence, check, s.sum, number, w);
+    Judged { refusal: 0, error }
+}

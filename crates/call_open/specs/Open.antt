@@ -1,0 +1,74 @@
+-- Open (document 01, "Files and buffers"). Assumes nothing.
+use Prim.Native.Nat.{ℕ, _+_, _/_, _%_}
+use mathlib.Core.Bool.{Bool, not, _||_}
+use mathlib.Core.List.{List, [], _∷_}
+use lib.Dec.{ltb, eqb}
+use Rattle.area.specs.declared.Found.{Found}
+use Rattle.area.specs.declared.Found.the-variants.{At, Nothing}
+use Rattle.area.specs.Refusals.{Rows, lowest}
+use Rattle.channel.specs.declared.Channel.{Channel}
+use Rattle.channel.specs.Units.{declaredAt}
+use Rattle.file.specs.declared.File.{File}
+use Rattle.file.specs.declared.Wish.{Wish}
+use Rattle.file.specs.Sizes.{sizesFit, buffersFor, openedFile}
+use Rattle.pool.specs.Free.{lowestFree, freeCount}
+use Rattle.state.specs.declared.FileChange.{FileChange}
+use Rattle.call_open.specs.declared.Free.{Free}
+use Rattle.state.specs.Answers.{fileChange}
+
+-- "flag 1 output, 2 double, 4 sequence, 8 check"
+abbrev pub isSet : ℕ → ℕ → Bool
+isSet flags flag = eqb (flags / flag % 2) 1
+
+-- "Open gives file, channel, unit, direction, single or double, sequence yes/no, check sum yes/no, block size B and record length r."
+abbrev pub wishOf : ℕ → ℕ → ℕ → ℕ → ℕ → Wish
+wishOf channel unit flags size rlen = record {
+  channel = channel;
+  unit = unit;
+  output = eqb (flags % 2) 1;
+  double = isSet flags 2;
+  sequence = isSet flags 4;
+  check = isSet flags 8;
+  size = size;
+  rlen = rlen;
+}
+
+-- ---- the free buffers
+
+abbrev pub numberOf : Found → ℕ
+numberOf (At b) = b
+numberOf Nothing = 0
+
+-- the lowest free one of the buffers k up to m
+abbrev pub lowestNumber : ℕ → List File → ℕ → ℕ
+lowestNumber m fs k = numberOf (lowestFree m fs k)
+
+-- how many are free, and "the lowest-numbered free buffers": the lowest, and the lowest above that
+unfoldable pub freeOf : ℕ → List File → Free
+freeOf m fs = record { count = freeCount m fs; low = lowestNumber m fs 0; high = lowestNumber m fs (lowestNumber m fs 0 + 1) }
+
+-- ---- its refusals
+
+-- of whether row 1 applies and whether the unit is bound, the file of that number, the channel, the free buffers, W, and what is asked for
+unfoldable pub openRows : Bool → Bool → File → Channel → Free → ℕ → Wish → Rows
+openRows c1 bound f c free w q =
+    -- "an argument is outside its range", "a state passed back is unsound"
+    (1, c1)
+    -- "open: unit not declared"
+    ∷ (3, not (declaredAt c (q .unit)))
+    -- "open: file number open already, or unit already bound"
+    ∷ (4, f .opened || bound)
+    -- "open: fewer free buffers than the one or two asked for"
+    ∷ (7, ltb (free .count) (buffersFor (q .double)))
+    -- "Size 13 unless r is 1 to B and B + e is at most W."
+    ∷ (13, not (sizesFit w (q .sequence) (q .check) (q .size) (q .rlen)))
+    ∷ []
+
+abbrev pub openRefusal : Bool → Bool → File → Channel → Free → ℕ → Wish → ℕ
+openRefusal c1 bound f c free w q = lowest (openRows c1 bound f c free w q)
+
+-- ---- its effect
+
+-- "The lowest-numbered free buffers are taken; they start empty."
+unfoldable pub openOn : Bool → Bool → File → Channel → Free → ℕ → Wish → FileChange
+openOn c1 bound f c free w q = fileChange (openRefusal c1 bound f c free w q) f (openedFile q (free .low) (free .high))

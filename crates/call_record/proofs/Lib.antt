@@ -1,0 +1,3 @@
+pub mod Seals
+pub mod PutSteps
+pub mod GetSteps

@@ -1,0 +1,76 @@
+-- What put and seal do on one file, step by step as their code goes, comes to their definitions. Assumes nothing.
+use mathlib.Core.Path.{_≡_, sym, ap, ap₂, _∙_}
+use mathlib.Core.Bool.{Bool, true, false, not, _&&_, _||_}
+use mathlib.Core.List.{List, [], _∷_}
+use Prim.Native.Nat.{ℕ}
+use borrow.Author.Tests.{ne-eqb}
+use lib.Dec.{eqb}
+use lib.ListN.{length}
+use Rattle.area.specs.Lists.{allOf}
+use Rattle.area.specs.Parts.{isWord}
+use Rattle.area.specs.Refusals.{Rows, lowest}
+use Rattle.file.specs.declared.File.{File}
+use Rattle.file_output.specs.Puts.{hasRoom, added, afterPut}
+use Rattle.file_output.specs.Parts.{hasPart, isComplete, sealed}
+use Rattle.call_record.specs.Blocks.{heldRight, sealedArea}
+use Rattle.call_record.specs.Put.{sums, putRows, putRefusal, filledArea, putArea, putOn, putOnArea}
+use Rattle.call_record.specs.Seal.{sealSums, sealRows, sealRefusal, sealOn, sealOnArea}
+
+-- ---- the refusal: rows that the call does not have are false
+
+abbrev rows : Bool → Bool → Bool → Bool → Bool → Bool → Rows
+rows c1 c2 c5 c6 c9 c13 =
+    (1, c1) ∷ (2, c2) ∷ (5, c5) ∷ (6, c6) ∷ (9, c9) ∷ (13, c13) ∷ []
+
+pub put-rows : (c1 right summed spoilt room : Bool) (f : File) (w : ℕ) (area words : List ℕ)
+    → right ≡ allOf isWord words → summed ≡ sums f (length words) → spoilt ≡ (summed && not (heldRight w f area)) → room ≡ hasRoom f
+    → lowest (rows c1 (not right || spoilt) (not (f .opened)) (not (f .output)) (not room) (not (eqb (length words) (f .rlen)))) ≡ putRefusal c1 f w area words
+unfolding lowest putRefusal putRows
+put-rows c1 right summed spoilt room f w area words er es ep em =
+    let e : spoilt ≡ (sums f (length words) && not (heldRight w f area)) = ep ∙ ap (λ (b : Bool). b && not (heldRight w f area)) es in
+    rw (er, e, em)
+
+pub seal-rows : (c1 part summed spoilt : Bool) (f : File) (w : ℕ) (area : List ℕ)
+    → part ≡ hasPart f → summed ≡ (f .opened && (f .output && (part && f .check))) → spoilt ≡ (summed && not (heldRight w f area))
+    → lowest (rows c1 spoilt (not (f .opened)) (not (f .output)) (not part) false) ≡ sealRefusal c1 f w area
+unfolding lowest sealRefusal sealRows
+seal-rows c1 part summed spoilt f w area em es ep =
+    let s : summed ≡ sealSums f = es ∙ ap (λ (b : Bool). f .opened && (f .output && (b && f .check))) em in
+    let e : spoilt ≡ (sealSums f && not (heldRight w f area)) = ep ∙ ap (λ (b : Bool). b && not (heldRight w f area)) s in
+    rw (em, e)
+
+-- ---- put on one file
+
+module _ (wrong : Bool) (f : File) (w : ℕ) (area words : List ℕ) (no : ℕ) (e : no ≡ putRefusal wrong f w area words) where
+  pub put-refused : (no ≡ 0 → ⊥) → (record { refusal = no; file = f } ≡ putOn wrong f w area words) × (area ≡ putOnArea wrong f w area words)
+  unfolding putOn putOnArea
+  put-refused h = (rw (← e, ne-eqb no 0 h), rw (← e, ne-eqb no 0 h))
+
+  module _ (z : no ≡ 0) (g : File) (b : Bool) (filled : List ℕ) (ef : filled ≡ filledArea w f words area) (eg : g ≡ added f) (eb : b ≡ isComplete g) where
+    -- the block is complete, and sealed at once
+    pub put-complete : b ≡ true → (h : File) (zs : List ℕ) → zs ≡ sealedArea w g filled → h ≡ sealed g
+        → (record { refusal = 0; file = h } ≡ putOn wrong f w area words) × (zs ≡ putOnArea wrong f w area words)
+    unfolding putOn putOnArea afterPut putArea
+    put-complete t h zs ez eh =
+        let c : isComplete (added f) ≡ true = sym (eb ∙ ap isComplete eg) ∙ t in
+        let k : h ≡ sealed (added f) = eh ∙ ap sealed eg in
+        (rw (← e, z, c, k), rw (← e, z, c) (ez ∙ ap₂ (sealedArea w) eg ef))
+
+    -- more words fit
+    pub put-open : b ≡ false → (record { refusal = 0; file = g } ≡ putOn wrong f w area words) × (filled ≡ putOnArea wrong f w area words)
+    unfolding putOn putOnArea afterPut putArea
+    put-open t =
+        let c : isComplete (added f) ≡ false = sym (eb ∙ ap isComplete eg) ∙ t in
+        (rw (← e, z, c, eg), rw (← e, z, c) ef)
+
+-- ---- seal on one file
+
+module _ (wrong : Bool) (f : File) (w : ℕ) (area : List ℕ) (no : ℕ) (e : no ≡ sealRefusal wrong f w area) where
+  pub seal-refused : (no ≡ 0 → ⊥) → (record { refusal = no; file = f } ≡ sealOn wrong f w area) × (area ≡ sealOnArea wrong f w area)
+  unfolding sealOn sealOnArea
+  seal-refused h = (rw (← e, ne-eqb no 0 h), rw (← e, ne-eqb no 0 h))
+
+  pub seal-taken : no ≡ 0 → (g : File) (zs : List ℕ) → g ≡ sealed f → zs ≡ sealedArea w f area
+      → (record { refusal = 0; file = g } ≡ sealOn wrong f w area) × (zs ≡ sealOnArea wrong f w area)
+  unfolding sealOn sealOnArea
+  seal-taken z g zs eg ez = (rw (← e, z, eg), rw (← e, z) ez)

@@ -1,0 +1,5 @@
+pub mod Blocks
+pub mod Put
+pub mod Seal
+pub mod Get
+pub mod Skip

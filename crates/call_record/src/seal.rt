@@ -1,0 +1,43 @@
+// Seal on one file: its part-filled block gets its check word and is full.
+use crate::blocks::seal_block;
+use crate::blocks::sums_spoilt;
+use area::job_refusal;
+use file::File;
+use file_output::has_part;
+use file_output::sealed;
+use state::FileChange;
+ghost use mathlib.Core.Path.{_≡_};
+ghost use Rattle.call_record.specs.Seal.{sealRefusal, sealOn, sealOnArea};
+
+// The refusal of a seal of this file; c1 is what is known of row 1.
+fn seal_refusal(c1: bool, f: File, w: u16, area: &[u64]) -> u8
+    ensures { λ r. ⌜ r ≡ sealRefusal c1 f w (now (area .entry)) ⌝ }
+{
+    let part = has_part(f);
+    let summed = f.opened & (f.output & (part & f.check));
+    let c2 = sums_spoilt(summed, f, w, area);
+    let c5 = !f.opened;
+    let c6 = !f.output;
+    let c9 = !part;
+    job_refusal(c1, c2, c5, c6, c9, false)
+}
+
+// Seal on one file, in an area with w words for each buffer.
+pub fn seal_on(c1: bool, f: File, w: u16, area: &mut [u64]) -> FileChange
+    ensures { λ r. ⌜ r ≡ sealOn c1 f w (now (area .entry)) ⌝ }
+    ensures { λ _. ⌜ now (area .exit) ≡ sealOnArea c1 f w (now (area .entry)) ⌝ }
+{
+    let no = seal_refusal(c1, f, w, &area[..]);
+    if no != 0 {
+        return FileChange {
+            refusal: no,
+            file: f,
+        };
+    }
+    seal_block(f, w, area);
+    let g = sealed(f);
+    FileChange {
+        refusal: 0,
+        file: g,
+    }
+}

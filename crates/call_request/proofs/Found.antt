@@ -1,0 +1,168 @@
+-- What the code finds is what the definitions say: the rows of a report, and its answer from them. Assumes nothing.
+use mathlib.Core.Path.{_≡_, refl, sym, ap, _∙_}
+use mathlib.Core.Bool.{Bool, true, false, not, cond, _&&_, _||_}
+use mathlib.Core.List.{List, [], _∷_}
+use Prim.Native.Nat.{ℕ, _+_, _≤_}
+use native.Mathlib.Omega.{arith}
+use lib.Dec.{leb, ltb, eqb}
+use lib.ListN.{length}
+use borrow.Author.Tests.{ne-eqb, lt-ltb, leb-true, leb-false, le-ltb}
+use Rattle.area.proofs.Walks.{and-left, and-right, true-not-false}
+use Rattle.area.proofs.Lowest.{lowest-none}
+use Rattle.area.proofs.Exactly.{end, keep, skip, shorter-same}
+use Rattle.area.specs.Lists.{allOf}
+use Rattle.area.specs.Parts.{isWord, partOf}
+use Rattle.area.specs.Refusals.{lowest}
+use Rattle.channel.specs.declared.Request.{Request}
+use Rattle.channel.specs.declared.Turn.{Turn}
+use Rattle.channel.specs.declared.Turn.the-variants.{Idle, Waiting, Displaced, Working}
+use Rattle.channel.specs.declared.Channel.{Channel}
+use Rattle.channel_outcomes.specs.declared.Ending.{Ending}
+use Rattle.channel.specs.declared.Work.{Work}
+use Rattle.channel_outcomes.specs.declared.Verdict.{Verdict}
+use Rattle.channel_outcomes.specs.declared.Verdict.the-variants.{Refused, Repeats, Ends}
+use Rattle.channel_outcomes.specs.Rules.{isAllowed, isFailure, isPermanent, nextAttempt, endingOf, verdictOf, resultNumber, refusalNumber}
+use Rattle.channel.specs.Units.{turnAt, workOf, operationAt}
+use Rattle.channel_turns.specs.Scans.{workingIn, unitNumber}
+use Rattle.channel_turns.specs.Turns.{judgeTurn, judgeOf, bookOf}
+use Rattle.file.specs.declared.File.{File}
+use Rattle.file.specs.Sizes.{extra}
+use Rattle.file_input.specs.Delivers.{blockFits}
+use Rattle.block.specs.declared.blocks.Judged.{Judged}
+use Rattle.block.specs.Blocks.{isNumber, judgeRefusal, judged}
+use Rattle.call_request.specs.declared.Effect.{Effect}
+use Rattle.call_request.specs.declared.ReportChange.{ReportChange}
+use Rattle.call_request.specs.Effects.{effectOf, isDelivery}
+use Rattle.call_request.specs.Report.{isIdleFor, takesNoWords, isForbidden, shownStart, shownCount, effectAt, rowsBy, reportRefusal, deliveryError, reportedFile, reportedArea, refusedReport, reportOn, reportOnArea}
+
+-- ---- report: what the channel refuses
+
+-- a request that is worked for is refused 12 or not at all
+verdict-number : (a b : Bool) (e : Ending) (q : Request) (n : ℕ) → eqb 0 n ≡ false → eqb (refusalNumber (cond a (cond b (Ends e) (Repeats q)) (Refused 12))) n ≡ (not a && eqb 12 n)
+verdict-number true true e q n z = z
+verdict-number true false e q n z = z
+verdict-number false b e q n z = refl
+
+pub idle-number : (c : Channel) (u outcome : ℕ) → eqb (refusalNumber (judgeOf c u outcome)) 11 ≡ isIdleFor (operationAt c u)
+unfolding judgeOf operationAt verdictOf
+idle-number c u outcome = go (turnAt c u)
+  where
+    works : (q : Request) (a : Bool) → (not a && false) ≡ false
+    works q true = refl
+    works q false = refl
+
+    go : (t : Turn) → eqb (refusalNumber (judgeTurn t outcome)) 11 ≡ isIdleFor (workOf t)
+    go Idle = refl
+    go (Waiting q) = refl
+    go (Displaced q) = refl
+    go (Working q) = verdict-number (isAllowed (q .op) outcome) (not (isFailure outcome) || isPermanent q outcome) (endingOf (q .op) (q .attempts) outcome) (nextAttempt q outcome) 11 refl ∙ works q (isAllowed (q .op) outcome)
+
+pub forbidden-number : (c : Channel) (u outcome : ℕ) → eqb (refusalNumber (judgeOf c u outcome)) 12 ≡ isForbidden (operationAt c u) outcome
+unfolding judgeOf operationAt verdictOf
+forbidden-number c u outcome = go (turnAt c u)
+  where
+    works : (a : Bool) → (not a && true) ≡ not a
+    works true = refl
+    works false = refl
+
+    go : (t : Turn) → eqb (refusalNumber (judgeTurn t outcome)) 12 ≡ isForbidden (workOf t) outcome
+    go Idle = refl
+    go (Waiting q) = refl
+    go (Displaced q) = refl
+    go (Working q) = verdict-number (isAllowed (q .op) outcome) (not (isFailure outcome) || isPermanent q outcome) (endingOf (q .op) (q .attempts) outcome) (nextAttempt q outcome) 12 refl ∙ works (isAllowed (q .op) outcome)
+
+-- ---- report: its rows
+
+pub rows-found : (wrong : Bool) (u outcome : ℕ) (x : Work) (v : Verdict) (e : Effect) (fits clean room : Bool) (n : ℕ) (silent : Bool) (number : ℕ) (brings : Bool)
+    → silent ≡ takesNoWords x → number ≡ refusalNumber v → brings ≡ isDelivery e
+    → lowest
+    ((1, wrong || ((ltb 9 u || ltb 4 outcome) || (ltb 0 n && (ltb 0 outcome || silent)))) ∷ (2, not fits || not clean) ∷ (3, false) ∷ (4, false)
+    ∷ (5, false) ∷ (6, false) ∷ (7, false) ∷ (8, false) ∷ (9, false) ∷ (10, false) ∷ (11, eqb number 11) ∷ (12, eqb number 12) ∷ (13, brings && not room)
+    ∷ (15, false) ∷ [])
+    ≡ lowest (rowsBy wrong u outcome x v e fits clean room n)
+rows-found wrong u outcome x v e fits clean room n silent number brings s m b =
+    shorter-same (keep (keep (skip (skip (skip (skip (skip (skip (skip (skip (keep (keep (keep (skip end))))))))))))))
+    ∙ rw (s, m, b)
+
+-- what the code has looked at before it judges, by the names of `rowsBy`
+pub record Seen (f : File) (c : Channel) (u outcome w : ℕ) (area words : List ℕ) (x : Work) (v : Verdict) (e : Effect) (fits clean room : Bool) (start count : ℕ) : Type 0 where
+  pub work : x ≡ operationAt c u
+  pub verdict : v ≡ judgeOf c u outcome
+  pub effect : e ≡ effectOf x v
+  pub given : fits ≡ allOf isWord words
+  pub from : start ≡ shownStart e w f
+  pub many : count ≡ shownCount e f
+  pub handed : clean ≡ allOf isWord (partOf start count area)
+  pub space : room ≡ blockFits f (length words)
+
+module _ (wrong frozen : Bool) {f : File} {c : Channel} {u outcome w : ℕ} {area words : List ℕ} {x : Work} {v : Verdict} {e : Effect} {fits clean room : Bool}
+    {start count : ℕ} (S : Seen f c u outcome w area words x v e fits clean room start count) where
+  same : e ≡ effectAt c u outcome
+  same = S .effect ∙ ap (λ (y : Work). effectOf y v) (S .work) ∙ ap (effectOf (operationAt c u)) (S .verdict)
+
+  pub refusal-found : lowest (rowsBy wrong u outcome x v e fits clean room (length words)) ≡ reportRefusal wrong f c u outcome w area words
+  unfolding reportRefusal
+  refusal-found =
+      rw (S .handed, S .from, S .many, same, S .given, S .space, S .work, S .verdict, idle-number c u outcome, forbidden-number c u outcome)
+
+  -- a report that is not refused and delivers a block has as many words as it may have
+  pub room-found : lowest (rowsBy wrong u outcome x v e fits clean room (length words)) ≡ 0 → isDelivery e ≡ true → blockFits f (length words) ≡ true
+  room-found z brings =
+      let a = lowest-none 1 _ _ (λ q. omega arith) z in
+      let b = lowest-none 2 _ _ (λ q. omega arith) (a .1) in
+      let g = lowest-none 11 _ _ (λ q. omega arith) (b .1) in
+      let h = lowest-none 12 _ _ (λ q. omega arith) (g .1) in
+      let k = lowest-none 13 (isDelivery e && not room) _ (λ q. omega arith) (h .1) in
+      sym (S .space) ∙ so room (isDelivery e) brings (k .0)
+    where
+      so : (r b : Bool) → b ≡ true → (b && not r) ≡ false → r ≡ true
+      so true b t q = refl
+      so false true t q = true-not-false refl q
+      so false false t q = true-not-false t refl
+
+  module _ (no : ℕ) (found : no ≡ reportRefusal wrong f c u outcome w area words) where
+    pub report-refused : (no ≡ 0 → ⊥) → (refusedReport no f c ≡ reportOn wrong f c u outcome w frozen area words) × (area ≡ reportOnArea wrong f c u outcome w area words)
+    unfolding reportOn reportOnArea
+    report-refused h = (rw (← found, ne-eqb no 0 h), rw (← found, ne-eqb no 0 h))
+
+    pub report-booked : no ≡ 0 → (er r wk : ℕ) (g : File) (d : Channel) → er ≡ deliveryError e f words → r ≡ resultNumber v
+        → g ≡ reportedFile e f (length words) er → d ≡ bookOf c u v frozen → wk ≡ unitNumber (workingIn d)
+        → _≡_ {A = ReportChange} (record { refusal = 0; result = r; error = er; working = wk; start = start; count = count; file = g; channel = d })
+        (reportOn wrong f c u outcome w frozen area words)
+    unfolding reportOn
+    report-booked h er r wk g d isEr isR isG isD isWk = rw (isWk, isG, isD, isEr, isR, S .from, S .many, same, S .verdict, ← found, h)
+
+    pub booked-area : no ≡ 0 → reportedArea e f w words area ≡ reportOnArea wrong f c u outcome w area words
+    unfolding reportOnArea
+    booked-area h = rw (same, ← found, h)
+
+-- ---- the words that are given
+
+pub fits-bounds : (f : File) (n : ℕ) → blockFits f n ≡ true → (1 + extra (f .sequence) (f .check) ≤ n) × (n ≤ f .size + extra (f .sequence) (f .check))
+fits-bounds f n h =
+    let e = extra (f .sequence) (f .check) in
+    (leb-true (1 + e) n (and-left (leb (1 + e) n) _ h), leb-true n (f .size + e) (and-right (leb (1 + e) n) _ h))
+
+two : (a b : Bool) → not (eqb (lowest ((1, false) ∷ (2, not a) ∷ (13, b) ∷ [])) 2) ≡ a
+unfolding lowest
+two true true = refl
+two true false = refl
+two false b = refl
+
+module _ (x : Effect) (f : File) (words : List ℕ) where
+  pub look-judged : (brings : Bool) → brings ≡ isDelivery x → (brings && leb (f .block) 32767) ≡ true → (j : Judged) → j ≡ judged words (f .sequence) (f .check) (f .block)
+      → (not (eqb (j .refusal) 2) ≡ allOf isWord words) × (j .error ≡ deliveryError x f words)
+  unfolding judged judgeRefusal
+  look-judged brings isB h j isJ =
+      let small : isNumber (f .block) ≡ true = lt-ltb (f .block) 32768 (omega (arith, leb-true (f .block) 32767 (and-right brings _ h))) in
+      let right : not (isNumber (f .block)) ≡ false = ap not small in (
+        ap (λ (k : Judged). not (eqb (k .refusal) 2)) isJ ∙ rw right (two (allOf isWord words) _),
+        ap (λ (k : Judged). k .error) isJ ∙ rw (sym isB ∙ and-left brings _ h),
+      )
+
+  pub look-other : (brings : Bool) → brings ≡ isDelivery x → (brings && leb (f .block) 32767) ≡ false → 0 ≡ deliveryError x f words
+  unfolding judged judgeRefusal lowest
+  look-other true isB h =
+      let large : isNumber (f .block) ≡ false = le-ltb (f .block) 32768 (omega (arith, leb-false (f .block) 32767 h)) in
+      rw (← isB, large)
+  look-other false isB h = rw (← isB)

@@ -1,0 +1,2 @@
+pub mod AskFound
+pub mod Found

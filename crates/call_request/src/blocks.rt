@@ -1,0 +1,109 @@
+// The block that a report brings or hands out: where it lies, whether its words are right, and what it makes of the file and the area.
+use crate::Effect;
+use crate::effects::is_delivery;
+use area::are_words;
+use area::copy_in;
+use file::File;
+use file::extra;
+use file_input::delivered;
+use file_input::gave_back;
+use file_input::met_mark;
+use file_input::taken_start;
+use file_output::after_write;
+use file_output::send_start;
+use file_output::send_words;
+ghost use mathlib.Core.Path.{_≡_};
+ghost use mathlib.Core.Bool.{true};
+ghost use Prim.Native.Nat.{_<_};
+ghost use lib.ListN.{length};
+ghost use Rattle.area.specs.Lists.{allOf};
+ghost use Rattle.area.specs.Parts.{isWord};
+ghost use Rattle.file_input.specs.Delivers.{blockFits};
+ghost use Rattle.call_request.specs.Effects.{isDelivery};
+ghost use Rattle.call_request.specs.Report.{shownStart, shownCount, deliveryError, reportedFile, reportedArea};
+
+// The highest block number.
+const LAST_NUMBER: u16 = 32767;
+
+// What one pass over the given words tells: whether each is below 2^36, and the check error if they are a delivered block.
+pub struct Looked {
+    pub fits: bool,
+    pub error: u8,
+}
+
+// Looks at the words that are given with a report.
+pub fn look(x: Effect, f: File, words: &[u64]) -> Looked
+    ensures { λ r. ⌜ (r .fits ≡ allOf isWord (now (words .entry))) × (r .error ≡ deliveryError x f (now (words .entry))) ⌝ }
+{
+    let brings = is_delivery(x);
+    if brings & (f.block <= LAST_NUMBER) {
+        let j = block::judge(words, f.sequence, f.check, f.block);
+        return Looked {
+            fits: j.refusal != 2,
+            error: j.error,
+        };
+    }
+    Looked {
+        fits: are_words(words),
+        error: 0,
+    }
+}
+
+// Where in the area the block begins that the report hands out, 0 if it hands out none.
+pub fn shown_start(x: Effect, w: u16, f: File) -> usize
+    ensures { λ r. ⌜ (r ≡ shownStart x w f) × (r < 16777216) ⌝ }
+{
+    match x {
+        Effect::Delivers => 0,
+        Effect::MeetsMark => 0,
+        Effect::GivesBack => 0,
+        Effect::Sends => send_start(f, w),
+        Effect::Keeps => 0,
+    }
+}
+
+// How many words that block has, its check word included.
+pub fn shown_count(x: Effect, f: File) -> usize
+    ensures { λ r. ⌜ (r ≡ shownCount x f) × (r < 65537) ⌝ }
+{
+    match x {
+        Effect::Delivers => 0,
+        Effect::MeetsMark => 0,
+        Effect::GivesBack => 0,
+        Effect::Sends => send_words(f),
+        Effect::Keeps => 0,
+    }
+}
+
+// The file with a delivered block of n words, its check word among them.
+fn with_delivery(f: File, n: usize, error: u8) -> File
+    requires { ⌜ blockFits f n ≡ true ⌝ }
+    ensures { λ r. ⌜ r ≡ reportedFile Effect.Delivers f n error ⌝ }
+{
+    let e = extra(f.sequence, f.check) as usize;
+    delivered(f, (n - e) as u16, error)
+}
+
+// The file after the report, which gave n words.
+pub fn reported_file(x: Effect, f: File, n: usize, error: u8) -> File
+    requires { ⌜ (isDelivery x ≡ true → blockFits f n ≡ true) ⌝ }
+    ensures { λ r. ⌜ r ≡ reportedFile x f n error ⌝ }
+{
+    match x {
+        Effect::Delivers => with_delivery(f, n, error),
+        Effect::MeetsMark => met_mark(f),
+        Effect::GivesBack => gave_back(f),
+        Effect::Sends => after_write(f, true),
+        Effect::Keeps => f,
+    }
+}
+
+// Puts a delivered block into the taken buffer, from its first word on. No other word of the area changes.
+pub fn put_words(x: Effect, f: File, w: u16, area: &mut [u64], words: &[u64])
+    ensures { λ _. ⌜ now (area .exit) ≡ reportedArea x f w (now (words .entry)) (now (area .entry)) ⌝ }
+{
+    if is_delivery(x) {
+        let at = taken_start(f, w);
+        copy_in(area, at, words);
+    }
+}

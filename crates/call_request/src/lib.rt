@@ -1,0 +1,43 @@
+// Ask on the one file and the one channel that it concerns: its rows of the refusal table, and what changes. It knows nothing of states.
+// Report on the one file and the one channel that it concerns: its rows of the refusal table, the words that it brings or hands out, and what
+// changes. It knows nothing of states.
+mod asks;
+mod blocks;
+mod effects;
+mod reports;
+
+pub use asks::ask_on;
+use channel::Channel;
+use file::File;
+pub use reports::report_on;
+
+// The answer to an ask: the refusal, 0 for none; the working unit after it, 255 for none; the file and the channel after it.
+pub struct AskChange {
+    pub refusal: u8,
+    pub working: u8,
+    pub file: File,
+    pub channel: Channel,
+}
+
+// What a report that is booked means for the file of its unit: the taken buffer is full, is empty and a file mark was met, or is empty
+// again; the block that a write sent is gone; or the file is as it was.
+pub enum Effect {
+    Delivers,
+    MeetsMark,
+    GivesBack,
+    Sends,
+    Keeps,
+}
+
+// The answer to a report: the refusal, 0 for none; the result, 0 repeated, 1 to 6 how the operation ended; the check error of a delivered
+// block; the working unit after it, 255 for none; the part of the area that holds the block of a write; the file and the channel after it.
+pub struct ReportChange {
+    pub refusal: u8,
+    pub result: u8,
+    pub error: u8,
+    pub working: u8,
+    pub start: usize,
+    pub count: usize,
+    pub file: File,
+    pub channel: Channel,
+}

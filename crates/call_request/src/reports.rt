@@ -1,0 +1,136 @@
+// Report: how an activity of a unit has ended.
+use crate::Effect;
+use crate::ReportChange;
+use crate::blocks::look;
+use crate::blocks::put_words;
+use crate::blocks::reported_file;
+use crate::blocks::shown_count;
+use crate::blocks::shown_start;
+use crate::effects::effect_of;
+use crate::effects::is_delivery;
+use crate::effects::takes_no_words;
+use area::lowest_of;
+use area::part_are_words;
+use channel::Channel;
+use channel::LAST_UNIT;
+use channel::Work;
+use channel::operation_of;
+use channel_outcomes::Verdict;
+use channel_outcomes::refusal_number;
+use channel_outcomes::result_number;
+use channel_turns::book;
+use channel_turns::judge;
+use channel_turns::working_number;
+use file::File;
+use file_input::block_fits;
+ghost use mathlib.Core.Path.{_≡_};
+ghost use Rattle.area.specs.Refusals.{lowest};
+ghost use Rattle.call_request.specs.Report.{rowsBy, refusedReport, reportOn, reportOnArea};
+
+// The highest outcome.
+const LAST_OUTCOME: u8 = 4;
+
+// The refusal of a report, 0 for none: by what the channel makes of it, whether the words given and those handed out are below 2^36, and
+// whether n words are as many as a delivered block may have.
+fn report_refusal(
+    wrong: bool,
+    unit: u8,
+    outcome: u8,
+    x: Work,
+    v: Verdict,
+    e: Effect,
+    fits: bool,
+    clean: bool,
+    room: bool,
+    n: usize,
+) -> u8
+    ensures { λ r. ⌜ r ≡ lowest (rowsBy wrong unit outcome x v e fits clean room n) ⌝ }
+{
+    let silent = takes_no_words(x);
+    let number = refusal_number(v);
+    let brings = is_delivery(e);
+    let given = (0 < n) & ((0 < outcome) | silent);
+    let c1 = wrong | (((LAST_UNIT < unit) | (LAST_OUTCOME < outcome)) | given);
+    let c2 = !fits | !clean;
+    let c11 = number == 11;
+    let c12 = number == 12;
+    let c13 = brings & !room;
+    lowest_of(
+        c1,
+        c2,
+        false,
+        false,
+        false,
+        false,
+        false,
+        false,
+        false,
+        false,
+        c11,
+        c12,
+        c13,
+        false,
+    )
+}
+
+// A report of a unit of the channel c, which the file f serves. `wrong` says that the channel's number, the area or the state is refused 1.
+pub fn report_on(
+    wrong: bool,
+    f: File,
+    c: Channel,
+    unit: u8,
+    outcome: u8,
+    w: u16,
+    frozen: bool,
+    area: &mut [u64],
+    words: &[u64],
+) -> ReportChange
+    ensures { λ r. ⌜ r ≡ reportOn wrong f c unit outcome w frozen (now (area .entry)) (now (words .entry)) ⌝ }
+    ensures { λ _. ⌜ now (area .exit) ≡ reportOnArea wrong f c unit outcome w (now (area .entry)) (now (words .entry)) ⌝ }
+{
+    let u = unit as usize;
+    let n = words.len();
+    let v = judge(c, u, outcome);
+    let x = operation_of(c, u);
+    let e = effect_of(x, v);
+    let looked = look(e, f, words);
+    let start = shown_start(e, w, f);
+    let count = shown_count(e, f);
+    let clean = part_are_words(&area[..], start, count);
+    let room = block_fits(f, n);
+    let no = report_refusal(wrong, unit, outcome, x, v, e, looked.fits, clean, room, n);
+    if no != 0 {
+        return refused(no, f, c);
+    }
+    put_words(e, f, w, area, words);
+    let file = reported_file(e, f, n, looked.error);
+    let channel = book(c, u, v, frozen);
+    let working = working_number(channel);
+    let result = result_number(v);
+    ReportChange {
+        refusal: 0,
+        result,
+        error: looked.error,
+        working,
+        start,
+        count,
+        file,
+        channel,
+    }
+}
+
+// A refused report: the number alone, and what was passed.
+fn refused(refusal: u8, f: File, c: Channel) -> ReportChange
+    ensures { λ r. ⌜ r ≡ refusedReport refusal f c ⌝ }
+{
+    ReportChange {
+        refusal,
+        result: 0,
+        error: 0,
+        working: 0,
+        start: 0,
+        count: 0,
+        file: f,
+        channel: c,
+    }
+}

@@ -1,0 +1,150 @@
+// Which outcomes an operation may have, when a failure is permanent, and document 01's numbers of what a report comes to.
+use crate::Ending;
+use crate::Verdict;
+use channel::Op;
+use channel::Request;
+ghost use mathlib.Core.Path.{_≡_};
+ghost use Prim.Native.Nat.{_<_};
+ghost use Rattle.channel_outcomes.specs.Rules.{opNumber, incompleteWord, rowOf, nextAttempt, goodEnding, endingOf, verdictOf, endingNumber, resultNumber, refusalNumber};
+
+// The outcomes are numbered from 0; these two are failures.
+const OUTCOMES: u8 = 5;
+
+const REDUNDANCY: usize = 1;
+
+const INCOMPLETE_WORD: u8 = 2;
+
+// An outcome that ends the operation at whatever attempt, and one that is not allowed.
+const AT_ONCE: u8 = 0;
+
+const NOT_ALLOWED: u8 = 255;
+
+// The attempts of a read, and of a write or mark.
+const READS: u8 = 101;
+
+const WRITES: u8 = 27;
+
+// A row for each operation, indexed by outcome: the attempt from which on the outcome ends the operation.
+const RULES: [[u8; 5]; 3] = [
+    [AT_ONCE, READS, READS, AT_ONCE, NOT_ALLOWED],
+    [AT_ONCE, WRITES, AT_ONCE, NOT_ALLOWED, AT_ONCE],
+    [AT_ONCE, WRITES, NOT_ALLOWED, NOT_ALLOWED, AT_ONCE],
+];
+
+// The operation's number, which is its row of the table.
+fn row(op: Op) -> usize
+    ensures { λ r. ⌜ r ≡ opNumber op ⌝ }
+{
+    match op {
+        Op::Read => 0,
+        Op::Write => 1,
+        Op::Mark => 2,
+    }
+}
+
+// The attempt at which a failure of the operation is permanent.
+pub fn attempt_limit(op: Op) -> u8
+    ensures { λ r. ⌜ r ≡ rowOf op .attempts ⌝ }
+{
+    let i = row(op);
+    RULES[i][REDUNDANCY]
+}
+
+// A good end. A read's attempt 4 was in the opposite mode.
+fn good_ending(op: Op, attempt: u8) -> Ending
+    ensures { λ r. ⌜ r ≡ goodEnding op attempt ⌝ }
+{
+    match op {
+        Op::Read => {
+            if attempt == 4 {
+                Ending::Opposite
+            } else {
+                Ending::Good
+            }
+        }
+        Op::Write => Ending::Good,
+        Op::Mark => Ending::Good,
+    }
+}
+
+// How an operation ends with an outcome that does not repeat it.
+fn ending(op: Op, attempt: u8, outcome: u8) -> Ending
+    ensures { λ r. ⌜ r ≡ endingOf op attempt outcome ⌝ }
+{
+    match outcome {
+        0 => good_ending(op, attempt),
+        1 => Ending::LostRedundancy,
+        2 => Ending::LostIncomplete,
+        3 => Ending::MarkRead,
+        _ => Ending::MediumEnd,
+    }
+}
+
+// The request at its next attempt, after a failure that an operation survives.
+fn next_attempt(q: Request, outcome: u8) -> Request
+    requires { ⌜ (q .attempts < 255) × (outcome ≡ incompleteWord → q .incomplete < 255) ⌝ }
+    ensures { λ r. ⌜ r ≡ nextAttempt q outcome ⌝ }
+{
+    let mut next = q;
+    next.attempts = q.attempts + 1;
+    if outcome == INCOMPLETE_WORD {
+        next.incomplete = q.incomplete + 1;
+    }
+    next
+}
+
+// What an outcome means for the request that is worked for.
+pub fn verdict_of(q: Request, outcome: u8) -> Verdict
+    ensures { λ r. ⌜ r ≡ verdictOf q outcome ⌝ }
+{
+    if OUTCOMES <= outcome {
+        return Verdict::Refused(12);
+    }
+    let op = q.op;
+    let i = row(op);
+    let j = outcome as usize;
+    let limit = RULES[i][j];
+    if limit == NOT_ALLOWED {
+        return Verdict::Refused(12);
+    }
+    let ends = (limit <= q.attempts) | ((outcome == INCOMPLETE_WORD) & (1 <= q.incomplete));
+    if ends {
+        return Verdict::Ends(ending(op, q.attempts, outcome));
+    }
+    Verdict::Repeats(next_attempt(q, outcome))
+}
+
+fn ending_number(e: Ending) -> u8
+    ensures { λ r. ⌜ r ≡ endingNumber e ⌝ }
+{
+    match e {
+        Ending::Good => 1,
+        Ending::Opposite => 2,
+        Ending::MarkRead => 3,
+        Ending::MediumEnd => 4,
+        Ending::LostRedundancy => 5,
+        Ending::LostIncomplete => 6,
+    }
+}
+
+// Document 01's number of a report's result: 0 repeated, 1 to 6 how the operation ended, 0 for a refusal.
+pub fn result_number(v: Verdict) -> u8
+    ensures { λ r. ⌜ r ≡ resultNumber v ⌝ }
+{
+    match v {
+        Verdict::Refused(_) => 0,
+        Verdict::Repeats(_) => 0,
+        Verdict::Ends(e) => ending_number(e),
+    }
+}
+
+// Document 01's number of a report's refusal, 0 for a report that is booked.
+pub fn refusal_number(v: Verdict) -> u8
+    ensures { λ r. ⌜ r ≡ refusalNumber v ⌝ }
+{
+    match v {
+        Verdict::Refused(n) => n,
+        Verdict::Repeats(_) => 0,
+        Verdict::Ends(_) => 0,
+    }
+}

@@ -1,0 +1,109 @@
+// Reports: what a report comes to, and the channel after it.
+use crate::Reported;
+use crate::scans::first_priority;
+use crate::scans::next_unit;
+use crate::starts::start;
+use area::is_found;
+use channel::Channel;
+use channel::Request;
+use channel::Turn;
+use channel::turn_of;
+use channel::with_turn;
+use channel_outcomes::Verdict;
+use channel_outcomes::verdict_of;
+ghost use mathlib.Core.Path.{_≡_};
+ghost use Rattle.channel_turns.specs.Turns.{judgeOf, goesOn, incompleteTurn, repeatOf, isOrdinary, markAfter, endOf, bookOf, reportOf};
+
+// What a report of the unit comes to: refused 11 where it is not worked for.
+pub fn judge(c: Channel, unit: usize, outcome: u8) -> Verdict
+    ensures { λ r. ⌜ r ≡ judgeOf c unit outcome ⌝ }
+{
+    let t = turn_of(c, unit);
+    match t {
+        Turn::Idle => Verdict::Refused(11),
+        Turn::Waiting(_) => Verdict::Refused(11),
+        Turn::Displaced(_) => Verdict::Refused(11),
+        Turn::Working(q) => verdict_of(q, outcome),
+    }
+}
+
+// Whether an incomplete operation goes on at once.
+fn goes_on(c: Channel, priority: bool, frozen: bool) -> bool
+    ensures { λ r. ⌜ r ≡ goesOn c priority frozen ⌝ }
+{
+    let urged = is_found(first_priority(c));
+    !frozen & (priority | !urged)
+}
+
+fn incomplete_turn(on: bool, q: Request) -> Turn
+    ensures { λ r. ⌜ r ≡ incompleteTurn on q ⌝ }
+{
+    if on {
+        return Turn::Working(q);
+    }
+    Turn::Displaced(q)
+}
+
+// The unit's operation is to make a further attempt.
+fn repeat(c: Channel, unit: usize, q: Request, frozen: bool) -> Channel
+    ensures { λ r. ⌜ r ≡ repeatOf c unit q frozen ⌝ }
+{
+    let on = goes_on(c, q.priority, frozen);
+    let t = incomplete_turn(on, q);
+    let d = with_turn(c, unit, t);
+    start(d, frozen)
+}
+
+fn is_ordinary(t: Turn) -> bool
+    ensures { λ r. ⌜ r ≡ isOrdinary t ⌝ }
+{
+    match t {
+        Turn::Idle => false,
+        Turn::Waiting(q) => !q.priority,
+        Turn::Displaced(q) => !q.priority,
+        Turn::Working(q) => !q.priority,
+    }
+}
+
+// Where the scan begins once the unit's operation has ended.
+fn mark_after(c: Channel, unit: usize) -> u8
+    ensures { λ r. ⌜ r ≡ markAfter c unit ⌝ }
+{
+    let t = turn_of(c, unit);
+    if is_ordinary(t) {
+        return next_unit(unit) as u8;
+    }
+    c.mark
+}
+
+// The unit's operation has ended.
+fn end(c: Channel, unit: usize, frozen: bool) -> Channel
+    ensures { λ r. ⌜ r ≡ endOf c unit frozen ⌝ }
+{
+    let mut d = with_turn(c, unit, Turn::Idle);
+    d.mark = mark_after(c, unit);
+    start(d, frozen)
+}
+
+// The channel after what a report of the unit came to.
+pub fn book(c: Channel, unit: usize, verdict: Verdict, frozen: bool) -> Channel
+    ensures { λ r. ⌜ r ≡ bookOf c unit verdict frozen ⌝ }
+{
+    match verdict {
+        Verdict::Refused(_) => c,
+        Verdict::Repeats(q) => repeat(c, unit, q, frozen),
+        Verdict::Ends(_) => end(c, unit, frozen),
+    }
+}
+
+// A report of the unit: what it comes to, and the channel after it.
+pub fn report(c: Channel, unit: usize, outcome: u8, frozen: bool) -> Reported
+    ensures { λ r. ⌜ r ≡ reportOf c unit outcome frozen ⌝ }
+{
+    let v = judge(c, unit, outcome);
+    let d = book(c, unit, v, frozen);
+    Reported {
+        verdict: v,
+        channel: d,
+    }
+}

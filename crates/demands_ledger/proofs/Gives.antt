@@ -1,0 +1,123 @@
+-- The ledger of an input file at a get: it gives the check error of the oldest block, or its next words. Assumes nothing.
+use mathlib.Core.Path.{_≡_, refl, sym, ap, subst, _∙_}
+use mathlib.Core.Logic.{inl}
+use mathlib.Core.Bool.{Bool, true, false, cond}
+use mathlib.Core.List.{List, [], _∷_, _++_, map, append-nil}
+use Prim.Native.Nat.{ℕ, zero, suc, _+_, _-_, _*_, _≤_}
+use native.Mathlib.Nat.{add-zero}
+use native.Mathlib.Omega.{arith}
+use borrow.Author.Tests.{leb-true, lt-ltb}
+use lib.Dec.{leb, ltb}
+use lib.ListN.{length}
+use Rattle.area.specs.Parts.{partOf}
+use Rattle.area.proofs.Marks.{cond-true}
+use Rattle.file.specs.declared.Slot.{Slot}
+use Rattle.file.specs.declared.Slot.the-variants.{Full}
+use Rattle.file.specs.declared.Side.{Side}
+use Rattle.file.specs.declared.Side.the-variants.{Neither}
+use Rattle.file.specs.declared.File.{File}
+use Rattle.file.specs.Sides.{bufferAt, slotAt, startAt, isSide, oldest}
+use Rattle.file.specs.Fills.{withSlot}
+use Rattle.file_input.proofs.Ages.{block, Aged, noBlock, old, aged}
+use Rattle.file_input.specs.declared.Got.{Got}
+use Rattle.file_input.specs.declared.Got.the-variants.{Record, Leftover, Error}
+use Rattle.file_input.specs.Gets.{passed, lookedAt, wordsGiven, slotAfter, foundIn, foundNone, found, afterFound, getFrom}
+use Rattle.file_input.specs.Histories.{shown}
+use Rattle.state_sound.proofs.FileFacts.{Sound}
+use Rattle.state_sound.proofs.Changes.{numbers, passed-sound}
+use Rattle.pack_record.proofs.Written.{part-join}
+use Rattle.demands_ledger.specs.Ledgers.{Item, word, wrong, givenBy, pastUsed, without}
+use Rattle.demands_ledger.specs.Blocks.{unreadIn}
+use Rattle.demands_ledger.proofs.Told.{Brought}
+use Rattle.demands_ledger.proofs.Lists.{map-append}
+use Rattle.demands_ledger.proofs.Sides.{slot-same, block-stays}
+use Rattle.demands_ledger.proofs.Brings.{brought-given, passed-brought}
+
+-- what an answer gives of the area
+abbrev pub gives : List ℕ → Got → List Item
+gives xs g = givenBy g (shown xs g)
+
+none-given : (xs : List ℕ) (t : Bool) → gives xs (foundNone t) ≡ []
+none-given xs true = refl
+none-given xs false = refl
+
+nothing-eaten : (owed : List (List Item)) → without 0 owed ≡ owed
+nothing-eaten [] = refl
+nothing-eaten (items ∷ rest) = refl
+
+-- ---- what is left of a block is what get gives of it, and what is left then
+
+module _ (w b r n at : ℕ) (xs : List ℕ) (within : at ≤ n) where
+  -- its check error
+  error-given : (t : Bool) (e z : ℕ) (other : Got) → t ≡ true
+      → wrong (suc e) ∷ map word (partOf (b * w + at) (n - at) xs)
+      ≡ gives xs (cond t (Error (suc e)) other) ++ map word (partOf (b * w + (at + cond t 0 z)) (n - (at + cond t 0 z)) xs)
+  error-given true e z other q = ap (λ (i : ℕ). wrong (suc e) ∷ map word (partOf (b * w + i) (n - i) xs)) (sym (add-zero at))
+  error-given false e z other q = absurd (let k : _≡_ {A = ℕ} 0 1 = cc in omega arith)
+
+  -- its next words
+  words-follow : (c : ℕ) → c ≤ n - at
+      → map word (partOf (b * w + at) (n - at) xs) ≡ map word (partOf (b * w + at) c xs) ++ map word (partOf (b * w + (at + c)) (n - (at + c)) xs)
+  words-follow c l =
+      let sum : n - at ≡ c + (n - (at + c)) = omega arith in
+      let place : b * w + at + c ≡ b * w + (at + c) = omega arith in
+      ap (map word)
+      (ap (λ (i : ℕ). partOf (b * w + at) i xs) sum ∙ part-join (b * w + at) c (n - (at + c)) xs
+      ∙ ap (λ (i : ℕ). partOf (b * w + at) c xs ++ partOf i (n - (at + c)) xs) place)
+      ∙ map-append word (partOf (b * w + at) c xs) (partOf (b * w + (at + c)) (n - (at + c)) xs)
+
+  words-given : (t u : Bool) (e : Got) → t ≡ false → leb r (n - at) ≡ u
+      → map word (partOf (b * w + at) (n - at) xs)
+      ≡ gives xs (cond t e (cond u (Record (b * w + at) r) (Leftover (b * w + at) (n - at)))) ++ map word
+      (partOf (b * w + (at + cond t 0 (cond u r (n - at)))) (n - (at + cond t 0 (cond u r (n - at)))) xs)
+  words-given true u e q l = absurd (let k : _≡_ {A = ℕ} 0 1 = cc in omega arith)
+  words-given false true e q l = words-follow r (leb-true r (n - at) l)
+  words-given false false e q l = words-follow (n - at) (omega arith)
+
+  no-error : ltb 0 0 ≡ false
+  no-error = refl
+
+  pub left-given : (e : ℕ)
+      → unreadIn w xs (block b n at e) ≡ gives xs (foundIn (b * w) r (Full n at e)) ++ unreadIn w xs (block b n (at + wordsGiven r (Full n at e)) 0)
+  left-given (suc e) = error-given (ltb 0 (suc e)) e _ _ (lt-ltb 0 (suc e) (omega arith))
+  left-given zero = words-given (ltb 0 0) (leb r (n - at)) (Error 0) no-error refl
+
+-- ---- get
+
+module _ (m w : ℕ) (f : File) (S : Sound m w f) (xs : List ℕ) where
+  found-brought : (came : List (List ℕ)) (gone : List Item) (owed : List (List Item)) → Brought w f xs came gone owed
+      → Brought w (afterFound f) xs came (gone ++ gives xs (found w f)) (without (length (gives xs (found w f))) owed)
+  unfolding found afterFound
+  found-brought came gone owed T = go (oldest f) (aged f)
+    where
+      To : File → List Item → Type 0
+      To g now = Brought w g xs came (gone ++ now) (without (length now) owed)
+
+      go : (k : Side) → Aged f k
+          → To (withSlot f k (slotAfter (f .rlen) (slotAt f k)) (f .turned) (f .block))
+          (gives xs (cond (isSide k) (foundIn (startAt f w k) (f .rlen) (slotAt f k)) (foundNone (f .marked))))
+      go Neither (noBlock e) =
+          subst (To f) (sym (none-given xs (f .marked)))
+          (subst (λ (v : List Item). Brought w f xs came v (without 0 owed)) (sym (append-nil gone))
+          (subst (Brought w f xs came gone) (sym (nothing-eaten owed)) T))
+      go k (old _ n at e rest s x l left moved) =
+          subst (λ (g : Got). To (withSlot f k (slotAfter (f .rlen) (slotAt f k)) (f .turned) (f .block)) (gives xs g))
+          (sym (cond-true (foundIn (startAt f w k) (f .rlen) (slotAt f k)) (foundNone (f .marked)) s))
+          (subst (λ (y : Slot). To (withSlot f k (slotAfter (f .rlen) y) (f .turned) (f .block)) (gives xs (foundIn (startAt f w k) (f .rlen) y)))
+          (sym x)
+          (brought-given w f (withSlot f k (Full n (at + wordsGiven (f .rlen) (Full n at e)) 0) (f .turned) (f .block)) xs xs came gone owed
+          (slot-same f k (Full n (at + wordsGiven (f .rlen) (Full n at e)) 0) (f .turned) (f .block)) T
+          (block (bufferAt f k .number) n at e) (block (bufferAt f k .number) n (at + wordsGiven (f .rlen) (Full n at e)) 0) rest
+          (gives xs (foundIn (startAt f w k) (f .rlen) (Full n at e))) l (moved (at + wordsGiven (f .rlen) (Full n at e)) 0 (f .block))
+          (block-stays f k (Full n (at + wordsGiven (f .rlen) (Full n at e)) 0) (f .turned)) (inl refl)
+          (left-given w (bufferAt f k .number) (f .rlen) n at xs (numbers m w f k n at e S x .place) e)))
+
+pub get-brought : (m w : ℕ) (f : File) → Sound m w f → (xs : List ℕ) → m * w ≤ length xs
+    → (came : List (List ℕ)) (gone : List Item) (owed : List (List Item)) → Brought w f xs came gone owed
+    → Brought w (getFrom w f .file) xs came (gone ++ gives xs (getFrom w f .got))
+    (without (length (gives xs (getFrom w f .got))) (pastUsed (pastUsed owed)))
+unfolding getFrom lookedAt
+get-brought m w f S xs long came gone owed T =
+    let P = passed-sound m w f S in
+    found-brought m w (passed (passed f)) (passed-sound m w (passed f) P) xs came gone (pastUsed (pastUsed owed))
+    (passed-brought m w (passed f) P xs long came gone (pastUsed owed) (passed-brought m w f S xs long came gone owed T))

@@ -1,0 +1,201 @@
+-- The ledger of an output file: words put, a block sealed, a block handed out. Assumes nothing.
+use mathlib.Core.Path.{_≡_, refl, sym, ap, ap₂, subst, _∙_}
+use mathlib.Core.Bool.{Bool, true, false, cond}
+use mathlib.Core.List.{List, [], _∷_, _++_, map, append-assoc, append-nil}
+use Prim.Native.Nat.{ℕ, _+_, _*_}
+use borrow.Author.Tests.{le-leb}
+use lib.Dec.{ltb}
+use Rattle.area.specs.Parts.{partOf}
+use Rattle.area.proofs.Walks.{true-not-false}
+use Rattle.area.proofs.Marks.{cond-true}
+use Rattle.file.specs.declared.Slot.the-variants.{Empty, Part, Full}
+use Rattle.file.specs.declared.Side.{Side}
+use Rattle.file.specs.declared.Side.the-variants.{Neither}
+use Rattle.file.specs.declared.File.{File}
+use Rattle.file.specs.Slots.{isPart, partWords, fullWords}
+use Rattle.file.specs.Sides.{bufferAt, slotAt, startAt, isSide, partSide, oldest}
+use Rattle.file.specs.Fills.{withSlot, turnedBy, nextBlock, filledAt, emptiedAt, withoutOldest}
+use Rattle.file.specs.Sizes.{extra}
+use Rattle.file_output.specs.Puts.{putSide, wordsAfter, added, afterPut}
+use Rattle.file_output.specs.Parts.{partStart, partLength, isComplete, sealed}
+use Rattle.file_output.specs.Sends.{sendStart, sendWords}
+use Rattle.file_input.specs.Ages.{Block, line}
+use Rattle.file_input.proofs.Ages.{block, young, Aged, noBlock, old, aged, added-line}
+use Rattle.state_sound.proofs.FileFacts.{Sound}
+use Rattle.state_sound.proofs.FilesKept.{owns}
+use Rattle.state_sound.proofs.Puts.{PutAt, put-at, put-is}
+use Rattle.pack_record.specs.Only.{Only}
+use Rattle.pack_record.proofs.Buffers.{part-first, room-too}
+use Rattle.pack_record.proofs.Fillings.{withCheck}
+use Rattle.demands_ledger.specs.Blocks.{blockIn, blocksIn, partIn, checked, allChecked, joined}
+use Rattle.demands_ledger.proofs.Told.{Wrote}
+use Rattle.demands_ledger.proofs.Lists.{joined-last, checked-last, number-last, map-append}
+use Rattle.demands_ledger.proofs.Lines.{blocks-same, beside}
+use Rattle.demands_ledger.proofs.Sides.{Same, same-self, slot-same, slot-block, block-stays, no-full, part-side-free, put-side-free, part-held, complete-when, part-gone, part-had, part-stays, part-same}
+
+module _ (w : ℕ) (f g : File) (xs zs puts : List ℕ) (sent : List (List ℕ)) (A : Same f g) (T : Wrote w f xs puts sent) where
+  same-extra : extra (g .sequence) (g .check) ≡ extra (f .sequence) (f .check)
+  same-extra = ap₂ extra (A .sequence) (A .check)
+
+  same-checked : (ds : List (List ℕ)) → allChecked (f .sequence) (f .check) 1 ds ≡ allChecked (g .sequence) (g .check) 1 ds
+  same-checked ds = ap₂ (λ (s c : Bool). allChecked s c 1 ds) (sym (A .sequence)) (sym (A .check))
+
+  module _ (still : blocksIn w f zs ≡ blocksIn w f xs) where
+    -- words are added to the part-filled block, or none are
+    pub wrote-more : (ys : List ℕ) → line g ≡ line f → partIn w g zs ≡ partIn w f xs ++ ys → g .block ≡ f .block → Wrote w g zs (puts ++ ys) sent
+    wrote-more ys l p n = record {
+      data-words = T .data-words;
+      words =
+          ap (λ (v : List ℕ). joined (T .data-words) ++ v) p ∙ sym (append-assoc (joined (T .data-words)) (partIn w f xs) ys)
+          ∙ ap (λ (v : List ℕ). v ++ ys) (T .words);
+      blocks =
+          ap (λ (v : List Block). sent ++ map (blockIn w (extra (g .sequence) (g .check)) zs) v) l
+          ∙ ap (λ (e : ℕ). sent ++ map (blockIn w e zs) (line f)) same-extra
+          ∙ ap (λ (v : List (List ℕ)). sent ++ v) still ∙ T .blocks ∙ same-checked (T .data-words);
+      number = n ∙ T .number;
+    }
+
+    pub wrote-still : line g ≡ line f → partIn w g zs ≡ partIn w f xs → g .block ≡ f .block → Wrote w g zs puts sent
+    wrote-still l p n = subst (λ (v : List ℕ). Wrote w g zs v sent) (append-nil puts) (wrote-more [] l (p ∙ sym (append-nil (partIn w f xs))) n)
+
+    -- the block of the data words d is sealed
+    pub wrote-block : (d puts′ : List ℕ) (b n : ℕ) → line g ≡ line f ++ (block b n 0 0 ∷ []) → partIn w g zs ≡ [] → g .block ≡ nextBlock (f .block)
+        → partOf (b * w) (n + extra (f .sequence) (f .check)) zs ≡ checked (f .sequence) (f .check) (f .block) d → joined (T .data-words) ++ d ≡ puts′
+        → Wrote w g zs puts′ sent
+    wrote-block d puts′ b n l p e c q = record {
+      data-words = T .data-words ++ (d ∷ []);
+      words = ap (λ (v : List ℕ). joined (T .data-words ++ (d ∷ [])) ++ v) p ∙ append-nil _ ∙ joined-last (T .data-words) d ∙ q;
+      blocks =
+          ap (λ (v : List (List ℕ)). sent ++ v) lie
+          ∙ sym (append-assoc sent (blocksIn w f xs) (checked (f .sequence) (f .check) (f .block) d ∷ []))
+          ∙ ap (λ (v : List (List ℕ)). v ++ (checked (f .sequence) (f .check) (f .block) d ∷ [])) (T .blocks)
+          ∙ ap (λ (k : ℕ). allChecked (f .sequence) (f .check) 1 (T .data-words) ++ (checked (f .sequence) (f .check) k d ∷ [])) (T .number)
+          ∙ sym (checked-last (f .sequence) (f .check) 1 (T .data-words) d)
+          ∙ same-checked (T .data-words ++ (d ∷ []));
+      number = e ∙ ap nextBlock (T .number) ∙ sym (number-last 1 (T .data-words) d);
+    }
+      where
+        lie : blocksIn w g zs ≡ blocksIn w f xs ++ (checked (f .sequence) (f .check) (f .block) d ∷ [])
+        lie =
+            ap (map (blockIn w (extra (g .sequence) (g .check)) zs)) l
+            ∙ ap (λ (k : ℕ). map (blockIn w k zs) (line f ++ (block b n 0 0 ∷ []))) same-extra
+            ∙ map-append (blockIn w (extra (f .sequence) (f .check)) zs) (line f) (block b n 0 0 ∷ [])
+            ∙ ap₂ (λ (u : List (List ℕ)) (v : List ℕ). u ++ (v ∷ [])) still c
+
+  -- the oldest block is handed out
+  pub wrote-out : (b : Block) (rest : List Block) → line f ≡ b ∷ rest → line g ≡ rest → partIn w g xs ≡ partIn w f xs → g .block ≡ f .block
+      → Wrote w g xs puts (sent ++ (blockIn w (extra (f .sequence) (f .check)) xs b ∷ []))
+  wrote-out b rest l r p n = record {
+    data-words = T .data-words;
+    words = ap (λ (v : List ℕ). joined (T .data-words) ++ v) p ∙ T .words;
+    blocks =
+        ap (λ (v : List Block). (sent ++ (out ∷ [])) ++ map (blockIn w (extra (g .sequence) (g .check)) xs) v) r
+        ∙ ap (λ (e : ℕ). (sent ++ (out ∷ [])) ++ map (blockIn w e xs) rest) same-extra
+        ∙ append-assoc sent (out ∷ []) (map (blockIn w (extra (f .sequence) (f .check)) xs) rest)
+        ∙ ap (λ (v : List Block). sent ++ map (blockIn w (extra (f .sequence) (f .check)) xs) v) (sym l)
+        ∙ T .blocks ∙ same-checked (T .data-words);
+    number = n ∙ T .number;
+  }
+    where
+      out : List ℕ
+      out = blockIn w (extra (f .sequence) (f .check)) xs b
+
+-- ---- put
+
+module _ (m w : ℕ) (f : File) (S : Sound m w f) (room : isSide (putSide f) ≡ true) (xs zs ys puts : List ℕ) (sent : List (List ℕ))
+    (T : Wrote w f xs puts sent)
+    (only : Only (startAt f w (putSide f)) w xs zs)
+    (adds : isComplete (added f) ≡ false → partOf (startAt f w (putSide f)) (wordsAfter f) zs ≡ partOf (startAt f w (putSide f))
+    (partWords (slotAt f (putSide f))) xs ++ ys)
+    (seals : isComplete (added f) ≡ true → partOf (startAt f w (putSide f)) (wordsAfter f + extra (f .sequence) (f .check)) zs
+    ≡ withCheck f (partOf (startAt f w (putSide f)) (partWords (slotAt f (putSide f))) xs ++ ys)) where
+  P : PutAt f (putSide f)
+  P = put-at m w f S room
+
+  holding : File
+  holding = withSlot f (putSide f) (Part (wordsAfter f)) false (f .block)
+
+  added-is : added f ≡ holding
+  unfolding added holding
+  added-is = cond-true (withSlot f (putSide f) (Part (wordsAfter f)) false (f .block)) f (le-leb (wordsAfter f) (f .size) (P .fit))
+
+  completes : isComplete (added f) ≡ ltb (f .size) (wordsAfter f + f .rlen)
+  unfolding holding
+  completes = ap isComplete added-is ∙ complete-when f (putSide f) room (P .alone) (wordsAfter f) (f .block)
+
+  still : blocksIn w f zs ≡ blocksIn w f xs
+  still = blocks-same m w f S xs zs (beside m w f S (putSide f) xs zs (P .own) (put-side-free f room) only)
+
+  pub put-wrote : Wrote w (afterPut f) zs (puts ++ ys) sent
+  unfolding holding filledAt
+  put-wrote = subst (λ (g : File). Wrote w g zs (puts ++ ys) sent) (sym (put-is f room P)) (go (ltb (f .size) (wordsAfter f + f .rlen)) refl)
+    where
+      had : partIn w f xs ≡ partOf (startAt f w (putSide f)) (partWords (slotAt f (putSide f))) xs
+      had = part-had w f xs room
+
+      go : (t : Bool) → ltb (f .size) (wordsAfter f + f .rlen) ≡ t
+          → Wrote w (cond t (filledAt f (putSide f) (wordsAfter f) 0) (withSlot f (putSide f) (Part (wordsAfter f)) false (f .block))) zs (puts ++ ys)
+          sent
+      go true e =
+          wrote-block w f (filledAt f (putSide f) (wordsAfter f) 0) xs zs puts sent
+          (slot-same f (putSide f) (Full (wordsAfter f) 0 0) (turnedBy f (putSide f)) (nextBlock (f .block))) T still
+          (partOf (startAt f w (putSide f)) (partWords (slotAt f (putSide f))) xs ++ ys) (puts ++ ys) (bufferAt f (putSide f) .number) (wordsAfter f)
+          (young f (putSide f) (wordsAfter f) 0 room (no-full f (putSide f) (put-side-free f room)))
+          (part-gone f (putSide f) room (P .alone) w (wordsAfter f) 0 0 (turnedBy f (putSide f)) (nextBlock (f .block)) zs)
+          (slot-block f (putSide f) (Full (wordsAfter f) 0 0) (turnedBy f (putSide f)) (nextBlock (f .block)) room)
+          (seals (completes ∙ e))
+          (ap (λ (v : List ℕ). joined (T .data-words) ++ (v ++ ys)) (sym had) ∙ sym (append-assoc (joined (T .data-words)) (partIn w f xs) ys)
+          ∙ ap (λ (v : List ℕ). v ++ ys) (T .words))
+      go false e =
+          wrote-more w f (withSlot f (putSide f) (Part (wordsAfter f)) false (f .block)) xs zs puts sent
+          (slot-same f (putSide f) (Part (wordsAfter f)) false (f .block)) T still ys
+          (sym (ap line added-is) ∙ added-line f)
+          (part-held f (putSide f) room (P .alone) w (wordsAfter f) (f .block) zs ∙ adds (completes ∙ e) ∙ ap (λ (v : List ℕ). v ++ ys) (sym had))
+          (block-stays f (putSide f) (Part (wordsAfter f)) false)
+
+-- ---- seal
+
+module _ (m w : ℕ) (f : File) (S : Sound m w f) (part : isSide (partSide f) ≡ true) (xs zs puts : List ℕ) (sent : List (List ℕ))
+    (T : Wrote w f xs puts sent)
+    (only : Only (partStart w f) w xs zs)
+    (seals : partOf (partStart w f) (partLength f + extra (f .sequence) (f .check)) zs ≡ withCheck f (partOf (partStart w f) (partLength f) xs)) where
+  Q : PutAt f (partSide f)
+  Q = subst (PutAt f) (part-first f part) (put-at m w f S (room-too f part))
+
+  pub seal-wrote : Wrote w (sealed f) zs puts sent
+  unfolding sealed filledAt partStart
+  seal-wrote =
+      wrote-block w f (filledAt f (partSide f) (partLength f) 0) xs zs puts sent
+      (slot-same f (partSide f) (Full (partLength f) 0 0) (turnedBy f (partSide f)) (nextBlock (f .block))) T
+      (blocks-same m w f S xs zs (beside m w f S (partSide f) xs zs (Q .own) (part-side-free f part) only))
+      (partIn w f xs) puts (bufferAt f (partSide f) .number) (partLength f)
+      (young f (partSide f) (partLength f) 0 part (no-full f (partSide f) (part-side-free f part)))
+      (part-gone f (partSide f) part (Q .alone) w (partLength f) 0 0 (turnedBy f (partSide f)) (nextBlock (f .block)) zs)
+      (slot-block f (partSide f) (Full (partLength f) 0 0) (turnedBy f (partSide f)) (nextBlock (f .block)) part)
+      seals (T .words)
+
+-- ---- a write that is done with its block
+
+pub send-wrote : (w : ℕ) (f : File) (xs puts : List ℕ) (sent : List (List ℕ)) → isSide (oldest f) ≡ true → Wrote w f xs puts sent
+    → Wrote w (withoutOldest f) xs puts (sent ++ (partOf (sendStart w f) (sendWords f) xs ∷ []))
+unfolding withoutOldest emptiedAt sendStart sendWords
+send-wrote w f xs puts sent full T = go (oldest f) (aged f) full
+  where
+    go : (k : Side) → Aged f k → isSide k ≡ true
+        → Wrote w (withSlot f k Empty false (f .block)) xs puts
+        (sent ++ (partOf (startAt f w k) (fullWords (slotAt f k) + extra (f .sequence) (f .check)) xs ∷ []))
+    go Neither (noBlock e) s = true-not-false s refl
+    go k (old _ n at e rest s x l gone moved) t =
+        subst (λ (i : ℕ). Wrote w (withSlot f k Empty false (f .block)) xs puts
+        (sent ++ (partOf (startAt f w k) (i + extra (f .sequence) (f .check)) xs ∷ []))) (sym (ap fullWords x))
+        (wrote-out w f (withSlot f k Empty false (f .block)) xs xs puts sent (slot-same f k Empty false (f .block)) T
+        (block (bufferAt f k .number) n at e) rest l (gone (f .block))
+        (part-stays w f k Empty false (f .block) xs (ap isPart x) refl) (block-stays f k Empty false))
+
+-- ---- a file whose buffers did not change
+
+pub frame-wrote : (m w : ℕ) (f : File) → Sound m w f → (xs zs puts : List ℕ) (sent : List (List ℕ))
+    → ((k : Side) → owns f k ≡ true → partOf (bufferAt f k .number * w) w zs ≡ partOf (bufferAt f k .number * w) w xs) → Wrote w f xs puts sent
+    → Wrote w f zs puts sent
+frame-wrote m w f S xs zs puts sent same T =
+    wrote-still w f f xs zs puts sent (same-self f) T (blocks-same m w f S xs zs (λ k o full. same k o)) refl (part-same m w f S xs zs same) refl

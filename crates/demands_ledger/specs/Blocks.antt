@@ -1,0 +1,62 @@
+-- The blocks of a file as they lie in the area, and blocks as they must be. Assumes nothing.
+use Prim.Native.Nat.{ℕ, _+_, _-_, _*_}
+use mathlib.Core.Bool.{Bool, cond, _||_}
+use mathlib.Core.List.{List, [], _∷_, _++_, map}
+use Rattle.area.specs.Parts.{partOf}
+use Rattle.word.specs.Sums.{logicalSum}
+use Rattle.word.specs.CheckWords.{checkWord}
+use Rattle.block.specs.Blocks.{judged}
+use Rattle.file.specs.declared.File.{File}
+use Rattle.file.specs.Fills.{nextBlock}
+use Rattle.file.specs.Sizes.{extra}
+use Rattle.file_output.specs.Parts.{partStart, partLength}
+use Rattle.file_input.specs.Ages.{Block, line}
+use Rattle.demands_ledger.specs.Ledgers.{Item, word, wrongs, contentsOf}
+
+-- ---- in the area: "Buffer i is words i×W up to (i+1)×W."
+
+-- a full block with its e check words
+abbrev pub blockIn : ℕ → ℕ → List ℕ → Block → List ℕ
+blockIn w e area b = partOf (b .number * w) (b .words + e) area
+
+-- what get has not given of a block
+abbrev pub unreadIn : ℕ → List ℕ → Block → List Item
+unreadIn w area b = wrongs (b .error) ++ map word (partOf (b .number * w + b .place) (b .words - b .place) area)
+
+-- the full blocks of a file, the oldest first
+abbrev pub blocksIn : ℕ → File → List ℕ → List (List ℕ)
+blocksIn w f area = map (blockIn w (extra (f .sequence) (f .check)) area) (line f)
+
+abbrev pub unreadOf : ℕ → File → List ℕ → List (List Item)
+unreadOf w f area = map (unreadIn w area) (line f)
+
+-- the words of its part-filled block
+abbrev pub partIn : ℕ → File → List ℕ → List ℕ
+partIn w f area = partOf (partStart w f) (partLength f) area
+
+-- ---- as they must be
+
+-- a block of these data words: check word last, if one is chosen
+abbrev pub checked : Bool → Bool → ℕ → List ℕ → List ℕ
+checked sequence check number words =
+    words ++ cond (sequence || check) (checkWord sequence check (logicalSum words) number ∷ []) []
+
+-- blocks of these data words in a row, numbered from k on
+unfoldable pub allChecked : Bool → Bool → ℕ → List (List ℕ) → List (List ℕ)
+allChecked sequence check k [] = []
+allChecked sequence check k (words ∷ rest) = checked sequence check k words ∷ allChecked sequence check (nextBlock k) rest
+
+unfoldable pub joined : {A : Type 0} → List (List A) → List A
+joined [] = []
+joined (x ∷ xs) = x ++ joined xs
+
+-- what a reader must meet in blocks that were delivered in this order, numbered from k on: the error of each is its judgement as delivered
+unfoldable pub contents : Bool → Bool → ℕ → List (List ℕ) → List Item
+contents sequence check k [] = []
+contents sequence check k (words ∷ rest) =
+    contentsOf sequence check (judged words sequence check k .error) words ++ contents sequence check (nextBlock k) rest
+
+-- the number after so many blocks
+unfoldable pub numberAfter : ℕ → List (List ℕ) → ℕ
+numberAfter k [] = k
+numberAfter k (x ∷ xs) = numberAfter (nextBlock k) xs

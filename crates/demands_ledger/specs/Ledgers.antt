@@ -1,0 +1,225 @@
+-- The ledger of a file, noted from calls and their answers alone, and histories in which the pack alone writes the lent area. Assumes nothing.
+use Prim.Native.Nat.{ℕ, zero, suc, _-_}
+use mathlib.Core.Bool.{Bool, true, false, cond, _&&_}
+use mathlib.Core.List.{List, [], _∷_, _++_, map}
+use lib.Dec.{eqb}
+use lib.ListN.{length, take, drop}
+use Rattle.file.specs.Sizes.{extra}
+use Rattle.file_input.specs.declared.Got.{Got}
+use Rattle.file_input.specs.declared.Got.the-variants.{Record, Leftover, Error, End, Nothing}
+use Rattle.state.specs.declared.State.{State}
+use Rattle.call_open.specs.Open.{isSet}
+use Rattle.pack.specs.Calls.{Call, fresh, opening, close, ask, report, get, put, seal, skip, freeze, thaw, Added, nothing, working, reported, got, Answer, answerOf}
+use Rattle.pack.specs.Histories.{isAccepted}
+
+-- what a reader meets: the check error of a block, and its words
+pub data Item : Type 0 where
+  word wrong : ℕ → Item
+
+-- Of a file: whether it is open, and on which unit. Since its open: the fields chosen; the words put; the blocks that writes' answers
+-- showed; the blocks delivered; what get gave or skip dropped; and what is owed still, one list for each block that is not done with.
+pub record Ledger : Type 0 where
+  pub opened : Bool
+  pub channel : ℕ
+  pub unit : ℕ
+  pub sequence : Bool
+  pub check : Bool
+  pub puts : List ℕ
+  pub sent : List (List ℕ)
+  pub came : List (List ℕ)
+  pub gone : List Item
+  pub owed : List (List Item)
+
+abbrev pub emptyLedger : Bool → ℕ → ℕ → Bool → Bool → Ledger
+emptyLedger opened channel unit sequence check = record {
+  opened = opened;
+  channel = channel;
+  unit = unit;
+  sequence = sequence;
+  check = check;
+  puts = [];
+  sent = [];
+  came = [];
+  gone = [];
+  owed = [];
+}
+
+-- as an open and as a fresh start leave it
+abbrev pub newLedger : ℕ → ℕ → Bool → Bool → Ledger
+newLedger channel unit sequence check = emptyLedger true channel unit sequence check
+
+abbrev pub blankLedger : Ledger
+blankLedger = emptyLedger false 0 0 false false
+
+-- ---- what an accepted call for the file adds
+
+-- a block of words, if there are any
+abbrev pub asBlock : List ℕ → List (List ℕ)
+asBlock [] = []
+asBlock (x ∷ xs) = (x ∷ xs) ∷ []
+
+-- the data words of a block, its check word left out
+abbrev pub dataOf : Bool → Bool → List ℕ → List ℕ
+dataOf sequence check words = take (length words - extra sequence check) words
+
+-- a check error, if there is one
+abbrev pub wrongs : ℕ → List Item
+wrongs zero = []
+wrongs (suc e) = wrong (suc e) ∷ []
+
+-- what is owed of a delivered block: its check error, and then its data words
+abbrev pub contentsOf : Bool → Bool → ℕ → List ℕ → List Item
+contentsOf sequence check error words = wrongs error ++ map word (dataOf sequence check words)
+
+abbrev pub owedFor : Bool → Bool → ℕ → List ℕ → List (List Item)
+owedFor sequence check error [] = []
+owedFor sequence check error (x ∷ xs) = contentsOf sequence check error (x ∷ xs) ∷ []
+
+abbrev pub errorOf : Added → ℕ
+errorOf nothing = 0
+errorOf (working u) = 0
+errorOf (reported result error u) = error
+errorOf (got g) = 0
+
+-- a report: the block delivered with it, and the block that its answer shows
+abbrev pub withReport : List ℕ → Answer → Ledger → Ledger
+withReport words a g = record {
+  opened = g .opened;
+  channel = g .channel;
+  unit = g .unit;
+  sequence = g .sequence;
+  check = g .check;
+  puts = g .puts;
+  sent = g .sent ++ asBlock (a .shows);
+  came = g .came ++ asBlock words;
+  gone = g .gone;
+  owed = g .owed ++ owedFor (g .sequence) (g .check) (errorOf (a .added)) words;
+}
+
+-- what get gave: a check error, or the words that its answer shows
+abbrev pub givenBy : Got → List ℕ → List Item
+givenBy (Record start n) words = map word words
+givenBy (Leftover start n) words = map word words
+givenBy (Error e) words = wrong e ∷ []
+givenBy End words = []
+givenBy Nothing words = []
+
+abbrev pub given : Added → List ℕ → List Item
+given nothing words = []
+given (working u) words = []
+given (reported result error u) words = []
+given (got g) words = givenBy g words
+
+-- "If that block was used up by an earlier get, it first becomes empty and the next oldest is looked at."
+abbrev pub pastUsed : List (List Item) → List (List Item)
+pastUsed [] = []
+pastUsed ([] ∷ blocks) = blocks
+pastUsed ((x ∷ items) ∷ blocks) = (x ∷ items) ∷ blocks
+
+abbrev pub without : ℕ → List (List Item) → List (List Item)
+without n [] = []
+without n (items ∷ blocks) = drop n items ∷ blocks
+
+abbrev pub withGet : Answer → Ledger → Ledger
+withGet a g = record {
+  opened = g .opened;
+  channel = g .channel;
+  unit = g .unit;
+  sequence = g .sequence;
+  check = g .check;
+  puts = g .puts;
+  sent = g .sent;
+  came = g .came;
+  gone = g .gone ++ given (a .added) (a .shows);
+  owed = without (length (given (a .added) (a .shows))) (pastUsed (pastUsed (g .owed)));
+}
+
+abbrev pub withPut : List ℕ → Ledger → Ledger
+withPut words g = record {
+  opened = g .opened;
+  channel = g .channel;
+  unit = g .unit;
+  sequence = g .sequence;
+  check = g .check;
+  puts = g .puts ++ words;
+  sent = g .sent;
+  came = g .came;
+  gone = g .gone;
+  owed = g .owed;
+}
+
+-- "Skip drops the oldest full block, used up or not."
+abbrev pub firstOf : List (List Item) → List Item
+firstOf [] = []
+firstOf (items ∷ blocks) = items
+
+abbrev pub restOf : List (List Item) → List (List Item)
+restOf [] = []
+restOf (items ∷ blocks) = blocks
+
+abbrev pub withSkip : Ledger → Ledger
+withSkip g = record {
+  opened = g .opened;
+  channel = g .channel;
+  unit = g .unit;
+  sequence = g .sequence;
+  check = g .check;
+  puts = g .puts;
+  sent = g .sent;
+  came = g .came;
+  gone = g .gone ++ firstOf (g .owed);
+  owed = restOf (g .owed);
+}
+
+-- a close ends the file's part in reports
+abbrev pub withClose : Ledger → Ledger
+withClose g = record {
+  opened = false;
+  channel = g .channel;
+  unit = g .unit;
+  sequence = g .sequence;
+  check = g .check;
+  puts = g .puts;
+  sent = g .sent;
+  came = g .came;
+  gone = g .gone;
+  owed = g .owed;
+}
+
+-- "An open file is bound to one unit": a report is for the file that is open on its unit
+abbrev pub isOn : ℕ → ℕ → Ledger → Bool
+isOn channel unit g = g .opened && (eqb (g .channel) channel && eqb (g .unit) unit)
+
+-- the ledger of file i after an accepted call
+abbrev pub entered : ℕ → Call → Answer → Ledger → Ledger
+entered i (fresh m w masks) a g = blankLedger
+entered i (opening file channel unit flags size rlen) a g = cond (eqb file i) (newLedger channel unit (isSet flags 4) (isSet flags 8)) g
+entered i (close file) a g = cond (eqb file i) (withClose g) g
+entered i (ask file op priority) a g = g
+entered i (report channel unit outcome words) a g = cond (isOn channel unit g) (withReport words a g) g
+entered i (get file) a g = cond (eqb file i) (withGet a g) g
+entered i (put file words) a g = cond (eqb file i) (withPut words g) g
+entered i (seal file) a g = g
+entered i (skip file) a g = cond (eqb file i) (withSkip g) g
+entered i freeze a g = g
+entered i thaw a g = g
+
+-- a refused call enters no ledger
+abbrev pub noted : ℕ → Call → Answer → Ledger → Ledger
+noted i call a g = cond (isAccepted a) (entered i call a g) g
+
+-- ---- "While only the pack writes the lent area": each call is given the state and the area that the last one left
+
+unfoldable pub stateAfter : State → List ℕ → List Call → State
+stateAfter s area [] = s
+stateAfter s area (call ∷ calls) = stateAfter (answerOf s area call .state) (answerOf s area call .area) calls
+
+unfoldable pub areaAfter : State → List ℕ → List Call → List ℕ
+areaAfter s area [] = area
+areaAfter s area (call ∷ calls) = areaAfter (answerOf s area call .state) (answerOf s area call .area) calls
+
+-- the ledger of file i
+unfoldable pub ledgerAfter : ℕ → State → List ℕ → Ledger → List Call → Ledger
+ledgerAfter i s area g [] = g
+ledgerAfter i s area g (call ∷ calls) =
+    ledgerAfter i (answerOf s area call .state) (answerOf s area call .area) (noted i call (answerOf s area call) g) calls

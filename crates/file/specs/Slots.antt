@@ -1,0 +1,64 @@
+-- What one buffer of an open file holds. Assumes nothing.
+use Prim.Native.Nat.{ℕ}
+use mathlib.Core.Bool.{Bool, true, false}
+use Rattle.file.specs.declared.Slot.{Slot}
+use Rattle.file.specs.declared.Slot.the-variants.{Empty, Taken, Part, Full}
+
+-- the kinds in order: empty, taken, part-filled, full
+abbrev pub kindOf : Slot → ℕ
+kindOf Empty = 0
+kindOf Taken = 1
+kindOf (Part n) = 2
+kindOf (Full n at e) = 3
+
+abbrev pub isEmpty : Slot → Bool
+isEmpty Empty = true
+isEmpty Taken = false
+isEmpty (Part n) = false
+isEmpty (Full n at e) = false
+
+abbrev pub isTaken : Slot → Bool
+isTaken Empty = false
+isTaken Taken = true
+isTaken (Part n) = false
+isTaken (Full n at e) = false
+
+abbrev pub isPart : Slot → Bool
+isPart Empty = false
+isPart Taken = false
+isPart (Part n) = true
+isPart (Full n at e) = false
+
+abbrev pub isFull : Slot → Bool
+isFull Empty = false
+isFull Taken = false
+isFull (Part n) = false
+isFull (Full n at e) = true
+
+-- the words of a part-filled buffer; 0 of any other
+abbrev pub partWords : Slot → ℕ
+partWords Empty = 0
+partWords Taken = 0
+partWords (Part n) = n
+partWords (Full n at e) = 0
+
+-- the data words of a full block; 0 of any other slot
+abbrev pub fullWords : Slot → ℕ
+fullWords Empty = 0
+fullWords Taken = 0
+fullWords (Part n) = 0
+fullWords (Full n at e) = n
+
+-- the place of get in a full block: how many of its words have been given
+abbrev pub fullPlace : Slot → ℕ
+fullPlace Empty = 0
+fullPlace Taken = 0
+fullPlace (Part n) = 0
+fullPlace (Full n at e) = at
+
+-- the check error of a full block that has not been told yet; 0 for none
+abbrev pub fullError : Slot → ℕ
+fullError Empty = 0
+fullError Taken = 0
+fullError (Part n) = 0
+fullError (Full n at e) = e

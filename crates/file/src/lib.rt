@@ -1,0 +1,93 @@
+// What one buffer of an open file holds, by value.
+// One file by value: its one or two buffers, what each of them holds, and which of them is meant.
+// It only numbers the buffers and knows nothing of channels, of other files, or of the words of an area.
+// A file with something else in one of its buffers. It knows nothing of channels, of other files, or of the words of an area.
+// What an open asks for, whether its sizes fit, and a file as it is opened and as it is closed. It knows nothing of channels and of other files.
+mod refills;
+mod sides;
+mod sizes;
+mod slots;
+
+pub use refills::emptied_at;
+pub use refills::filled_at;
+pub use refills::with_slot;
+pub use refills::without_oldest;
+pub use sides::empty_side;
+pub use sides::is_side;
+pub use sides::oldest;
+pub use sides::part_side;
+pub use sides::slot_at;
+pub use sides::start_at;
+pub use sides::taken_side;
+pub use sizes::buffers_for;
+pub use sizes::closed_file;
+pub use sizes::extra;
+pub use sizes::opened_file;
+pub use sizes::sizes_fit;
+pub use slots::full_error;
+pub use slots::full_place;
+pub use slots::full_words;
+pub use slots::is_empty;
+pub use slots::is_full;
+pub use slots::is_part;
+pub use slots::is_taken;
+pub use slots::part_words;
+
+// What one buffer of an open file holds: nothing; what a read is to bring; n words that were put; or a full block of so many data words,
+// with the place of get in it and its check error that was not told yet.
+pub enum Slot {
+    Empty,
+    Taken,
+    Part(u16),
+    Full { words: u16, at: u16, error: u8 },
+}
+
+// Check errors are up to this.
+pub const LAST_ERROR: u8 = 3;
+
+// A buffer of the pool, and what it holds.
+pub struct Buffer {
+    pub number: u8,
+    pub slot: Slot,
+}
+
+// A file. `size` is B and `rlen` is r; `low` has the lower number of its buffers; `turned` says that of two full blocks the one in `high` is
+// the older; `block` is the next block number; `marked` says that a file mark has been read.
+pub struct File {
+    pub opened: bool,
+    pub channel: u8,
+    pub unit: u8,
+    pub output: bool,
+    pub double: bool,
+    pub sequence: bool,
+    pub check: bool,
+    pub size: u16,
+    pub rlen: u16,
+    pub low: Buffer,
+    pub high: Buffer,
+    pub turned: bool,
+    pub block: u16,
+    pub marked: bool,
+}
+
+// Which of a file's buffers is meant.
+pub enum Side {
+    Low,
+    High,
+    Neither,
+}
+
+// Block numbers are below this.
+pub const BLOCK_NUMBERS: u32 = 32768;
+
+// What an open asks for.
+pub struct Wish {
+    pub channel: u8,
+    pub unit: u8,
+    pub output: bool,
+    pub double: bool,
+    pub sequence: bool,
+    pub check: bool,
+    pub size: u16,
+    pub rlen: u16,
+}

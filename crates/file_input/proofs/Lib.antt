@@ -1,0 +1,3 @@
+pub mod Ages
+pub mod Onces
+pub mod Lines

@@ -1,0 +1,55 @@
+-- Input (document 01, "Files and buffers"): what a read takes, and what its end does to the file. Assumes nothing.
+use Prim.Native.Nat.{ℕ, _+_}
+use mathlib.Core.Bool.{Bool, true, false, _&&_}
+use lib.Dec.{leb}
+use Rattle.file.specs.declared.Slot.the-variants.{Taken}
+use Rattle.file.specs.declared.File.{File}
+use Rattle.file.specs.Sides.{isSide, emptySide, takenSide, oldest}
+use Rattle.file.specs.Fills.{withSlot, filledAt, emptiedAt}
+use Rattle.file.specs.Sizes.{extra}
+
+-- refusal 9, "ask read: no empty buffer"
+abbrev pub hasEmpty : File → Bool
+hasEmpty f = isSide (emptySide f)
+
+-- "An accepted read takes the lowest empty buffer."
+unfoldable pub tookBuffer : File → File
+tookBuffer f = withSlot f (emptySide f) Taken false (f .block)
+
+-- "A delivered block has 1 + e to B + e words, else 13."
+abbrev pub blockFits : File → ℕ → Bool
+blockFits f n = leb (1 + extra (f .sequence) (f .check)) n && leb n (f .size + extra (f .sequence) (f .check))
+
+-- "A good end makes it full.": a block of n data words, with its check error
+unfoldable pub delivered : File → ℕ → ℕ → File
+delivered f n e = filledAt f (takenSide f) n e
+
+-- "A read that ends with a mark or a permanent error gives its buffer back as empty."
+unfoldable pub gaveBack : File → File
+gaveBack f = emptiedAt f (takenSide f)
+
+abbrev pub withMark : File → File
+withMark f = record {
+  opened = f .opened;
+  channel = f .channel;
+  unit = f .unit;
+  output = f .output;
+  double = f .double;
+  sequence = f .sequence;
+  check = f .check;
+  size = f .size;
+  rlen = f .rlen;
+  low = f .low;
+  high = f .high;
+  turned = f .turned;
+  block = f .block;
+  marked = true;
+}
+
+-- a read that ends with a mark; refusal 10, "a file mark has been read since the open"
+unfoldable pub metMark : File → File
+metMark f = withMark (gaveBack f)
+
+-- refusal 9, "Ask write, skip: no full buffer"
+abbrev pub hasFull : File → Bool
+hasFull f = isSide (oldest f)

@@ -1,0 +1,4 @@
+pub mod Delivers
+pub mod Ages
+pub mod Gets
+pub mod Histories

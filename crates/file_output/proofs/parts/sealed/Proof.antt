@@ -1,0 +1,22 @@
+-- `file_output::sealed` meets its contract, from the contracts of `part_length`, `filled_at` and `part_side`. Assumes nothing.
+use Rattle.file_output.specs.Parts.{sealed}
+use borrow.Author.Needs.{needs}
+use Rattle.file_output.proofs.parts.sealed.Statement.{statement}
+use Rattle.file_output.proofs.parts.sealed.Tie as tie
+
+part-side-requires : tie.Need-part-side-requires
+part-side-requires c κs = search needs
+
+part-length-requires : tie.Need-part-length-requires
+part-length-requires c κs = search needs
+
+filled-at-requires : tie.Need-filled-at-requires
+filled-at-requires c κs = search needs
+
+returns : tie.Need-returns
+unfolding sealed
+returns c = simp (c .filled-at .ensures, c .before .part-length .ensures, c .before .before .part-side .ensures)
+
+pub sealed-spec : {M : Type 1} → statement M
+sealed-spec =
+    tie.close (tie.spec part-side-requires part-length-requires filled-at-requires returns)

@@ -1,2 +1,0 @@
-pub mod Maps
-pub mod FreezeTheorems

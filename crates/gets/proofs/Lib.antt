@@ -1,2 +1,0 @@
-pub mod Onces
-pub mod Lines

@@ -1,2 +1,0 @@
-pub mod Get
-pub mod Skip

@@ -1,2 +1,0 @@
-pub mod Ledgers
-pub mod Blocks

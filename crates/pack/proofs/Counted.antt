@@ -1,0 +1,165 @@
+-- The four kinds of call that demand 3 counts are, call by call, the kinds of event that the channel counts. Assumes nothing.
+use mathlib.Core.Path.{_≡_, refl, sym, ap, _∙_}
+use mathlib.Core.Bool.{Bool, true, false, not, _&&_, and-true, and-false}
+use mathlib.Core.List.{List}
+use Prim.Native.Nat.{ℕ}
+use lib.Dec.{eqb}
+use borrow.Author.Tests.{eqb-true}
+use Rattle.channel_outcomes.specs.declared.Ending.the-variants.{Good, Opposite, MarkRead, MediumEnd, LostRedundancy, LostIncomplete}
+use Rattle.channel_outcomes.specs.declared.Verdict.{Verdict}
+use Rattle.channel_outcomes.specs.declared.Verdict.the-variants.{Refused, Repeats, Ends}
+use Rattle.channel_outcomes.specs.Rules.{resultNumber}
+use Rattle.channel_turns.specs.Turns.{judgeOf}
+use Rattle.channel_theorems.specs.History as history
+use Rattle.channel_theorems.specs.History.{accepted, reportAnswer, aReport, aPriority, aRequestOf, anAnswerTo, isAnswered}
+use Rattle.channel_theorems.specs.Lifted.{countShown}
+use Rattle.state.specs.declared.State.{State}
+use Rattle.state.specs.Places.{fileAt, channelAt}
+use Rattle.call_request.specs.Ask.{opOf, isPriority}
+use Rattle.call_request.specs.Report.{reportRefusal, reportOn}
+use Rattle.pack_request.specs.Calls.{reportBy}
+use Rattle.pack_request.proofs.ReportTheorems.{report-exactly, report-event}
+use Rattle.pack.specs.Calls.{Call, fresh, opening, close, ask, report, get, put, seal, skip, freeze, thaw, Answer, answerOf}
+use Rattle.pack.specs.Histories as h
+use Rattle.pack.specs.Histories.{isAccepted, oneIf, ofReport, ofAsk, answerFor, priorityOn, requestOf, isAnswer}
+use Rattle.pack.specs.Tables.{rowsOf}
+use Rattle.area.specs.Refusals.{lowest}
+use Rattle.channel.specs.declared.Op.{Op}
+use Rattle.pack.proofs.Seen.{eventIf, seen}
+use Rattle.pack.proofs.Around.{Matches}
+
+module _ (c : ℕ) where
+  -- ---- what an event counts for
+
+  shown-if : (event : history.Event → history.Answer → Bool) (b : Bool) (e : history.Event) (a : history.Answer)
+      → countShown event (eventIf b e a) ≡ oneIf (b && event e a)
+  shown-if event true e a = go (event e a)
+    where
+      go : (b : Bool) → history.oneIf b ≡ oneIf b
+      go true = refl
+      go false = refl
+  shown-if event false e a = refl
+
+  split : (a b x y : Bool) → (a ≡ true → (b && x) ≡ y) → oneIf ((a && b) && x) ≡ oneIf (a && y)
+  split true b x y f = ap oneIf (f refl)
+  split false b x y f = refl
+
+  module _ (s : State) (area : List ℕ) where
+    unseen : (call : Call) → 0 ≡ oneIf (isAccepted (answerOf s area call) && false)
+    unseen call = go (isAccepted (answerOf s area call))
+      where
+        go : (a : Bool) → 0 ≡ oneIf (a && false)
+        go true = refl
+        go false = refl
+
+    ask-seen : (event : history.Event → history.Answer → Bool) (file op priority : ℕ) (kind : Bool)
+        → (eqb (fileAt s file .channel) c && event (history.ask (fileAt s file .unit) (opOf op) (isPriority priority)) accepted) ≡ kind
+        → countShown event (seen c s area (ask file op priority)) ≡ oneIf (isAccepted (answerOf s area (ask file op priority)) && kind)
+    ask-seen event file op priority kind e =
+        shown-if event (isAccepted (answerOf s area (ask file op priority)) && eqb (fileAt s file .channel) c) _ _
+        ∙ split (isAccepted (answerOf s area (ask file op priority))) (eqb (fileAt s file .channel) c) _ kind (λ a. e)
+
+    report-seen : (event : history.Event → history.Answer → Bool) (channel unit outcome : ℕ) (words : List ℕ) (kind : Bool)
+        → (reportBy s area channel unit outcome words .refusal ≡ 0
+        → (eqb channel c && event (history.report unit outcome) (reportAnswer (judgeOf (channelAt s channel) unit outcome))) ≡ kind)
+        → countShown event (seen c s area (report channel unit outcome words))
+        ≡ oneIf (isAccepted (answerOf s area (report channel unit outcome words)) && kind)
+    unfolding answerOf
+    report-seen event channel unit outcome words kind e =
+        shown-if event (isAccepted (answerOf s area (report channel unit outcome words)) && eqb channel c) _ _
+        ∙ split (isAccepted (answerOf s area (report channel unit outcome words))) (eqb channel c) _ kind
+        (λ a. e (eqb-true (reportBy s area channel unit outcome words .refusal) 0 a))
+
+    every-seen : (event : history.Event → history.Answer → Bool) (b : Bool) (e : history.Event) → event e accepted ≡ false
+        → countShown event (eventIf b e accepted) ≡ oneIf (b && false)
+    every-seen event b e f = shown-if event b e accepted ∙ ap (λ (x : Bool). oneIf (b && x)) f
+
+    -- a test of reports, and one of asks, that is what the channel's own test says of its event
+    module _ (event : history.Event → history.Answer → Bool) (quietly : event history.freeze accepted ≡ false)
+        (thaws : event history.thaw accepted ≡ false) where
+      reports-match : (test : Answer → ℕ → ℕ → Bool) → ((u : ℕ) (op : Op) (p : Bool) → event (history.ask u op p) accepted ≡ false)
+          → ((channel unit outcome : ℕ) (words : List ℕ) → reportBy s area channel unit outcome words .refusal ≡ 0
+          → (eqb channel c && event (history.report unit outcome) (reportAnswer (judgeOf (channelAt s channel) unit outcome)))
+          ≡ test (answerOf s area (report channel unit outcome words)) channel unit)
+          → (call : Call) → countShown event (seen c s area call)
+          ≡ oneIf (isAccepted (answerOf s area call) && ofReport (test (answerOf s area call)) call)
+      reports-match test asks e (fresh m w masks) = unseen (fresh m w masks)
+      reports-match test asks e (opening file channel unit flags size rlen) = unseen (opening file channel unit flags size rlen)
+      reports-match test asks e (close file) = unseen (close file)
+      reports-match test asks e (ask file op priority) =
+          ask-seen event file op priority false
+          (ap (λ (b : Bool). eqb (fileAt s file .channel) c && b) (asks _ _ _) ∙ and-false (eqb (fileAt s file .channel) c))
+      reports-match test asks e (report channel unit outcome words) =
+          report-seen event channel unit outcome words (test (answerOf s area (report channel unit outcome words)) channel unit)
+          (e channel unit outcome words)
+      reports-match test asks e (get file) = unseen (get file)
+      reports-match test asks e (put file words) = unseen (put file words)
+      reports-match test asks e (seal file) = unseen (seal file)
+      reports-match test asks e (skip file) = unseen (skip file)
+      reports-match test asks e freeze = every-seen event (isAccepted (answerOf s area freeze)) history.freeze quietly
+      reports-match test asks e thaw = every-seen event (isAccepted (answerOf s area thaw)) history.thaw thaws
+
+      asks-match : (test : ℕ → ℕ → Bool) → ((u o : ℕ) (a : history.Answer) → event (history.report u o) a ≡ false)
+          → ((file op priority : ℕ)
+          → (eqb (fileAt s file .channel) c && event (history.ask (fileAt s file .unit) (opOf op) (isPriority priority)) accepted)
+          ≡ test file priority)
+          → (call : Call) → countShown event (seen c s area call) ≡ oneIf (isAccepted (answerOf s area call) && ofAsk test call)
+      asks-match test reports e (fresh m w masks) = unseen (fresh m w masks)
+      asks-match test reports e (opening file channel unit flags size rlen) = unseen (opening file channel unit flags size rlen)
+      asks-match test reports e (close file) = unseen (close file)
+      asks-match test reports e (ask file op priority) = ask-seen event file op priority (test file priority) (e file op priority)
+      asks-match test reports e (report channel unit outcome words) =
+          report-seen event channel unit outcome words false
+          (λ z. ap (λ (b : Bool). eqb channel c && b) (reports unit outcome _) ∙ and-false (eqb channel c))
+      asks-match test reports e (get file) = unseen (get file)
+      asks-match test reports e (put file words) = unseen (put file words)
+      asks-match test reports e (seal file) = unseen (seal file)
+      asks-match test reports e (skip file) = unseen (skip file)
+      asks-match test reports e freeze = every-seen event (isAccepted (answerOf s area freeze)) history.freeze quietly
+      asks-match test reports e thaw = every-seen event (isAccepted (answerOf s area thaw)) history.thaw thaws
+
+    -- the result of an accepted report is the channel's verdict; every result but 00 answers
+    result-is : (channel unit outcome : ℕ) (words : List ℕ) → reportBy s area channel unit outcome words .refusal ≡ 0
+        → reportBy s area channel unit outcome words .result ≡ resultNumber (judgeOf (channelAt s channel) unit outcome)
+    unfolding reportBy reportOn reportRefusal rowsOf
+    result-is channel unit outcome words z =
+        let n : lowest (rowsOf s area (report channel unit outcome words)) ≡ 0 = sym (report-exactly s area channel unit outcome words .number) ∙ z in
+        rw n
+
+  answers-by : (v : Verdict) → isAnswered (reportAnswer v) ≡ not (eqb (resultNumber v) 0)
+  answers-by (Refused n) = refl
+  answers-by (Repeats q) = refl
+  answers-by (Ends Good) = refl
+  answers-by (Ends Opposite) = refl
+  answers-by (Ends MarkRead) = refl
+  answers-by (Ends MediumEnd) = refl
+  answers-by (Ends LostRedundancy) = refl
+  answers-by (Ends LostIncomplete) = refl
+
+  -- reports, answers, priority requests and requests are what the channel counts as such
+  pub report-matches : Matches c (h.reportOn c) aReport
+  unfolding Matches
+  report-matches s area g =
+      reports-match s area aReport refl refl (λ a channel unit. eqb channel c) (λ u op p. refl)
+      (λ channel unit outcome words z.
+      ap (λ (b : Bool). eqb channel c && b) (report-event s area channel unit outcome words (g .sixteen) z .counted) ∙ and-true (eqb channel c))
+
+  pub answer-matches : (u : ℕ) → Matches c (answerFor c u) (anAnswerTo u)
+  unfolding Matches answerOf
+  answer-matches u s area g =
+      reports-match s area (anAnswerTo u) refl refl (λ a channel unit. eqb channel c && (eqb unit u && isAnswer (a .added))) (λ v op p. refl)
+      (λ channel unit outcome words z.
+      ap (λ (b : Bool). eqb channel c && (eqb unit u && b))
+      (answers-by (judgeOf (channelAt s channel) unit outcome) ∙ ap (λ (n : ℕ). not (eqb n 0)) (sym (result-is s area channel unit outcome words z))))
+
+  pub priority-matches : Matches c (priorityOn c) aPriority
+  unfolding Matches
+  priority-matches s area g =
+      asks-match s area aPriority refl refl (λ file priority. eqb (fileAt s file .channel) c && isPriority priority) (λ u o a. refl)
+      (λ file op priority. ap (λ (b : Bool). eqb (fileAt s file .channel) c && b) (and-true (isPriority priority)))
+
+  pub request-matches : (u : ℕ) → Matches c (requestOf c u) (aRequestOf u)
+  unfolding Matches
+  request-matches u s area g =
+      asks-match s area (aRequestOf u) refl refl (λ file priority. eqb (fileAt s file .channel) c && eqb (fileAt s file .unit) u) (λ v o a. refl)
+      (λ file op priority. ap (λ (b : Bool). eqb (fileAt s file .channel) c && b) (and-true (eqb (fileAt s file .unit) u)))

@@ -1,0 +1,11 @@
+pub mod InputSteps
+pub mod InputReady
+pub mod GetTheorems
+pub mod SkipTheorems
+pub mod OutputSteps
+pub mod Written
+pub mod Buffers
+pub mod Fillings
+pub mod OutputReady
+pub mod PutTheorems
+pub mod SealTheorems

@@ -1,0 +1,381 @@
+-- The promises of report: refused exactly by its table, a sound state kept, nothing else touched, booked to the one file of its unit, one event
+-- of its channel. The files of a state are sixteen, as the array of the code has them. Assumes nothing.
+use mathlib.Core.Path.{_≡_, refl, sym, ap, subst, _∙_}
+use mathlib.Core.Bool.{Bool, true, false, not, cond, _&&_, _||_}
+use mathlib.Core.Option.{some}
+use mathlib.Core.List.{List}
+use Prim.Native.Nat.{ℕ, suc, _+_, _≤_, _<_}
+use native.Mathlib.Decide.{ℕ-discrete}
+use native.Mathlib.Omega.{arith}
+use lib.Dec.{ltb, eqb}
+use lib.ListN.{length, take, getD}
+use borrow.Author.Tests.{not-true, ne-eqb, eq-eqb, eqb-true}
+use Rattle.area.specs.declared.Found.{Found}
+use Rattle.area.specs.declared.Found.the-variants as found
+use Rattle.area.specs.Lists.{allOf, isFound}
+use Rattle.area.specs.Parts.{isWord}
+use Rattle.area.specs.Refusals.{Rows, lowest, Exactly}
+use Rattle.area.proofs.Walks.{true-not-false, and-left, and-right, and-both, or-left, or-right}
+use Rattle.area.proofs.Lowest.{lowest-none}
+use Rattle.area.proofs.Exactly.{exactly}
+use Rattle.area.proofs.Firsts.{first-finds}
+use Rattle.channel.specs.declared.Request.{Request}
+use Rattle.channel.specs.declared.Turn.{Turn}
+use Rattle.channel.specs.declared.Turn.the-variants.{Idle, Waiting, Displaced, Working}
+use Rattle.channel.specs.declared.Channel.{Channel}
+use Rattle.channel.specs.declared.Work.{Work}
+use Rattle.channel.specs.declared.Work.the-variants.{At, Nothing}
+use Rattle.channel_outcomes.specs.declared.Ending.{Ending}
+use Rattle.channel_outcomes.specs.declared.Verdict.{Verdict}
+use Rattle.channel_outcomes.specs.declared.Verdict.the-variants.{Repeats, Ends}
+use Rattle.channel_outcomes.specs.Rules.{isAllowed, isFailure, isPermanent, nextAttempt, endingOf, verdictOf, resultNumber}
+use Rattle.channel.specs.Units.{turnAt, workOf, operationAt}
+use Rattle.channel_turns.specs.Scans.{workingIn, unitNumber}
+use Rattle.channel_turns.specs.Turns.{judgeTurn, judgeOf, bookOf, reportOf}
+use Rattle.channel_theorems.specs.History.{station, report, stepTo, reportAnswer, step, aReport}
+use Rattle.channel_theorems.specs.Lifted.{Agrees}
+use Rattle.file.specs.declared.File.{File}
+use Rattle.file.specs.Sizes.{closedFile}
+use Rattle.file_input.specs.Delivers.{blockFits}
+use Rattle.pool.specs.Free.{fileCount}
+use Rattle.pool.specs.Serving.{serves, servingFile, numberOr}
+use Rattle.state_sound.specs.Files.{shareBuffer, shareUnit, apart}
+use Rattle.state_sound.proofs.Replaced.{alike-self, unbound}
+use Rattle.state.specs.declared.State.{State}
+use Rattle.state.specs.Places.{fileAt, channelAt}
+use Rattle.state.specs.Stores.{withFile, withChannel}
+use Rattle.state_sound.specs.Requests.{requested, isNone}
+use Rattle.state_sound.specs.Soundness.{sound}
+use Rattle.state_sound.specs.Judged.{fileReady}
+use Rattle.state_sound.proofs.Everywhere.{place-inside}
+use Rattle.state_sound.proofs.Facts.{Served, SoundFacts, sound-facts, facts-sound}
+use Rattle.state_sound.proofs.ChannelCalls.{repeat-moved, end-moved}
+use Rattle.state_sound.proofs.Kept.{line-of}
+use Rattle.word.specs.CheckWords.{address, chosen}
+use Rattle.word.specs.Sums.{logicalSum, firstHalf, folded}
+use Rattle.block.specs.Blocks.{dataWords, judgeRefusal, judged, errorOf}
+use Rattle.call_request.specs.declared.Effect.{Effect}
+use Rattle.call_request.specs.declared.ReportChange.{ReportChange}
+use Rattle.pack_request.specs.declared.Reporting.{Reporting}
+use Rattle.call_request.specs.Effects.{effectOf, opEffect, isDelivery}
+use Rattle.call_request.specs.Report.{isIdleFor, takesNoWords, isForbidden, shownStart, shownCount, shownBlock, effectAt, reportRows, reportRefusal, deliveryError, reportedFile, refusedReport, reportOn, reportOnArea}
+use Rattle.pack_request.specs.Calls.{fileOf, reportWrong, reportBy, reportByArea}
+use Rattle.pack_request.proofs.Ready.{not-false, ended-file}
+use Rattle.pack_request.proofs.Changed.{Frame, changed-refused, changed-taken, changed-frame, here-channel, became-sound}
+
+-- ---- what a report that is booked comes to
+
+pub data Booked (c : Channel) (u outcome : ℕ) : Type 0 where
+  again : (r q : Request) → turnAt c u ≡ Working r → judgeOf c u outcome ≡ Repeats q → Booked c u outcome
+  ended : (r : Request) (e : Ending) → turnAt c u ≡ Working r → judgeOf c u outcome ≡ Ends e → Booked c u outcome
+
+pub booked : (c : Channel) (u outcome : ℕ) → isIdleFor (operationAt c u) ≡ false → isForbidden (operationAt c u) outcome ≡ false → Booked c u outcome
+unfolding operationAt judgeOf verdictOf
+booked c u outcome = go (turnAt c u) refl
+  where
+    judged-as : (r : Request) (a b : Bool) → turnAt c u ≡ Working r → isAllowed (r .op) outcome ≡ a → (not (isFailure outcome) || isPermanent r outcome) ≡ b → a ≡ true → Booked c u outcome
+    judged-as r true true i p q h = ended r (endingOf (r .op) (r .attempts) outcome) i (ap (λ (t : Turn). judgeTurn t outcome) i ∙ rw (p, q))
+    judged-as r true false i p q h = again r (nextAttempt r outcome) i (ap (λ (t : Turn). judgeTurn t outcome) i ∙ rw (p, q))
+    judged-as r false b i p q h = true-not-false h refl
+
+    go : (t : Turn) → turnAt c u ≡ t → isIdleFor (workOf t) ≡ false → isForbidden (workOf t) outcome ≡ false → Booked c u outcome
+    go Idle i w a = true-not-false refl w
+    go (Waiting q) i w a = true-not-false refl w
+    go (Displaced q) i w a = true-not-false refl w
+    go (Working r) i w a = judged-as r (isAllowed (r .op) outcome) (not (isFailure outcome) || isPermanent r outcome) i refl refl (not-false (isAllowed (r .op) outcome) a)
+
+-- it is booked by the channel too
+booked-answer : (c : Channel) (u outcome : ℕ) → Booked c u outcome → aReport (report u outcome) (reportAnswer (judgeOf c u outcome)) ≡ true
+booked-answer c u outcome (again r q i j) = ap (λ (v : Verdict). aReport (report u outcome) (reportAnswer v)) j
+booked-answer c u outcome (ended r e i j) = ap (λ (v : Verdict). aReport (report u outcome) (reportAnswer v)) j
+
+busy : (c : Channel) (u outcome : ℕ) → Booked c u outcome → isNone (requested (turnAt c u)) ≡ false
+busy c u outcome (again r q i j) = ap (λ (t : Turn). isNone (requested t)) i
+busy c u outcome (ended r e i j) = ap (λ (t : Turn). isNone (requested t)) i
+
+-- ---- a check error is 0 to 3
+
+error-small : (words : List ℕ) (sequence check : Bool) (number : ℕ) → judged words sequence check number .error ≤ 3
+unfolding judged errorOf
+error-small words sequence check number =
+    let n = dataWords words sequence check in
+    go (eqb (judgeRefusal words sequence check number) 0) sequence check (eqb (address (getD words n 0)) number)
+    (eqb (firstHalf (getD words n 0)) (folded (logicalSum (take n words))))
+  where
+    go : (a s k x y : Bool) → cond a (chosen s (cond x 0 1) + chosen k (cond y 0 2)) 0 ≤ 3
+    go false s k x y = omega arith
+    go true s k x y = omega (arith, first s x, second k y)
+      where
+        first : (t z : Bool) → chosen t (cond z 0 1) ≤ 1
+        first true true = omega arith
+        first true false = omega arith
+        first false z = omega arith
+
+        second : (t z : Bool) → chosen t (cond z 0 2) ≤ 2
+        second true true = omega arith
+        second true false = omega arith
+        second false z = omega arith
+
+delivery-small : (x : Effect) (f : File) (words : List ℕ) → deliveryError x f words ≤ 3
+delivery-small x f words = go (isDelivery x) (error-small words (f .sequence) (f .check) (f .block))
+  where
+    go : (b : Bool) {n : ℕ} → n ≤ 3 → cond b n 0 ≤ 3
+    go true h = h
+    go false h = omega arith
+
+-- ---- the file of a unit
+
+pub serving : (fs : List File) (c u : ℕ) → length fs ≡ fileCount → Served fs c u → serves c u (getD fs (numberOr (servingFile fs c u) fileCount) closedFile) ≡ true
+unfolding servingFile
+serving fs c u n p = go (servingFile fs c u) refl
+  where
+    within : p .place < fileCount
+    within = let l = place-inside fs closedFile (serves c u) refl (p .place) (p .bound) in omega arith
+
+    go : (x : Found) → servingFile fs c u ≡ x → serves c u (getD fs (numberOr x fileCount) closedFile) ≡ true
+    go (found.At i) e = first-finds suc (λ j. serves c u (getD fs j closedFile)) fileCount 0 i e .passes
+    go found.Nothing e = true-not-false (p .bound) (unbound fs c u (p .place) (ap isFound e) within)
+
+-- ---- what an accepted report found
+
+pub record ReportReady (wrong : Bool) (f : File) (c : Channel) (u outcome w : ℕ) (area words : List ℕ) : Type 0 where
+  pub right : wrong ≡ false
+  pub range : (ltb 9 u || ltb 4 outcome) ≡ false
+  pub given : allOf isWord words ≡ true
+  pub handed : allOf isWord (shownBlock (effectAt c u outcome) w f area) ≡ true
+  pub works : isIdleFor (operationAt c u) ≡ false
+  pub allowed : isForbidden (operationAt c u) outcome ≡ false
+  pub fits : isDelivery (effectAt c u outcome) ≡ true → blockFits f (length words) ≡ true
+
+and-not : (a b : Bool) → (a && not b) ≡ false → a ≡ true → b ≡ true
+and-not true b e t = not-false b e
+and-not false b e t = true-not-false t refl
+
+pub report-ready : (wrong : Bool) (f : File) (c : Channel) (u outcome w : ℕ) (area words : List ℕ) → reportRefusal wrong f c u outcome w area words ≡ 0
+    → ReportReady wrong f c u outcome w area words
+unfolding reportRefusal
+report-ready wrong f c u outcome w area words z =
+    let a = lowest-none 1 (wrong || ((ltb 9 u || ltb 4 outcome) || (ltb 0 (length words) && (ltb 0 outcome || takesNoWords (operationAt c u))))) _ (λ q. omega arith) z in
+    let b = lowest-none 2 (not (allOf isWord words) || not (allOf isWord (shownBlock (effectAt c u outcome) w f area))) _ (λ q. omega arith) (a .1) in
+    let d = lowest-none 11 _ _ (λ q. omega arith) (b .1) in
+    let e = lowest-none 12 _ _ (λ q. omega arith) (d .1) in
+    let g = lowest-none 13 (isDelivery (effectAt c u outcome) && not (blockFits f (length words))) _ (λ q. omega arith) (e .1) in
+    record {
+      right = or-left wrong _ (a .0);
+      range = or-left (ltb 9 u || ltb 4 outcome) _ (or-right wrong _ (a .0));
+      given = not-false (allOf isWord words) (or-left (not (allOf isWord words)) _ (b .0));
+      handed = not-false _ (or-right (not (allOf isWord words)) _ (b .0));
+      works = d .0;
+      allowed = e .0;
+      fits = and-not (isDelivery (effectAt c u outcome)) (blockFits f (length words)) (g .0);
+    }
+
+-- ---- the call on a state
+
+module _ (s : State) (area : List ℕ) (channel unit outcome : ℕ) (words : List ℕ) where
+  abbrev i : ℕ
+  i = fileOf s channel unit
+
+  abbrev f : File
+  f = fileAt s i
+
+  abbrev c : Channel
+  c = channelAt s channel
+
+  abbrev wrong : Bool
+  wrong = reportWrong s (length area) channel
+
+  abbrev rows : Rows
+  rows = reportRows wrong f c unit outcome (s .w) area words
+
+  abbrev refusal : ℕ
+  refusal = reportRefusal wrong f c unit outcome (s .w) area words
+
+  abbrev reported : Reporting
+  reported = reportBy s area channel unit outcome words
+
+  abbrev after : List ℕ
+  after = reportByArea s area channel unit outcome words
+
+  abbrev change : ReportChange
+  change = reportOn wrong f c unit outcome (s .w) (s .frozen) area words
+
+  abbrev effect : Effect
+  effect = effectAt c unit outcome
+
+  abbrev booking : Channel
+  booking = bookOf c unit (judgeOf c unit outcome) (s .frozen)
+
+  abbrev became : File
+  became = reportedFile effect f (length words) (deliveryError effect f words)
+
+  change-refused : (refusal ≡ 0 → ⊥) → change ≡ refusedReport refusal f c
+  unfolding reportOn
+  change-refused h = rw (ne-eqb refusal 0 h)
+
+  change-booked : refusal ≡ 0 → change ≡ record {
+    refusal = 0;
+    result = resultNumber (judgeOf c unit outcome);
+    error = deliveryError effect f words;
+    working = unitNumber (workingIn booking);
+    start = shownStart effect (s .w) f;
+    count = shownCount effect f;
+    file = became;
+    channel = booking;
+  }
+  unfolding reportOn
+  change-booked z = rw (eq-eqb refusal 0 z)
+
+  booked-number : refusal ≡ 0 → change .refusal ≡ 0
+  booked-number z = ap (λ (x : ReportChange). x .refusal) (change-booked z)
+
+  refused-number : (refusal ≡ 0 → ⊥) → change .refusal ≡ refusal
+  refused-number h = ap (λ (x : ReportChange). x .refusal) (change-refused h)
+
+  report-number : reported .refusal ≡ refusal
+  unfolding reportBy
+  report-number = go (ℕ-discrete refusal 0)
+    where
+      go : Dec (refusal ≡ 0) → change .refusal ≡ refusal
+      go (yes z) = booked-number z ∙ sym z
+      go (no h) = refused-number h
+
+  report-state : refusal ≡ 0 → reported .state ≡ withFile (withChannel s channel booking) i became
+  unfolding reportBy
+  report-state z =
+      changed-taken s i channel _ _ _ (booked-number z) ∙ ap (λ (x : ReportChange). withFile (withChannel s channel (x .channel)) i (x .file)) (change-booked z)
+
+  -- refused: the number alone, the state that was passed, and the area as it was
+  pub record ReportAlone : Type 0 where
+    pub answer : reported ≡ record { refusal = refusal; result = 0; error = 0; working = 0; start = 0; count = 0; state = s }
+    pub untouched : after ≡ area
+
+  report-alone : (refusal ≡ 0 → ⊥) → ReportAlone
+  unfolding reportBy reportByArea reportOnArea
+  report-alone h = record {
+    answer = rw (change-refused h, changed-refused s i channel refusal f c h);
+    untouched = rw (ne-eqb refusal 0 h);
+  }
+
+  pub record ReportExactly : Type 0 where
+    pub number : reported .refusal ≡ lowest rows
+    pub table : Exactly rows
+    pub alone : (reported .refusal ≡ 0 → ⊥) → ReportAlone
+
+  -- "Given exactly when": refused with a number exactly if its row applies and no lower one does; a refusal changes nothing
+  pub report-exactly : ReportExactly
+  unfolding reportRefusal
+  report-exactly = record { number = report-number; table = exactly rows refl; alone = λ h. report-alone (λ z. h (report-number ∙ z)) }
+
+  -- what is not named is not touched: every other file, and every other channel
+  pub report-frame : Frame s (reported .state) i channel
+  unfolding reportBy
+  report-frame = changed-frame s i channel _ _ _
+
+  module _ (sixteen : length (s .files) ≡ fileCount) (z : refusal ≡ 0) where
+    ready : ReportReady wrong f c unit outcome (s .w) area words
+    ready = report-ready wrong f c unit outcome (s .w) area words z
+
+    pub report-was-sound : sound s ≡ true
+    report-was-sound = not-false (sound s) (or-left (not (sound s)) _ (ready .right))
+
+    pub facts : SoundFacts s
+    facts = sound-facts s report-was-sound
+
+    pub view : Booked c unit outcome
+    view = booked c unit outcome (ready .works) (ready .allowed)
+
+    serves-it : serves channel unit f ≡ true
+    serves-it = serving (s .files) channel unit sixteen (facts .served channel unit (busy c unit outcome view))
+
+    pub isOpen : f .opened ≡ true
+    isOpen = and-left (f .opened) _ serves-it
+
+    on-channel : f .channel ≡ channel
+    on-channel = eqb-true (f .channel) channel (and-left (eqb (f .channel) channel) _ (and-right (f .opened) _ serves-it))
+
+    on-unit : f .unit ≡ unit
+    on-unit = eqb-true (f .unit) unit (and-right (eqb (f .channel) channel) _ (and-right (f .opened) _ serves-it))
+
+    pub requested-ready : fileReady (requested (turnAt c unit)) f ≡ true
+    requested-ready =
+        sym (ap (λ (n : ℕ). fileReady (requested (turnAt (channelAt s n) (f .unit))) f) on-channel ∙ ap (λ (n : ℕ). fileReady (requested (turnAt c n)) f) on-unit)
+        ∙ facts .ready i isOpen
+
+    after-facts : (error : ℕ) → error ≤ 3 → SoundFacts (withFile (withChannel s channel booking) i (reportedFile effect f (length words) error))
+    unfolding operationAt reportedFile
+    after-facts error small = go view (ready .fits)
+      where
+        To : Work → Verdict → Type 0
+        To x v = SoundFacts (withFile (withChannel s channel (bookOf c unit v (s .frozen))) i (reportedFile (effectOf x v) f (length words) error))
+
+        go : Booked c unit outcome → (isDelivery effect ≡ true → blockFits f (length words) ≡ true) → To (operationAt c unit) (judgeOf c unit outcome)
+        go (again r q t j) k =
+            subst (To (operationAt c unit)) (sym j)
+            (became-sound s i channel unit (bookOf c unit (Repeats q) (s .frozen)) f (requested (turnAt c unit)) facts isOpen on-channel on-unit
+            (repeat-moved (s .m) c unit (s .frozen) (facts .channels channel) outcome q j)
+            (record { sound = facts .files i isOpen; ready = requested-ready; alike = alike-self f }))
+        go (ended r e t j) k =
+            let w : operationAt c unit ≡ At (r .op) = ap workOf t in
+            let here : effect ≡ opEffect (r .op) e = ap (effectOf (operationAt c unit)) j ∙ ap (λ (x : Work). effectOf x (Ends e)) w in
+            subst (To (operationAt c unit)) (sym j)
+            (subst (λ (x : Work). To x (Ends e)) (sym w)
+            (became-sound s i channel unit (bookOf c unit (Ends e) (s .frozen)) _ Nothing facts isOpen on-channel on-unit
+            (end-moved (s .m) c unit (s .frozen) (facts .channels channel) outcome e j)
+            (ended-file (s .m) (s .w) f (length words) error (facts .files i isOpen) small (r .op) e
+            (sym (ap (λ (x : Turn). fileReady (requested x) f) t) ∙ requested-ready) (λ b. k (ap isDelivery here ∙ b)))))
+
+    reported-channel : channelAt (reported .state) channel ≡ booking
+    unfolding reportBy
+    reported-channel =
+        here-channel s i channel _ _ _ (booked-number z) (subst (λ (n : ℕ). n < length (s .channels)) on-channel (line-of s facts i isOpen))
+        ∙ ap (λ (x : ReportChange). x .channel) (change-booked z)
+
+    reported-event : Agrees (station c (s .frozen)) (some (record { event = report unit outcome; answer = reportAnswer (judgeOf c unit outcome) }))
+        (station (channelAt (reported .state) channel) (reported .state .frozen))
+    unfolding step reportOf
+    reported-event =
+        ap (λ (d : Channel). stepTo (reportAnswer (judgeOf c unit outcome)) (station d (s .frozen))) (sym reported-channel)
+        ∙ ap (λ (b : Bool). stepTo (reportAnswer (judgeOf c unit outcome)) (station (channelAt (reported .state) channel) b)) (sym (report-frame .frozen))
+
+    -- no other file serves that unit
+    only-file : (k : ℕ) → serves channel unit (fileAt s k) ≡ true → k ≡ i
+    unfolding apart
+    only-file k h = go (ℕ-discrete k i)
+      where
+        shared : shareUnit f (fileAt s k) ≡ true
+        shared = and-both (f .opened) _ isOpen (ap (λ (n : ℕ). serves n (f .unit) (fileAt s k)) on-channel ∙ ap (λ (n : ℕ). serves channel n (fileAt s k)) on-unit ∙ h)
+
+        go : Dec (k ≡ i) → k ≡ i
+        go (yes e) = e
+        go (no ne) = true-not-false shared (not-true (shareUnit f (fileAt s k)) (and-right (not (shareBuffer f (fileAt s k))) _ (facts .apart i k (λ e. ne (sym e)))))
+
+  -- from a sound state the state after is sound
+  pub report-kept : length (s .files) ≡ fileCount → sound s ≡ true → sound (reported .state) ≡ true
+  report-kept n h = go (ℕ-discrete refusal 0)
+    where
+      go : Dec (refusal ≡ 0) → sound (reported .state) ≡ true
+      go (yes z) = ap sound (report-state z) ∙ facts-sound _ (after-facts n z (deliveryError effect f words) (delivery-small effect f words))
+      go (no k) = ap (λ (r : Reporting). sound (r .state)) (report-alone k .answer) ∙ h
+
+  -- an accepted report is one event of its channel, which the channel books too
+  pub record ReportEvent : Type 0 where
+    pub event : Agrees (station c (s .frozen)) (some (record { event = report unit outcome; answer = reportAnswer (judgeOf c unit outcome) }))
+        (station (channelAt (reported .state) channel) (reported .state .frozen))
+    pub counted : aReport (report unit outcome) (reportAnswer (judgeOf c unit outcome)) ≡ true
+
+  pub report-event : length (s .files) ≡ fileCount → reported .refusal ≡ 0 → ReportEvent
+  report-event n z = let y = sym report-number ∙ z in record { event = reported-event n y; counted = booked-answer c unit outcome (view n y) }
+
+  -- A late completion cannot be booked to another file: the channel was working for the unit, one file alone is open on that unit, and that
+  -- file and the channel are all that may change.
+  pub record BooksOwn : Type 0 where
+    pub works : isIdleFor (operationAt c unit) ≡ false
+    pub bound : serves channel unit f ≡ true
+    pub only : (k : ℕ) → serves channel unit (fileAt s k) ≡ true → k ≡ i
+    pub others : Frame s (reported .state) i channel
+
+  pub report-books-own : length (s .files) ≡ fileCount → reported .refusal ≡ 0 → BooksOwn
+  report-books-own n z =
+      let y = sym report-number ∙ z in
+      record { works = ready n y .works; bound = serves-it n y; only = only-file n y; others = report-frame }

@@ -1,0 +1,64 @@
+-- Ask and report on a whole state (document 01, "Refusal numbers"): what row 1 says of it, and the state after the call. Assumes nothing.
+use Prim.Native.Nat.{ℕ}
+use mathlib.Core.Bool.{Bool, not, _||_}
+use mathlib.Core.List.{List}
+use lib.Dec.{ltb}
+use lib.ListN.{length}
+use Rattle.pool.specs.Serving.{fileServing}
+use Rattle.state.specs.declared.State.{State}
+use Rattle.state.specs.Places.{fileAt, channelAt, areaShort}
+use Rattle.state_sound.specs.Soundness.{sound}
+use Rattle.call_request.specs.declared.AskChange.{AskChange}
+use Rattle.call_request.specs.declared.ReportChange.{ReportChange}
+use Rattle.call_request.specs.Ask.{askOn}
+use Rattle.call_request.specs.Report.{reportOn, reportOnArea}
+use Rattle.pack_request.specs.declared.Asking.{Asking}
+use Rattle.pack_request.specs.declared.Reporting.{Reporting}
+use Rattle.pack_request.specs.Changes.{changedState}
+
+-- ---- ask
+
+-- what row 1 says of the state and of the file's number: "Files 0 to 15."
+abbrev pub askWrong : State → ℕ → Bool
+askWrong s file = not (sound s) || ltb 15 file
+
+-- what changes: the file, and the channel that it is open on
+abbrev pub askChange : State → ℕ → ℕ → ℕ → AskChange
+askChange s file op priority = askOn (askWrong s file) (fileAt s file) (channelAt s (fileAt s file .channel)) op priority (s .frozen)
+
+unfoldable pub askBy : State → ℕ → ℕ → ℕ → Asking
+askBy s file op priority =
+    let x = askChange s file op priority in
+    record { refusal = x .refusal; working = x .working; state = changedState s file (fileAt s file .channel) (x .refusal) (x .file) (x .channel) }
+
+-- ---- report
+
+-- the file that is open on unit u of channel c; past the last file if there is none
+abbrev pub fileOf : State → ℕ → ℕ → ℕ
+fileOf s c u = fileServing (s .files) c u
+
+-- what row 1 says of the state, of an area of n words and of the channel's number: "Channels 0 to 4"
+abbrev pub reportWrong : State → ℕ → ℕ → Bool
+reportWrong s n c = not (sound s) || (areaShort s n || ltb 4 c)
+
+-- what changes: the channel, and the file that its unit serves
+abbrev pub reportChange : State → List ℕ → ℕ → ℕ → ℕ → List ℕ → ReportChange
+reportChange s area c u outcome words =
+    reportOn (reportWrong s (length area) c) (fileAt s (fileOf s c u)) (channelAt s c) u outcome (s .w) (s .frozen) area words
+
+unfoldable pub reportBy : State → List ℕ → ℕ → ℕ → ℕ → List ℕ → Reporting
+reportBy s area c u outcome words =
+    let x = reportChange s area c u outcome words in
+    record {
+      refusal = x .refusal;
+      result = x .result;
+      error = x .error;
+      working = x .working;
+      start = x .start;
+      count = x .count;
+      state = changedState s (fileOf s c u) c (x .refusal) (x .file) (x .channel);
+    }
+
+unfoldable pub reportByArea : State → List ℕ → ℕ → ℕ → ℕ → List ℕ → List ℕ
+reportByArea s area c u outcome words =
+    reportOnArea (reportWrong s (length area) c) (fileAt s (fileOf s c u)) (channelAt s c) u outcome (s .w) area words

@@ -1,0 +1,83 @@
+// Ask and report on a whole state.
+use crate::Asking;
+use crate::Reporting;
+use crate::changes::changed_state;
+use area::part;
+use call_request::ask_on;
+use call_request::report_on;
+use pool::LAST_FILE;
+use pool::file_of;
+use state::LAST_CHANNEL;
+use state::State;
+use state::area_short;
+use state::channel_at;
+use state::file_at;
+use state_sound::is_sound;
+ghost use mathlib.Core.Path.{_≡_};
+ghost use Rattle.area.specs.Parts.{partOf};
+ghost use Rattle.pack_request.specs.Calls.{askBy, reportBy, reportByArea};
+
+// An ask of a file: operation 0 read, 1 write, 2 mark, priority 0 or 1. A refusal gives the state that was passed.
+pub fn ask(s: State, file: u8, op: u8, priority: u8) -> Asking
+    ensures { λ r. ⌜ r ≡ askBy s file op priority ⌝ }
+{
+    let i = file as usize;
+    let f = file_at(s, i);
+    let j = f.channel as usize;
+    let c = channel_at(s, j);
+    let whole = is_sound(s);
+    let x = ask_on(!whole | (LAST_FILE < file), f, c, op, priority, s.frozen);
+    let g = x.file;
+    let d = x.channel;
+    let t = changed_state(s, i, j, x.refusal, g, d);
+    Asking {
+        refusal: x.refusal,
+        working: x.working,
+        state: t,
+    }
+}
+
+// A report of a unit: its outcome, 0 good, 1 redundancy, 2 incomplete word, 3 file mark, 4 end of medium, and the words of a block that a
+// good read brings, which go into the area. A refusal gives the state that was passed and changes no word.
+pub fn report(
+    s: State,
+    area: &mut [u64],
+    channel: u8,
+    unit: u8,
+    outcome: u8,
+    words: &[u64],
+) -> Reporting
+    ensures { λ r. ⌜ r ≡ reportBy s (now (area .entry)) channel unit outcome (now (words .entry)) ⌝ }
+    ensures { λ _. ⌜ now (area .exit) ≡ reportByArea s (now (area .entry)) channel unit outcome (now (words .entry)) ⌝ }
+{
+    let short = area_short(s, area.len());
+    let whole = is_sound(s);
+    let files = s.files;
+    let i = file_of(files, channel, unit);
+    let f = file_at(s, i);
+    let j = channel as usize;
+    let c = channel_at(s, j);
+    let wrong = !whole | (short | (LAST_CHANNEL < channel));
+    let x = report_on(wrong, f, c, unit, outcome, s.w, s.frozen, area, words);
+    let g = x.file;
+    let d = x.channel;
+    let t = changed_state(s, i, j, x.refusal, g, d);
+    Reporting {
+        refusal: x.refusal,
+        result: x.result,
+        error: x.error,
+        working: x.working,
+        start: x.start,
+        count: x.count,
+        state: t,
+    }
+}
+
+// The block that a report of a write hands out, as a part of the lent area, check word last; nothing for any other report.
+pub fn reported_words<'a>(area: &'a [u64], r: Reporting) -> &'a [u64]
+    ensures { λ x. ⌜ now x ≡ partOf (r .start) (r .count) (now (area .entry)) ⌝ }
+{
+    let at = r.start;
+    let n = r.count;
+    part(area, at, n)
+}

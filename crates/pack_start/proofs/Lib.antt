@@ -1,0 +1,3 @@
+pub mod FreshTheorems
+pub mod Maps
+pub mod FreezeTheorems

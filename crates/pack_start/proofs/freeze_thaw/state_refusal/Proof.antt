@@ -1,0 +1,20 @@
+-- `pack_start::state_refusal` meets its contract, from the contracts of `is_sound` and `lowest_of`. Assumes nothing.
+use mathlib.Core.Path.{_∙_}
+use Rattle.area.specs.Refusals.{lowest}
+use Rattle.pack_start.specs.Freeze.{stateRows}
+use borrow.Author.Needs.{needs}
+use Rattle.pack_start.proofs.freeze_thaw.state_refusal.Statement.{statement}
+use Rattle.pack_start.proofs.freeze_thaw.state_refusal.Tie as tie
+
+is-sound-requires : tie.Need-is-sound-requires
+is-sound-requires c κs = search needs
+
+lowest-of-requires : tie.Need-lowest-of-requires
+lowest-of-requires c κs = search needs
+
+returns : tie.Need-returns
+unfolding lowest stateRows
+returns c = c .lowest-of .ensures ∙ simp (c .before .is-sound .ensures)
+
+pub state-refusal-spec : {M : Type 1} → statement M
+state-refusal-spec = tie.close (tie.spec is-sound-requires lowest-of-requires returns)

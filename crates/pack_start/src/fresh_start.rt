@@ -1,0 +1,98 @@
+// Fresh start: it closes everything, drops all requests, thaws, resets the scans and declares the units. It touches no word.
+use crate::Masks;
+use area::lowest_of;
+use channel::UNITS;
+use file::closed_file;
+use pool::FILES;
+use pool::pool_fits;
+use state::Called;
+use state::State;
+ghost use mathlib.Core.Path.{_≡_};
+ghost use lib.ListN.{length};
+ghost use Rattle.pack_start.specs.Fresh.{isMask, areMasks, freshRefusal, freshState, freshBy};
+
+// Masks are below this: they have no bit above the last unit.
+const MASKS: u32 = 1 << UNITS;
+
+fn is_mask(mask: u16) -> bool
+    ensures { λ r. ⌜ r ≡ isMask mask ⌝ }
+{
+    (mask as u32) < MASKS
+}
+
+// Whether no mask has a bit above the last unit.
+fn are_masks(masks: Masks) -> bool
+    ensures { λ r. ⌜ r ≡ areMasks masks ⌝ }
+{
+    let a = is_mask(masks.a);
+    let b = is_mask(masks.b);
+    let c = is_mask(masks.c);
+    let d = is_mask(masks.d);
+    let e = is_mask(masks.e);
+    a & (b & (c & (d & e)))
+}
+
+// The refusal of a fresh start with an area of n words, 0 for none.
+pub fn fresh_refusal(m: u8, w: u16, masks: Masks, n: usize) -> u8
+    ensures { λ r. ⌜ r ≡ freshRefusal m w masks n ⌝ }
+{
+    let pool = pool_fits(m, w);
+    let units = are_masks(masks);
+    let short = n < (m as usize) * (w as usize);
+    let c1 = !pool | (!units | short);
+    lowest_of(
+        c1,
+        false,
+        false,
+        false,
+        false,
+        false,
+        false,
+        false,
+        false,
+        false,
+        false,
+        false,
+        false,
+        false,
+    )
+}
+
+// The state after a fresh start.
+pub fn fresh_state(m: u8, w: u16, masks: Masks) -> State
+    ensures { λ r. ⌜ r ≡ freshState m w masks ⌝ }
+{
+    let a = channel::fresh(masks.a);
+    let b = channel::fresh(masks.b);
+    let c = channel::fresh(masks.c);
+    let d = channel::fresh(masks.d);
+    let e = channel::fresh(masks.e);
+    let f = closed_file();
+    let channels = [a, b, c, d, e];
+    let files = [f; FILES];
+    State {
+        m,
+        w,
+        frozen: false,
+        channels,
+        files,
+    }
+}
+
+// A fresh start, whatever the state passed: nothing of it is used unless the start is refused.
+pub fn fresh(s: State, area: &[u64], m: u8, w: u16, masks: Masks) -> Called
+    ensures { λ r. ⌜ r ≡ freshBy s (length (now (area .entry))) m w masks ⌝ }
+{
+    let no = fresh_refusal(m, w, masks, area.len());
+    if no != 0 {
+        return Called {
+            refusal: no,
+            state: s,
+        };
+    }
+    let t = fresh_state(m, w, masks);
+    Called {
+        refusal: 0,
+        state: t,
+    }
+}

@@ -1,2 +1,0 @@
-pub mod Seals
-pub mod StepsOn

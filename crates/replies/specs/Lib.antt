@@ -1,3 +1,0 @@
-pub mod Replies
-pub mod Changes
-pub mod Turns

@@ -1,0 +1,155 @@
+-- What a line's code does with its rooms comes to its definition. Assumes nothing.
+use mathlib.Core.Path.{_≡_, refl, sym, ap, ap₂, _∙_, subst}
+use mathlib.Core.Bool.{Bool, true, false}
+use mathlib.Core.List.{List}
+use Prim.Native.Nat.{ℕ, _≤_}
+use native.Mathlib.Omega.{arith}
+use borrow.Author.Tests.{ltb-false}
+use lib.ListN.{length, take, drop, length-take}
+use lib.Seq.{take-all}
+use Rattle.area.specs.Parts.{partOf, paste, pastedIn}
+use Rattle.area.proofs.Pastes.{paste-part, length-paste}
+use Rattle.area.proofs.Marks.{cond-true, cond-false}
+use Rattle.area.proofs.Walks.{or-left}
+use Rattle.session_frame.specs.Digits.{bytesOf}
+use Rattle.session_frame.specs.Fields.{wordsOf}
+use Rattle.session_frame.specs.Writes.{placeAfter}
+use Rattle.session_frame.specs.declared.Frame.{Frame}
+use Rattle.session_frame.specs.declared.Frame.the-variants.{Malformed, Fresh, Open, Close, Ask, Report, Get, Put, Seal, Skip, Freeze, Thaw}
+use Rattle.session_frame.specs.Frames.{frameOf, wordsFrom}
+use Rattle.session_frame.proofs.Laws.Given.{All, report-words, put-words}
+use Rattle.session_frame.specs.Answers.{answerText}
+use Rattle.state.specs.declared.State.{State}
+use Rattle.session_reply.specs.declared.Turned.{Turned}
+use Rattle.session_reply.specs.Replies.{Reply, givenWords, textOf}
+use Rattle.session_reply.specs.Turns.{turnedOn, areaOn, replyOn, answerOn}
+use Rattle.session.specs.Rooms.{mostWords, lacksRooms, givenIn, After, afterLine}
+
+-- ---- the words of a line
+
+taken-most : (n : ℕ) (ws : List ℕ) → length (take n ws) ≤ n
+taken-most n ws = omega (arith, length-take n ws)
+
+pub given-within : (f : Frame) (line : List ℕ) (n : ℕ) → length (givenIn f line n) ≤ n
+unfolding givenIn wordsFrom
+given-within (Report channel unit outcome k) line n = taken-most n (wordsOf (drop 4 (bytesOf line)))
+given-within (Put file k) line n = taken-most n (wordsOf (drop 2 (bytesOf line)))
+given-within Malformed line n = omega arith
+given-within (Fresh m w masks) line n = omega arith
+given-within (Open file channel unit flags size rlen) line n = omega arith
+given-within (Close file) line n = omega arith
+given-within (Ask file op priority) line n = omega arith
+given-within (Get file) line n = omega arith
+given-within (Seal file) line n = omega arith
+given-within (Skip file) line n = omega arith
+given-within Freeze line n = omega arith
+given-within Thaw line n = omega arith
+
+all-taken : (line : List ℕ) (head k n : ℕ) → All line head k → mostWords ≤ n → wordsFrom line head n ≡ wordsOf (drop head (bytesOf line))
+unfolding wordsFrom
+all-taken line head k n a h = take-all n (wordsOf (drop head (bytesOf line))) (omega (arith, a .counts, a .most))
+
+-- a room of 1,024 words takes them all
+pub given-all : (f : Frame) (line : List ℕ) (n : ℕ) → f ≡ frameOf line → mostWords ≤ n → givenIn f line n ≡ givenWords f line
+unfolding givenIn givenWords
+given-all (Report channel unit outcome k) line n e h = all-taken line 4 k n (report-words line channel unit outcome k (sym e)) h
+given-all (Put file k) line n e h = all-taken line 2 k n (put-words line file k (sym e)) h
+given-all Malformed line n e h = refl
+given-all (Fresh m w masks) line n e h = refl
+given-all (Open file channel unit flags size rlen) line n e h = refl
+given-all (Close file) line n e h = refl
+given-all (Ask file op priority) line n e h = refl
+given-all (Get file) line n e h = refl
+given-all (Seal file) line n e h = refl
+given-all (Skip file) line n e h = refl
+given-all Freeze line n e h = refl
+given-all Thaw line n e h = refl
+
+-- what is pasted at the front is what stands there
+module _ (ys xs room : List ℕ) (n : ℕ) (fit : length ys ≤ length xs) (long : n ≡ length ys) (made : room ≡ paste 0 ys xs) where
+  pub room-length : length room ≡ length xs
+  room-length = ap length made ∙ length-paste 0 ys xs (omega arith)
+
+  pub room-front : take n room ≡ ys
+  room-front = ap₂ (λ (k : ℕ) (zs : List ℕ). take k zs) long made ∙ paste-part 0 ys xs (omega arith)
+
+-- ---- without the rooms nothing is done
+
+-- the five parts of what is after a line, each by an equation
+unfoldable pub IsAfter : After → State → ℕ → List ℕ → List ℕ → List ℕ → Type 0
+IsAfter x s n area words out = (s ≡ x .state) × ((n ≡ x .length) × ((area ≡ x .area) × ((words ≡ x .words) × (out ≡ x .out))))
+
+after-is : (x y : After) → y ≡ x → IsAfter x (y .state) (y .length) (y .area) (y .words) (y .out)
+unfolding IsAfter
+after-is x y e = (
+  ap (λ (z : After). z .state) e,
+  (ap (λ (z : After). z .length) e, (ap (λ (z : After). z .area) e, (ap (λ (z : After). z .words) e, ap (λ (z : After). z .out) e))),
+)
+
+-- the same of another reply that is equal
+pub after-same : (x y : After) → x ≡ y → (s : State) (n : ℕ) (area words out : List ℕ) → IsAfter x s n area words out → IsAfter y s n area words out
+after-same x y e s n area words out h = subst (λ (z : After). IsAfter z s n area words out) e h
+
+module _ (r : Reply) (s : State) (area line words out : List ℕ) where
+  pub without-rooms : lacksRooms words out ≡ true → IsAfter (afterLine r s area line words out) s 0 area words out
+  unfolding afterLine
+  without-rooms e = after-is _ (record { state = s; length = 0; area = area; words = words; out = out }) (sym (cond-true _ _ e))
+
+  pub with-rooms : lacksRooms words out ≡ false
+      → IsAfter (afterLine r s area line words out) (r .state) (placeAfter 0 (textOf r) out) (r .area) (paste 0 (givenWords (frameOf line) line) words) (pastedIn 0 (textOf r) out)
+  unfolding afterLine
+  with-rooms e = after-is _ (record {
+    state = r .state;
+    length = placeAfter 0 (textOf r) out;
+    area = r .area;
+    words = paste 0 (givenWords (frameOf line) line) words;
+    out = pastedIn 0 (textOf r) out;
+  }) (sym (cond-false _ _ e))
+
+-- ---- with them
+
+module _ (unsound : Bool) (s : State) (area line words out : List ℕ) (rooms : lacksRooms words out ≡ false) (f : Frame) (frame : f ≡ frameOf line)
+    (n : ℕ) (count : n ≡ length (givenIn f line (length words))) (room : List ℕ) (gave : room ≡ paste 0 (givenIn f line (length words)) words)
+    (x : Turned) (turn : x ≡ turnedOn unsound s area f (take n room)) (after : List ℕ) (moved : after ≡ areaOn unsound s area f (take n room))
+    (shown : List ℕ) (shows : shown ≡ partOf (x .start) (x .count) after) where
+  abbrev reply : Reply
+  reply = answerOn unsound s area line
+
+  given-is : givenIn f line (length words) ≡ givenWords (frameOf line) line
+  given-is =
+      let most : mostWords ≤ length words = ltb-false (length words) mostWords (or-left _ _ rooms) in
+      given-all f line (length words) frame most ∙ ap (λ (g : Frame). givenWords g line) frame
+
+  front-is : take n room ≡ givenWords (frameOf line) line
+  front-is = room-front (givenIn f line (length words)) words room n (given-within f line (length words)) count gave ∙ given-is
+
+  turn-is : x ≡ turnedOn unsound s area (frameOf line) (givenWords (frameOf line) line)
+  turn-is = turn ∙ ap₂ (λ (g : Frame) (ws : List ℕ). turnedOn unsound s area g ws) frame front-is
+
+  area-is : after ≡ areaOn unsound s area (frameOf line) (givenWords (frameOf line) line)
+  area-is = moved ∙ ap₂ (λ (g : Frame) (ws : List ℕ). areaOn unsound s area g ws) frame front-is
+
+  reply-is : _≡_ {A = Reply} (record { state = x .state; area = after; answer = x .answer; words = shown }) reply
+  unfolding answerOn replyOn
+  reply-is =
+      ap (λ (ws : List ℕ). record { state = x .state; area = after; answer = x .answer; words = ws }) shows
+      ∙ ap₂ (λ (y : Turned) (xs : List ℕ). record { state = y .state; area = xs; answer = y .answer; words = partOf (y .start) (y .count) xs }) turn-is area-is
+
+  text-is : answerText (x .answer) shown ≡ textOf reply
+  unfolding textOf
+  text-is = ap (λ (r : Reply). answerText (r .answer) (r .words)) reply-is
+
+  pub written-line : (k : ℕ) (wrote : List ℕ) → k ≡ placeAfter 0 (answerText (x .answer) shown) out → wrote ≡ pastedIn 0 (answerText (x .answer) shown) out
+      → IsAfter (afterLine reply s area line words out) (x .state) k after room wrote
+  unfolding IsAfter
+  written-line k wrote long text =
+      let w = with-rooms reply s area line words out rooms in (
+        ap (λ (r : Reply). r .state) reply-is ∙ w .0,
+        (
+          long ∙ ap (λ (t : List ℕ). placeAfter 0 t out) text-is ∙ w .1 .0,
+          (
+            ap (λ (r : Reply). r .area) reply-is ∙ w .1 .1 .0,
+            (gave ∙ ap (λ (ws : List ℕ). paste 0 ws words) given-is ∙ w .1 .1 .1 .0, text ∙ ap (λ (t : List ℕ). pastedIn 0 t out) text-is ∙ w .1 .1 .1 .1),
+          ),
+        ),
+      )

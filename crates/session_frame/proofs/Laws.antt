@@ -1,0 +1,10 @@
+pub mod Bytes
+pub mod Values
+pub mod Trips
+pub mod Writes
+pub mod Accepts
+pub mod Given
+pub mod Sizes
+pub mod Words
+pub mod Backs
+pub mod Texts

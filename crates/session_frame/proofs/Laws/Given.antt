@@ -1,0 +1,101 @@
+-- The count that a report or a put holds is that of its words, at most 1,024: a room of 1,024 words takes them all. Assumes nothing.
+use mathlib.Core.Path.{_≡_, refl, sym, subst}
+use mathlib.Core.Bool.{Bool, true, false, cond}
+use mathlib.Core.List.{List}
+use Prim.Native.Nat.{ℕ, _+_, _-_, _*_, _/_, _%_, _≤_, _<_}
+use native.Mathlib.Omega.{arith}
+use borrow.Author.Tests.{ltb-false, leb-true, eqb-true}
+use lib.Dec.{ltb, eqb}
+use lib.ListN.{length, drop, length-drop}
+use lib.Seq.{take-all}
+use Rattle.area.proofs.Walks.{by-test, and-left}
+use Rattle.session_frame.specs.Digits.{bytesOf}
+use Rattle.session_frame.specs.Fields.{byteAt, wordsOf}
+use Rattle.session_frame.proofs.Laws.Bytes.{length-bytes, length-words}
+use Rattle.session_frame.specs.declared.Frame.{Frame}
+use Rattle.session_frame.specs.declared.Frame.the-variants.{Malformed, Fresh, Open, Close, Ask, Report, Get, Put, Seal, Skip, Freeze, Thaw}
+use Rattle.session_frame.specs.Frames.{longest, isText, sized, worded, wordsAfter, freshOf, openOf, askOf, reportOf, putOf, kindBy, kindOf, frameOf, wordsFrom}
+use Rattle.session_frame.proofs.Laws.Sizes.{frame-text, frame-other}
+
+-- the count of words that a frame holds is exact, in a line of n bytes
+Exact : Frame → ℕ → Type 0
+Exact (Report c u o words) n = n ≡ 4 + 5 * words
+Exact (Put f words) n = n ≡ 2 + 5 * words
+Exact Malformed n = Unit {0}
+Exact (Fresh m w x) n = Unit {0}
+Exact (Open f c u g s r) n = Unit {0}
+Exact (Close f) n = Unit {0}
+Exact (Ask f o p) n = Unit {0}
+Exact (Get f) n = Unit {0}
+Exact (Seal f) n = Unit {0}
+Exact (Skip f) n = Unit {0}
+Exact Freeze n = Unit {0}
+Exact Thaw n = Unit {0}
+
+either : (t : Bool) (x y : Frame) (n : ℕ) → Exact x n → Exact y n → Exact (cond t x y) n
+either true x y n p q = p
+either false x y n p q = q
+
+exact-worded : (n head : ℕ) (f : Frame) → (n ≡ head + 5 * wordsAfter n head → Exact f n) → Exact (worded n head f) n
+unfolding worded wordsAfter Exact
+exact-worded n head f x =
+    by-test (λ t. ltb n head ≡ t → Exact (cond t Malformed (cond (eqb ((n - head) % 5) 0) f Malformed)) n) (ltb n head) (λ q e. tt)
+    (λ q e. by-test (λ t. eqb ((n - head) % 5) 0 ≡ t → Exact (cond t f Malformed) n) (eqb ((n - head) % 5) 0)
+    (λ r z.
+    let below : head ≤ n = ltb-false n head e in
+    let whole : (n - head) % 5 ≡ 0 = eqb-true ((n - head) % 5) 0 z in
+    x (omega arith)) (λ r z. tt) refl) refl
+
+exact-kind : (k n : ℕ) (b : List ℕ) → Exact (kindBy k n b) n
+unfolding kindBy freshOf openOf askOf reportOf putOf sized Exact
+exact-kind k n b =
+    either (eqb k 0) _ _ n (either (eqb n 14) _ _ n tt tt)
+    (either (eqb k 1) _ _ n (either (eqb n 9) _ _ n tt tt)
+    (either (eqb k 2) _ _ n (either (eqb n 2) _ _ n tt tt)
+    (either (eqb k 3) _ _ n (either (eqb n 4) _ _ n tt tt)
+    (either (eqb k 4) _ _ n (exact-worded n 4 (Report (byteAt b 1) (byteAt b 2) (byteAt b 3) (wordsAfter n 4)) (λ x. x))
+    (either (eqb k 5) _ _ n (either (eqb n 2) _ _ n tt tt)
+    (either (eqb k 6) _ _ n (exact-worded n 2 (Put (byteAt b 1) (wordsAfter n 2)) (λ x. x))
+    (either (eqb k 7) _ _ n (either (eqb n 2) _ _ n tt tt)
+    (either (eqb k 8) _ _ n (either (eqb n 2) _ _ n tt tt)
+    (either (eqb k 9) _ _ n (either (eqb n 1) _ _ n tt tt)
+    (either (eqb k 10) _ _ n (either (eqb n 1) _ _ n tt tt) tt))))))))))
+
+-- of a whole line: exact, and a line that holds a frame is not too long
+exact-frame : (line : List ℕ) → Exact (frameOf line) (length line / 2) × ((frameOf line ≡ Malformed → ⊥) → length line ≤ longest)
+unfolding kindOf isText Exact
+exact-frame line =
+    by-test (λ t. isText line ≡ t → Exact (frameOf line) (length line / 2) × ((frameOf line ≡ Malformed → ⊥) → length line ≤ longest)) (isText line)
+    (λ q t. (
+      subst (λ (f : Frame). Exact f (length line / 2)) (sym (frame-text line t)) (exact-kind (byteAt (bytesOf line) 0) (length line / 2) (bytesOf line)),
+      λ h. leb-true (length line) longest (and-left _ _ t),
+    ))
+    (λ q t. (subst (λ (f : Frame). Exact f (length line / 2)) (sym (frame-other line t)) tt, λ h. absurd (h (frame-other line t))))
+    refl
+
+-- the room of 1,024 words takes all words after the first `head` bytes, and they are `words` many
+pub record All (line : List ℕ) (head words : ℕ) : Type 0 where
+  pub most : words ≤ 1024
+  pub counts : length (wordsOf (drop head (bytesOf line))) ≡ words
+  pub all : wordsFrom line head 1024 ≡ wordsOf (drop head (bytesOf line))
+
+all-of : (line : List ℕ) (head words : ℕ) → 1 < head → length line / 2 ≡ head + 5 * words → length line ≤ longest → All line head words
+unfolding wordsFrom
+all-of line head words h e short =
+    let counts : length (wordsOf (drop head (bytesOf line))) ≡ words =
+    omega (arith, length-words (drop head (bytesOf line)), length-drop head (bytesOf line), length-bytes line) in
+    record { most = omega arith; counts = counts; all = take-all 1024 (wordsOf (drop head (bytesOf line))) (omega arith) }
+
+pub report-words : (line : List ℕ) (c u o words : ℕ) → frameOf line ≡ Report c u o words → All line 4 words
+unfolding Exact
+report-words line c u o words e =
+    let x = exact-frame line in
+    let n : length line / 2 ≡ 4 + 5 * words = subst (λ (f : Frame). Exact f (length line / 2)) e (x .0) in
+    all-of line 4 words (omega arith) n (x .1 (λ m. let z : _≡_ {A = ℕ} 0 1 = cc in omega arith))
+
+pub put-words : (line : List ℕ) (f words : ℕ) → frameOf line ≡ Put f words → All line 2 words
+unfolding Exact
+put-words line f words e =
+    let x = exact-frame line in
+    let n : length line / 2 ≡ 2 + 5 * words = subst (λ (g : Frame). Exact g (length line / 2)) e (x .0) in
+    all-of line 2 words (omega arith) n (x .1 (λ m. let z : _≡_ {A = ℕ} 0 1 = cc in omega arith))

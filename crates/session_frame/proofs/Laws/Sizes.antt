@@ -1,0 +1,84 @@
+-- The cases of a frame's size and kind. Assumes nothing.
+use mathlib.Core.Path.{_≡_}
+use mathlib.Core.Bool.{true, false, _&&_}
+use mathlib.Core.List.{List}
+use Prim.Native.Nat.{ℕ, _-_, _/_, _%_, _≤_, _<_}
+use native.Mathlib.Omega.{arith}
+use borrow.Author.Tests.{lt-ltb, le-ltb, lt-leb, le-leb, eq-eqb, ne-eqb}
+use lib.Dec.{eqb}
+use lib.ListN.{length}
+use Rattle.area.specs.Lists.{allOf}
+use Rattle.session_frame.specs.Digits.{isDigit, bytesOf}
+use Rattle.session_frame.specs.Fields.{byteAt}
+use Rattle.session_frame.proofs.Laws.Bytes.{length-bytes}
+use Rattle.session_frame.specs.declared.Frame.{Frame}
+use Rattle.session_frame.specs.declared.Frame.the-variants.{Malformed}
+use Rattle.session_frame.specs.Frames.{longest, isText, sized, worded, wordsAfter, kindBy, kindOf, frameOf}
+
+module _ (n size : ℕ) (f : Frame) where
+  pub sized-yes : n ≡ size → sized n size f ≡ f
+  unfolding sized
+  sized-yes h = rw (eq-eqb n size h)
+
+  pub sized-no : (n ≡ size → ⊥) → sized n size f ≡ Malformed
+  unfolding sized
+  sized-no h = rw (ne-eqb n size h)
+
+  pub worded-short : n < size → worded n size f ≡ Malformed
+  unfolding worded
+  worded-short h = rw (lt-ltb n size h)
+
+  pub worded-yes : size ≤ n → (n - size) % 5 ≡ 0 → worded n size f ≡ f
+  unfolding worded
+  worded-yes h k = rw (le-ltb n size h, eq-eqb ((n - size) % 5) 0 k)
+
+  pub worded-no : size ≤ n → ((n - size) % 5 ≡ 0 → ⊥) → worded n size f ≡ Malformed
+  unfolding worded
+  worded-no h k = rw (le-ltb n size h, ne-eqb ((n - size) % 5) 0 k)
+
+pub words-none : (n head : ℕ) → n < head → wordsAfter n head ≡ 0
+unfolding wordsAfter
+words-none n head h = let e : n - head ≡ 0 = omega arith in rw e
+
+-- a line that is too long is no text
+pub text-long : (line : List ℕ) → longest < length line → isText line ≡ false
+unfolding isText
+text-long line h = rw (lt-leb (length line) longest h)
+
+pub text-short : (line : List ℕ) → length line ≤ longest → isText line ≡ (eqb (length line % 2) 0 && allOf isDigit line)
+unfolding isText
+text-short line h = rw (le-leb (length line) longest h)
+
+-- ---- the first byte
+
+pub kind-is : (k n : ℕ) (b : List ℕ) → byteAt b 0 ≡ k → kindOf n b ≡ kindBy k n b
+unfolding kindOf
+kind-is k n b h = rw h
+
+pub kind-none : (k n : ℕ) (b : List ℕ) → (k ≡ 0 → ⊥) → (k ≡ 1 → ⊥) → (k ≡ 2 → ⊥) → (k ≡ 3 → ⊥) → (k ≡ 4 → ⊥) → (k ≡ 5 → ⊥)
+    → (k ≡ 6 → ⊥) → (k ≡ 7 → ⊥) → (k ≡ 8 → ⊥) → (k ≡ 9 → ⊥) → (k ≡ 10 → ⊥) → kindBy k n b ≡ Malformed
+unfolding kindBy
+kind-none k n b h0 h1 h2 h3 h4 h5 h6 h7 h8 h9 h10 =
+    rw (
+      ne-eqb k 0 h0,
+      ne-eqb k 1 h1,
+      ne-eqb k 2 h2,
+      ne-eqb k 3 h3,
+      ne-eqb k 4 h4,
+      ne-eqb k 5 h5,
+      ne-eqb k 6 h6,
+      ne-eqb k 7 h7,
+      ne-eqb k 8 h8,
+      ne-eqb k 9 h9,
+      ne-eqb k 10 h10,
+    )
+
+-- ---- a whole line
+
+pub frame-text : (line : List ℕ) → isText line ≡ true → frameOf line ≡ kindOf (length line / 2) (bytesOf line)
+unfolding frameOf
+frame-text line t = rw (t, length-bytes)
+
+pub frame-other : (line : List ℕ) → isText line ≡ false → frameOf line ≡ Malformed
+unfolding frameOf
+frame-other line t = rw t

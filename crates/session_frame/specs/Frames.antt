@@ -1,0 +1,82 @@
+-- The frames of a session (document 01, "The session program"). Assumes nothing.
+use mathlib.Core.Bool.{Bool, cond, _&&_}
+use mathlib.Core.List.{List}
+use Prim.Native.Nat.{ℕ, _-_, _/_, _%_}
+use lib.Dec.{ltb, leb, eqb}
+use lib.ListN.{length, take, drop}
+use Rattle.area.specs.Lists.{allOf}
+use Rattle.session_frame.specs.Digits.{isDigit, bytesOf}
+use Rattle.session_frame.specs.Fields.{byteAt, sizeAt, wordsOf}
+use Rattle.session_frame.specs.declared.Frame.{Frame}
+use Rattle.session_frame.specs.declared.Frame.the-variants.{Malformed, Fresh, Open, Close, Ask, Report, Get, Put, Seal, Skip, Freeze, Thaw}
+
+-- "Over 10,248 digits is malformed."
+abbrev pub longest : ℕ
+longest = 10248
+
+-- "One frame a line, pairs of upper-case hexadecimal digits"
+unfoldable pub isText : List ℕ → Bool
+isText line = leb (length line) longest && (eqb (length line % 2) 0 && allOf isDigit line)
+
+-- ---- a frame of n bytes; the numbers are those of its bytes b
+
+-- a frame of exactly this size
+unfoldable pub sized : ℕ → ℕ → Frame → Frame
+sized n size f = cond (eqb n size) f Malformed
+
+-- so many bytes, and whole words of five bytes after them
+unfoldable pub worded : ℕ → ℕ → Frame → Frame
+worded n head f = cond (ltb n head) Malformed (cond (eqb ((n - head) % 5) 0) f Malformed)
+
+unfoldable pub wordsAfter : ℕ → ℕ → ℕ
+wordsAfter n head = (n - head) / 5
+
+-- "00 m W and five two-byte unit masks (bit u for unit u)"
+unfoldable pub freshOf : ℕ → List ℕ → Frame
+freshOf n b =
+    sized n 14
+    (Fresh (byteAt b 1) (sizeAt b 2)
+    (record { a = sizeAt b 4; b = sizeAt b 6; c = sizeAt b 8; d = sizeAt b 10; e = sizeAt b 12 }))
+
+-- "01 file channel unit flags B r"
+unfoldable pub openOf : ℕ → List ℕ → Frame
+openOf n b = sized n 9 (Open (byteAt b 1) (byteAt b 2) (byteAt b 3) (byteAt b 4) (sizeAt b 5) (sizeAt b 7))
+
+-- "03 file operation(0 read, 1 write, 2 mark) priority(0/1)"
+unfoldable pub askOf : ℕ → List ℕ → Frame
+askOf n b = sized n 4 (Ask (byteAt b 1) (byteAt b 2) (byteAt b 3))
+
+-- "04 channel unit outcome words"
+unfoldable pub reportOf : ℕ → List ℕ → Frame
+reportOf n b = worded n 4 (Report (byteAt b 1) (byteAt b 2) (byteAt b 3) (wordsAfter n 4))
+
+-- "06 put file words"
+unfoldable pub putOf : ℕ → List ℕ → Frame
+putOf n b = worded n 2 (Put (byteAt b 1) (wordsAfter n 2))
+
+-- "00 .. · 01 .. · 02 close file · 03 .. · 04 .. · 05 get file · 06 .. · 07 seal file · 08 skip file · 09 freeze · 0A thaw."
+unfoldable pub kindBy : ℕ → ℕ → List ℕ → Frame
+kindBy kind n b =
+    cond (eqb kind 0) (freshOf n b)
+    (cond (eqb kind 1) (openOf n b)
+    (cond (eqb kind 2) (sized n 2 (Close (byteAt b 1)))
+    (cond (eqb kind 3) (askOf n b)
+    (cond (eqb kind 4) (reportOf n b)
+    (cond (eqb kind 5) (sized n 2 (Get (byteAt b 1)))
+    (cond (eqb kind 6) (putOf n b)
+    (cond (eqb kind 7) (sized n 2 (Seal (byteAt b 1)))
+    (cond (eqb kind 8) (sized n 2 (Skip (byteAt b 1)))
+    (cond (eqb kind 9) (sized n 1 Freeze)
+    (cond (eqb kind 10) (sized n 1 Thaw) Malformed))))))))))
+
+unfoldable pub kindOf : ℕ → List ℕ → Frame
+kindOf n b = kindBy (byteAt b 0) n b
+
+-- the frame that a line is
+unfoldable pub frameOf : List ℕ → Frame
+frameOf line = cond (isText line) (kindOf (length (bytesOf line)) (bytesOf line)) Malformed
+
+-- ---- the words of a line from byte `start` on, at most as many as a room takes
+
+unfoldable pub wordsFrom : List ℕ → ℕ → ℕ → List ℕ
+wordsFrom line start room = take room (wordsOf (drop start (bytesOf line)))

@@ -1,0 +1,120 @@
+// The kinds of frames, each from a line of digits of which n bytes count.
+ghost use mathlib.Core.Path.{_≡_};
+ghost use Rattle.session_frame.specs.Digits.{bytesOf};
+ghost use Rattle.session_frame.specs.Frames.{sized, worded, wordsAfter, freshOf, openOf, askOf, reportOf, putOf};
+use crate::Frame;
+use crate::Masks;
+use crate::read::byte_at;
+use crate::read::size_at;
+
+// The frame f if the line has exactly `size` bytes.
+pub fn if_sized(n: usize, size: usize, f: Frame) -> Frame
+    ensures { λ r. ⌜ r ≡ sized n size f ⌝ }
+{
+    if n == size {
+        return f;
+    }
+    Frame::Malformed
+}
+
+// The frame f if the line has `head` bytes and whole words after them.
+pub fn if_worded(n: usize, head: usize, f: Frame) -> Frame
+    ensures { λ r. ⌜ r ≡ worded n head f ⌝ }
+{
+    if n < head {
+        return Frame::Malformed;
+    }
+    if (n - head) % 5 == 0 {
+        return f;
+    }
+    Frame::Malformed
+}
+
+// How many words come after `head` bytes.
+fn words_after(n: usize, head: usize) -> usize
+    ensures { λ r. ⌜ r ≡ wordsAfter n head ⌝ }
+{
+    if n < head {
+        return 0;
+    }
+    (n - head) / 5
+}
+
+// A fresh start.
+pub fn fresh(line: &[u8], n: usize) -> Frame
+    ensures { λ r. ⌜ r ≡ freshOf n (bytesOf (now (line .entry))) ⌝ }
+{
+    let masks = Masks {
+        a: size_at(line, 4),
+        b: size_at(line, 6),
+        c: size_at(line, 8),
+        d: size_at(line, 10),
+        e: size_at(line, 12),
+    };
+    let m = byte_at(line, 1);
+    let w = size_at(line, 2);
+    if_sized(n, 14, Frame::Fresh { m, w, masks })
+}
+
+// The open of a file.
+pub fn opening(line: &[u8], n: usize) -> Frame
+    ensures { λ r. ⌜ r ≡ openOf n (bytesOf (now (line .entry))) ⌝ }
+{
+    let file = byte_at(line, 1);
+    let channel = byte_at(line, 2);
+    let unit = byte_at(line, 3);
+    let flags = byte_at(line, 4);
+    let size = size_at(line, 5);
+    let rlen = size_at(line, 7);
+    if_sized(
+        n,
+        9,
+        Frame::Open {
+            file,
+            channel,
+            unit,
+            flags,
+            size,
+            rlen,
+        },
+    )
+}
+
+// A request.
+pub fn ask(line: &[u8], n: usize) -> Frame
+    ensures { λ r. ⌜ r ≡ askOf n (bytesOf (now (line .entry))) ⌝ }
+{
+    let file = byte_at(line, 1);
+    let op = byte_at(line, 2);
+    let priority = byte_at(line, 3);
+    if_sized(n, 4, Frame::Ask { file, op, priority })
+}
+
+// A report, with its words.
+pub fn report(line: &[u8], n: usize) -> Frame
+    ensures { λ r. ⌜ r ≡ reportOf n (bytesOf (now (line .entry))) ⌝ }
+{
+    let channel = byte_at(line, 1);
+    let unit = byte_at(line, 2);
+    let outcome = byte_at(line, 3);
+    let words = words_after(n, 4);
+    if_worded(
+        n,
+        4,
+        Frame::Report {
+            channel,
+            unit,
+            outcome,
+            words,
+        },
+    )
+}
+
+// A put, with its words.
+pub fn put(line: &[u8], n: usize) -> Frame
+    ensures { λ r. ⌜ r ≡ putOf n (bytesOf (now (line .entry))) ⌝ }
+{
+    let file = byte_at(line, 1);
+    let words = words_after(n, 2);
+    if_worded(n, 2, Frame::Put { file, words })
+}

@@ -1,0 +1,5 @@
+pub mod Feeds
+pub mod Grows
+pub mod Holding
+pub mod Sessions
+pub mod Steps

@@ -1,0 +1,249 @@
+-- By the inner forms a frame comes to what the public definitions of the calls say, where `unsound` is the judgement of the state. Assumes nothing.
+use mathlib.Core.Path.{_≡_, refl, sym, ap, ap₂, _∙_}
+use mathlib.Core.Bool.{Bool, true, false, not, cond}
+use mathlib.Core.List.{List, []}
+use Prim.Native.Nat.{ℕ}
+use borrow.Author.Tests.{ne-eqb, eqb-false}
+use lib.Dec.{eqb}
+use lib.ListN.{length}
+use lib.Seq.{set-getD}
+use Rattle.area.specs.Parts.{partOf}
+use Rattle.area.specs.Refusals.{lowest}
+use Rattle.area.proofs.Marks.{cond-true, cond-false}
+use Rattle.area.proofs.Walks.{by-test}
+use Rattle.session_frame.specs.declared.Answer.the-variants as answer
+use Rattle.channel.specs.declared.Channel.{Channel}
+use Rattle.channel_outcomes.specs.Rules.{resultNumber}
+use Rattle.channel_turns.specs.Scans.{workingIn, unitNumber}
+use Rattle.channel_turns.specs.Turns.{judgeOf, bookOf}
+use Rattle.file.specs.declared.File.{File}
+use Rattle.file.specs.Sizes.{closedFile}
+use Rattle.session_frame.specs.declared.Masks as frame
+use Rattle.session_frame.specs.declared.Frame.{Frame}
+use Rattle.session_frame.specs.declared.Frame.the-variants.{Malformed, Fresh, Open, Close, Ask, Report, Get, Put, Seal, Skip, Freeze, Thaw}
+use Rattle.session_frame.specs.Frames.{frameOf}
+use Rattle.pool.specs.Free.{fileCount}
+use Rattle.state.specs.declared.State.{State}
+use Rattle.state.specs.Places.{noChannel, fileAt, channelAt}
+use Rattle.state.specs.Stores.{withFile, withChannel}
+use Rattle.state_sound.specs.Soundness.{sound}
+use Rattle.pack_start.specs.Fresh.{freshRefusal, freshState, freshBy}
+use Rattle.call_open.specs.Open.{openOn}
+use Rattle.pack_open.specs.Open.{openChange, openBy}
+use Rattle.call_open.specs.Close.{closeOn}
+use Rattle.pack_open.specs.Close.{closeChange, closeBy}
+use Rattle.pack_start.specs.Freeze.{stateRows, frozenState, thawedState, freezeBy, thawBy}
+use Rattle.call_request.specs.declared.AskChange.{AskChange}
+use Rattle.call_request.specs.declared.ReportChange.{ReportChange}
+use Rattle.pack_request.specs.Changes.{changedState}
+use Rattle.call_request.specs.Ask.{askRefusal, askedFile, askedChannel, askOn}
+use Rattle.pack_request.specs.Calls.{askChange, askBy}
+use Rattle.call_request.specs.Report.{effectAt, deliveryError, shownStart, shownCount, reportedFile, reportRefusal, refusedReport, reportOn}
+use Rattle.pack_request.specs.Calls.{fileOf, reportChange, reportBy, reportByArea}
+use Rattle.call_record.specs.Get.{getOn}
+use Rattle.pack_record.specs.Gets.{getChange, getBy, getWords}
+use Rattle.call_record.specs.Skip.{skipOn}
+use Rattle.pack_record.specs.Skips.{skipChange, skipBy}
+use Rattle.call_record.specs.Put.{putOn}
+use Rattle.pack_record.specs.Puts.{putChange, putBy, putByArea}
+use Rattle.call_record.specs.Seal.{sealOn}
+use Rattle.pack_record.specs.Seals.{sealChange, sealBy, sealByArea}
+use Rattle.file_input.specs.Histories.{shown}
+use Rattle.session_reply.specs.Replies.{answerOr, quietly, masksOf, gotAnswer, givenWords, replyTo, answerTo}
+use Rattle.session_reply.specs.Changes.{openChangeOn, closeChangeOn, askChangeOn, skipChangeOn, reportChangeOn, reportAreaOn, getChangeOn, putChangeOn, putAreaOn, sealChangeOn, sealAreaOn}
+use Rattle.session_reply.specs.Turns.{stateNumber, wholeOf, changeOf, areaOf, turnedFrom, areaFrom, replyOn, answerOn}
+
+-- ---- what is stored where nothing changed
+
+same-channel : (s : State) (j : ℕ) → withChannel s j (channelAt s j) ≡ s
+unfolding withChannel
+same-channel s j = ap (λ (cs : List Channel). record { m = s .m; w = s .w; frozen = s .frozen; channels = cs; files = s .files }) (set-getD (s .channels) j noChannel)
+
+same-file : (s : State) (i : ℕ) → withFile s i (fileAt s i) ≡ s
+unfolding withFile
+same-file s i = ap (λ (fs : List File). record { m = s .m; w = s .w; frozen = s .frozen; channels = s .channels; files = fs }) (set-getD (s .files) i closedFile)
+
+same-both : (s : State) (i j : ℕ) → withFile (withChannel s j (channelAt s j)) i (fileAt s i) ≡ s
+same-both s i j = ap (λ (t : State). withFile t i (fileAt s i)) (same-channel s j) ∙ same-file s i
+
+-- a call that changes its file if it is not refused
+stored-file : (s : State) (i j n : ℕ) (g : File) → ((n ≡ 0 → ⊥) → g ≡ fileAt s i)
+    → withFile (withChannel s j (channelAt s j)) i g ≡ cond (eqb n 0) (withFile s i g) s
+stored-file s i j n g alone =
+    by-test (λ t. eqb n 0 ≡ t → withFile (withChannel s j (channelAt s j)) i g ≡ cond (eqb n 0) (withFile s i g) s) (eqb n 0)
+    (λ q e. ap (λ (t : State). withFile t i g) (same-channel s j) ∙ sym (cond-true _ _ e))
+    (λ q e. ap (withFile (withChannel s j (channelAt s j)) i) (alone (eqb-false n 0 e)) ∙ same-both s i j ∙ sym (cond-false _ _ e))
+    refl
+
+-- a call that changes its file and its channel if it is not refused
+stored-both : (s : State) (i j n : ℕ) (g : File) (d : Channel) → ((n ≡ 0 → ⊥) → (g ≡ fileAt s i) × (d ≡ channelAt s j))
+    → withFile (withChannel s j d) i g ≡ changedState s i j n g d
+unfolding changedState
+stored-both s i j n g d alone =
+    by-test (λ t. eqb n 0 ≡ t → withFile (withChannel s j d) i g ≡ cond (eqb n 0) (withFile (withChannel s j d) i g) s) (eqb n 0)
+    (λ q e. sym (cond-true _ _ e))
+    (λ q e.
+    let a = alone (eqb-false n 0 e) in
+    ap₂ (λ (x : Channel) (f : File). withFile (withChannel s j x) i f) (a .1) (a .0) ∙ same-both s i j ∙ sym (cond-false _ _ e))
+    refl
+
+-- ---- a refused call leaves its file and its channel
+
+refused-file : (n : ℕ) (f g : File) → (n ≡ 0 → ⊥) → cond (eqb n 0) g f ≡ f
+refused-file n f g h = cond-false _ _ (ne-eqb n 0 h)
+
+refused-ask : (t : Bool) (a b : AskChange) → a .refusal ≡ 0 → ((cond t a b) .refusal ≡ 0 → ⊥) → cond t a b ≡ b
+refused-ask true a b z h = absurd (h z)
+refused-ask false a b z h = refl
+
+refused-report : (t : Bool) (a b : ReportChange) → a .refusal ≡ 0 → ((cond t a b) .refusal ≡ 0 → ⊥) → cond t a b ≡ b
+refused-report true a b z h = absurd (h z)
+refused-report false a b z h = refl
+
+ask-alone : (wrong : Bool) (f : File) (c : Channel) (op priority : ℕ) (frozen : Bool) → (askOn wrong f c op priority frozen .refusal ≡ 0 → ⊥)
+    → (askOn wrong f c op priority frozen .file ≡ f) × (askOn wrong f c op priority frozen .channel ≡ c)
+unfolding askOn
+ask-alone wrong f c op priority frozen h =
+    let e = refused-ask (eqb (askRefusal wrong f c op priority) 0)
+    (record { refusal = 0; working = unitNumber (workingIn (askedChannel f c op priority frozen)); file = askedFile op f; channel = askedChannel f c op priority frozen })
+    (record { refusal = askRefusal wrong f c op priority; working = 0; file = f; channel = c }) refl h in
+    (ap (λ (x : AskChange). x .file) e, ap (λ (x : AskChange). x .channel) e)
+
+report-alone : (wrong : Bool) (f : File) (c : Channel) (u outcome w : ℕ) (frozen : Bool) (area words : List ℕ)
+    → (reportOn wrong f c u outcome w frozen area words .refusal ≡ 0 → ⊥)
+    → (reportOn wrong f c u outcome w frozen area words .file ≡ f) × (reportOn wrong f c u outcome w frozen area words .channel ≡ c)
+unfolding reportOn
+report-alone wrong f c u outcome w frozen area words h =
+    let x = effectAt c u outcome in
+    let e = refused-report (eqb (reportRefusal wrong f c u outcome w area words) 0)
+    (record {
+      refusal = 0;
+      result = resultNumber (judgeOf c u outcome);
+      error = deliveryError x f words;
+      working = unitNumber (workingIn (bookOf c u (judgeOf c u outcome) frozen));
+      start = shownStart x w f;
+      count = shownCount x f;
+      file = reportedFile x f (length words) (deliveryError x f words);
+      channel = bookOf c u (judgeOf c u outcome) frozen;
+    }) (refusedReport (reportRefusal wrong f c u outcome w area words) f c) refl h in
+    (ap (λ (x : ReportChange). x .file) e, ap (λ (x : ReportChange). x .channel) e)
+
+-- ---- the calls that judge the state alone
+
+state-chosen : (b : Bool) (x y : State) → cond b y x ≡ cond (eqb (stateNumber b) 0) x y
+state-chosen true x y = refl
+state-chosen false x y = refl
+
+-- ---- every frame
+
+module _ (s : State) (area words : List ℕ) where
+  Right : Frame → Type 0
+  Right frame = replyOn (not (sound s)) s area words frame ≡ replyTo s area words frame
+
+  malformed-right : Right Malformed
+  unfolding Right replyOn turnedFrom areaFrom wholeOf changeOf areaOf replyTo
+  malformed-right = ap (λ (u : State). quietly 1 u area) (same-both s fileCount (fileAt s fileCount .channel))
+
+  fresh-right : (m w : ℕ) (masks : frame.Masks) → Right (Fresh m w masks)
+  unfolding Right replyOn turnedFrom areaFrom wholeOf changeOf areaOf replyTo freshBy
+  fresh-right m w masks =
+      let n = freshRefusal m w (masksOf masks) (length area) in
+      let t = cond (eqb (freshRefusal m w (masksOf masks) (length area)) 0) (freshState m w (masksOf masks)) s in
+      ap (λ (u : State). quietly (freshRefusal m w (masksOf masks) (length area)) u area) (same-both t fileCount (fileAt t fileCount .channel))
+
+  open-right : (file channel unit flags size rlen : ℕ) → Right (Open file channel unit flags size rlen)
+  unfolding Right replyOn turnedFrom areaFrom wholeOf changeOf areaOf replyTo openBy openChangeOn openOn
+  open-right file channel unit flags size rlen =
+      let x = openChange s file channel unit flags size rlen in
+      ap (λ (u : State). quietly (x .refusal) u area) (stored-file s file channel (x .refusal) (x .file) (refused-file (x .refusal) (fileAt s file) _))
+
+  close-right : (file : ℕ) → Right (Close file)
+  unfolding Right replyOn turnedFrom areaFrom wholeOf changeOf areaOf replyTo closeBy closeChangeOn closeOn
+  close-right file =
+      let x = closeChange s file in
+      ap (λ (u : State). quietly (x .refusal) u area) (stored-file s file (fileAt s file .channel) (x .refusal) (x .file) (refused-file (x .refusal) (fileAt s file) _))
+
+  ask-right : (file op priority : ℕ) → Right (Ask file op priority)
+  unfolding Right replyOn turnedFrom areaFrom wholeOf changeOf areaOf replyTo askBy askChangeOn
+  ask-right file op priority =
+      let x = askChange s file op priority in
+      ap (λ (u : State). record { state = u; area = area; answer = answerOr (x .refusal) (answer.Asked (x .working)); words = [] })
+      (stored-both s file (fileAt s file .channel) (x .refusal) (x .file) (x .channel) (ask-alone _ _ _ _ _ _))
+
+  report-right : (channel unit outcome n : ℕ) → Right (Report channel unit outcome n)
+  unfolding Right replyOn turnedFrom areaFrom wholeOf changeOf areaOf replyTo reportBy reportByArea reportChangeOn reportAreaOn
+  report-right channel unit outcome n =
+      let x = reportChange s area channel unit outcome words in
+      ap (λ (u : State). record {
+        state = u;
+        area = reportByArea s area channel unit outcome words;
+        answer = answerOr (x .refusal) (answer.Reported (x .result) (x .error) (x .working));
+        words = partOf (x .start) (x .count) (reportByArea s area channel unit outcome words);
+      }) (stored-both s (fileOf s channel unit) channel (x .refusal) (x .file) (x .channel) (report-alone _ _ _ _ _ _ _ _ _))
+
+  get-right : (file : ℕ) → Right (Get file)
+  unfolding Right replyOn turnedFrom areaFrom wholeOf changeOf areaOf replyTo getBy getWords getChangeOn getOn
+  get-right file =
+      let x = getChange s area file in
+      ap (λ (u : State). record { state = u; area = area; answer = answerOr (x .refusal) (gotAnswer (x .got)); words = shown area (x .got) })
+      (stored-file s file (fileAt s file .channel) (x .refusal) (x .file) (refused-file (x .refusal) (fileAt s file) _))
+
+  put-right : (file n : ℕ) → Right (Put file n)
+  unfolding Right replyOn turnedFrom areaFrom wholeOf changeOf areaOf replyTo putBy putByArea putChangeOn putAreaOn putOn
+  put-right file n =
+      let x = putChange s area file words in
+      ap (λ (u : State). quietly (x .refusal) u (putByArea s area file words))
+      (stored-file s file (fileAt s file .channel) (x .refusal) (x .file) (refused-file (x .refusal) (fileAt s file) _))
+
+  seal-right : (file : ℕ) → Right (Seal file)
+  unfolding Right replyOn turnedFrom areaFrom wholeOf changeOf areaOf replyTo sealBy sealByArea sealChangeOn sealAreaOn sealOn
+  seal-right file =
+      let x = sealChange s area file in
+      ap (λ (u : State). quietly (x .refusal) u (sealByArea s area file))
+      (stored-file s file (fileAt s file .channel) (x .refusal) (x .file) (refused-file (x .refusal) (fileAt s file) _))
+
+  skip-right : (file : ℕ) → Right (Skip file)
+  unfolding Right replyOn turnedFrom areaFrom wholeOf changeOf areaOf replyTo skipBy skipChangeOn skipOn
+  skip-right file =
+      let x = skipChange s file in
+      ap (λ (u : State). quietly (x .refusal) u area)
+      (stored-file s file (fileAt s file .channel) (x .refusal) (x .file) (refused-file (x .refusal) (fileAt s file) _))
+
+  freeze-right : Right Freeze
+  unfolding Right replyOn turnedFrom areaFrom wholeOf changeOf areaOf replyTo freezeBy lowest stateRows
+  freeze-right =
+      let t = cond (not (sound s)) s (frozenState s) in
+      ap (λ (u : State). quietly (stateNumber (not (sound s))) u area)
+      (same-both t fileCount (fileAt t fileCount .channel) ∙ state-chosen (not (sound s)) (frozenState s) s)
+
+  thaw-right : Right Thaw
+  unfolding Right replyOn turnedFrom areaFrom wholeOf changeOf areaOf replyTo thawBy lowest stateRows
+  thaw-right =
+      let t = cond (not (sound s)) s (thawedState s) in
+      ap (λ (u : State). quietly (stateNumber (not (sound s))) u area)
+      (same-both t fileCount (fileAt t fileCount .channel) ∙ state-chosen (not (sound s)) (thawedState s) s)
+
+  pub turned-right : (frame : Frame) → replyOn (not (sound s)) s area words frame ≡ replyTo s area words frame
+  unfolding Right
+  turned-right Malformed = malformed-right
+  turned-right (Fresh m w masks) = fresh-right m w masks
+  turned-right (Open file channel unit flags size rlen) = open-right file channel unit flags size rlen
+  turned-right (Close file) = close-right file
+  turned-right (Ask file op priority) = ask-right file op priority
+  turned-right (Report channel unit outcome n) = report-right channel unit outcome n
+  turned-right (Get file) = get-right file
+  turned-right (Put file n) = put-right file n
+  turned-right (Seal file) = seal-right file
+  turned-right (Skip file) = skip-right file
+  turned-right Freeze = freeze-right
+  turned-right Thaw = thaw-right
+
+-- ---- every line
+
+pub judged-right : (s : State) (area line : List ℕ) → answerOn (not (sound s)) s area line ≡ answerTo s area line
+unfolding answerOn answerTo
+judged-right s area line = turned-right s area (givenWords (frameOf line) line) (frameOf line)
+
+-- of a sound state nothing has to be judged
+pub sound-right : (s : State) (area line : List ℕ) → sound s ≡ true → answerOn false s area line ≡ answerTo s area line
+sound-right s area line e = ap (λ (b : Bool). answerOn (not b) s area line) (sym e) ∙ judged-right s area line

@@ -1,0 +1,98 @@
+-- What every line keeps: a sound state, the counts of its files and channels, and the length of the area. Assumes nothing.
+use mathlib.Core.Path.{_≡_, refl, ap, _∙_, subst}
+use mathlib.Core.Bool.{Bool, true, false, not}
+use mathlib.Core.List.{List}
+use Prim.Native.Nat.{ℕ}
+use borrow.Author.Tests.{eqb-true}
+use lib.Dec.{eqb}
+use lib.ListN.{length, length-set}
+use Rattle.area.proofs.Marks.{cond-false}
+use Rattle.file.specs.declared.File.{File}
+use Rattle.session_frame.specs.declared.Frame.{Frame}
+use Rattle.session_frame.specs.declared.Frame.the-variants.{Malformed, Fresh, Open, Close, Ask, Report, Get, Put, Seal, Skip, Freeze, Thaw}
+use Rattle.session_frame.specs.Frames.{frameOf}
+use Rattle.state.specs.declared.State.{State}
+use Rattle.state.specs.Stores.{withFile, withChannel}
+use Rattle.state_sound.specs.Soundness.{sound}
+use Rattle.pack_start.specs.Fresh.{freshBy}
+use Rattle.pack_start.proofs.FreshTheorems.{fresh-kept}
+use Rattle.pack_open.proofs.OpenTheorems.{open-kept}
+use Rattle.pack_open.proofs.CloseTheorems.{close-kept}
+use Rattle.pack_start.proofs.FreezeTheorems.{freeze-kept, thaw-kept}
+use Rattle.pack_request.proofs.AskTheorems.{ask-kept}
+use Rattle.pack_request.proofs.ReportTheorems.{report-kept}
+use Rattle.pack_request.proofs.ReportWords.{report-area-length}
+use Rattle.pack_record.proofs.GetTheorems.{get-kept}
+use Rattle.pack_record.proofs.SkipTheorems.{skip-kept}
+use Rattle.pack_record.proofs.PutTheorems.{put-kept, put-area-frame}
+use Rattle.pack_record.proofs.SealTheorems.{seal-kept, seal-area-frame}
+use Rattle.session_reply.specs.Replies.{Reply, masksOf, givenWords, replyTo, answerTo}
+use Rattle.session_reply.specs.Turns.{wholeOf, turnedFrom, replyOn}
+use Rattle.session_reply.proofs.Stores.{Counts, whole-counts}
+use Rattle.session_reply.proofs.Agrees.{turned-right}
+
+-- ---- a sound state stays sound
+
+fresh-sound : (s : State) (n m w : ℕ) (masks : _) → sound s ≡ true → sound (freshBy s n m w masks .state) ≡ true
+unfolding freshBy
+fresh-sound s n m w masks h = go (eqb (freshBy s n m w masks .refusal) 0) refl
+  where
+    go : (t : Bool) → eqb (freshBy s n m w masks .refusal) 0 ≡ t → sound (freshBy s n m w masks .state) ≡ true
+    go true e = fresh-kept s n m w masks (eqb-true (freshBy s n m w masks .refusal) 0 e)
+    go false e = ap sound (cond-false _ _ e) ∙ h
+
+reply-kept : (s : State) (area words : List ℕ) (frame : Frame) → Counts s → sound s ≡ true → sound (replyTo s area words frame .state) ≡ true
+unfolding replyTo
+reply-kept s area words Malformed k h = h
+reply-kept s area words (Fresh m w masks) k h = fresh-sound s (length area) m w (masksOf masks) h
+reply-kept s area words (Open file channel unit flags size rlen) k h = open-kept s file channel unit flags size rlen (k .files) h
+reply-kept s area words (Close file) k h = close-kept s file h
+reply-kept s area words (Ask file op priority) k h = ask-kept s file op priority h
+reply-kept s area words (Report channel unit outcome n) k h = report-kept s area channel unit outcome words (k .files) h
+reply-kept s area words (Get file) k h = get-kept s area file h
+reply-kept s area words (Put file n) k h = put-kept s area file words h
+reply-kept s area words (Seal file) k h = seal-kept s area file h
+reply-kept s area words (Skip file) k h = skip-kept s file h
+reply-kept s area words Freeze k h = freeze-kept s h
+reply-kept s area words Thaw k h = thaw-kept s h
+
+pub answer-kept : (s : State) (area line : List ℕ) → Counts s → sound s ≡ true → sound (answerTo s area line .state) ≡ true
+unfolding answerTo
+answer-kept s area line k h = reply-kept s area (givenWords (frameOf line) line) (frameOf line) k h
+
+-- ---- it keeps its sixteen files and five channels
+
+stored-counts : (s : State) (i j : ℕ) (f : File) (c : _) → Counts s → Counts (withFile (withChannel s j c) i f)
+unfolding withFile withChannel
+stored-counts s i j f c k = record { files = length-set (s .files) i f ∙ k .files; channels = length-set (s .channels) j c ∙ k .channels }
+
+on-counts : (unsound : Bool) (s : State) (area words : List ℕ) (frame : Frame) → Counts s → Counts (replyOn unsound s area words frame .state)
+unfolding replyOn turnedFrom
+on-counts unsound s area words frame k = stored-counts (wholeOf unsound s (length area) frame) _ _ _ _ (whole-counts unsound s (length area) frame k)
+
+pub answer-counts : (s : State) (area line : List ℕ) → Counts s → Counts (answerTo s area line .state)
+unfolding answerTo
+answer-counts s area line k =
+    subst (λ (r : Reply). Counts (r .state)) (turned-right s area (givenWords (frameOf line) line) (frameOf line))
+    (on-counts (not (sound s)) s area (givenWords (frameOf line) line) (frameOf line) k)
+
+-- ---- the area keeps its words
+
+reply-area : (s : State) (area words : List ℕ) (frame : Frame) → Counts s → length (replyTo s area words frame .area) ≡ length area
+unfolding replyTo
+reply-area s area words Malformed k = refl
+reply-area s area words (Fresh m w masks) k = refl
+reply-area s area words (Open file channel unit flags size rlen) k = refl
+reply-area s area words (Close file) k = refl
+reply-area s area words (Ask file op priority) k = refl
+reply-area s area words (Report channel unit outcome n) k = report-area-length s area channel unit outcome words (k .files)
+reply-area s area words (Get file) k = refl
+reply-area s area words (Put file n) k = put-area-frame s area file words .long
+reply-area s area words (Seal file) k = seal-area-frame s area file .long
+reply-area s area words (Skip file) k = refl
+reply-area s area words Freeze k = refl
+reply-area s area words Thaw k = refl
+
+pub answer-area : (s : State) (area line : List ℕ) → Counts s → length (answerTo s area line .area) ≡ length area
+unfolding answerTo
+answer-area s area line k = reply-area s area (givenWords (frameOf line) line) (frameOf line) k

@@ -1,0 +1,100 @@
+-- The same by the calls' inner forms: what each call comes to for the one file f and the one channel c that it concerns. `unsound` stands for
+-- the judgement of the state, m and w are its pool. Assumes nothing.
+use Prim.Native.Nat.{ℕ, _*_}
+use mathlib.Core.Bool.{Bool, _||_}
+use mathlib.Core.List.{List}
+use lib.Dec.{leb, ltb}
+use lib.ListN.{length}
+use Rattle.session_frame.specs.declared.Answer.the-variants as answer
+use Rattle.channel.specs.declared.Channel.{Channel}
+use Rattle.channel.specs.Units.{unitCount}
+use Rattle.file.specs.declared.File.{File}
+use Rattle.file_input.specs.Gets.{gotStart, gotWords}
+use Rattle.pool.specs.Free.{fileCount}
+use Rattle.pool.specs.Serving.{isBound}
+use Rattle.state.specs.Places.{channelCount}
+use Rattle.call_open.specs.Open.{wishOf, freeOf, openOn}
+use Rattle.call_open.specs.Close.{closeOn}
+use Rattle.call_request.specs.Ask.{askOn}
+use Rattle.call_request.specs.Report.{reportOn, reportOnArea}
+use Rattle.call_record.specs.Get.{getOn}
+use Rattle.call_record.specs.Skip.{skipOn}
+use Rattle.call_record.specs.Put.{putOn, putOnArea}
+use Rattle.call_record.specs.Seal.{sealOn, sealOnArea}
+use Rattle.session_reply.specs.declared.Change.{Change}
+use Rattle.session_reply.specs.Replies.{answerOr, gotAnswer}
+
+abbrev pub quietChange : ℕ → File → Channel → Change
+quietChange n f c = record { answer = answerOr n answer.Done; start = 0; count = 0; file = f; channel = c }
+
+-- ---- row 1, with `unsound` for "a state passed back is unsound"
+
+abbrev pub openWrong : Bool → ℕ → ℕ → ℕ → ℕ → Bool
+openWrong unsound file channel unit flags =
+    leb fileCount file || (leb channelCount channel || (leb unitCount unit || (ltb 15 flags || unsound)))
+
+abbrev pub movesWrong : Bool → ℕ → ℕ → ℕ → ℕ → Bool
+movesWrong unsound m w n file = ltb 15 file || (ltb n (m * w) || unsound)
+
+abbrev pub reportWrongBy : Bool → ℕ → ℕ → ℕ → ℕ → Bool
+reportWrongBy unsound m w n channel = unsound || (ltb n (m * w) || ltb 4 channel)
+
+-- ---- the calls that move no words
+
+unfoldable pub openChangeOn : Bool → ℕ → ℕ → List File → File → Channel → ℕ → ℕ → ℕ → ℕ → ℕ → ℕ → Change
+openChangeOn unsound m w files f c file channel unit flags size rlen =
+    let x = openOn (openWrong unsound file channel unit flags) (isBound files channel unit) f c (freeOf m files) w (wishOf channel unit flags size rlen) in
+    quietChange (x .refusal) (x .file) c
+
+unfoldable pub closeChangeOn : Bool → File → Channel → ℕ → Change
+closeChangeOn unsound f c file = let x = closeOn (leb fileCount file || unsound) f c in quietChange (x .refusal) (x .file) c
+
+unfoldable pub askChangeOn : Bool → Bool → File → Channel → ℕ → ℕ → ℕ → Change
+askChangeOn unsound frozen f c file op priority =
+    let x = askOn (unsound || ltb 15 file) f c op priority frozen in
+    record { answer = answerOr (x .refusal) (answer.Asked (x .working)); start = 0; count = 0; file = x .file; channel = x .channel }
+
+unfoldable pub skipChangeOn : Bool → File → Channel → ℕ → Change
+skipChangeOn unsound f c file = let x = skipOn (ltb 15 file || unsound) f in quietChange (x .refusal) (x .file) c
+
+-- ---- the calls that move or show words
+
+unfoldable pub reportChangeOn : Bool → ℕ → ℕ → Bool → File → Channel → ℕ → ℕ → ℕ → List ℕ → List ℕ → Change
+reportChangeOn unsound m w frozen f c channel unit outcome area words =
+    let x = reportOn (reportWrongBy unsound m w (length area) channel) f c unit outcome w frozen area words in
+    record {
+      answer = answerOr (x .refusal) (answer.Reported (x .result) (x .error) (x .working));
+      start = x .start;
+      count = x .count;
+      file = x .file;
+      channel = x .channel;
+    }
+
+unfoldable pub reportAreaOn : Bool → ℕ → ℕ → File → Channel → ℕ → ℕ → ℕ → List ℕ → List ℕ → List ℕ
+reportAreaOn unsound m w f c channel unit outcome area words =
+    reportOnArea (reportWrongBy unsound m w (length area) channel) f c unit outcome w area words
+
+unfoldable pub getChangeOn : Bool → ℕ → ℕ → File → Channel → ℕ → List ℕ → Change
+getChangeOn unsound m w f c file area =
+    let x = getOn (movesWrong unsound m w (length area) file) f w area in
+    record {
+      answer = answerOr (x .refusal) (gotAnswer (x .got));
+      start = gotStart (x .got);
+      count = gotWords (x .got);
+      file = x .file;
+      channel = c;
+    }
+
+unfoldable pub putChangeOn : Bool → ℕ → ℕ → File → Channel → ℕ → List ℕ → List ℕ → Change
+putChangeOn unsound m w f c file area words =
+    let x = putOn (movesWrong unsound m w (length area) file) f w area words in quietChange (x .refusal) (x .file) c
+
+unfoldable pub putAreaOn : Bool → ℕ → ℕ → File → ℕ → List ℕ → List ℕ → List ℕ
+putAreaOn unsound m w f file area words = putOnArea (movesWrong unsound m w (length area) file) f w area words
+
+unfoldable pub sealChangeOn : Bool → ℕ → ℕ → File → Channel → ℕ → List ℕ → Change
+sealChangeOn unsound m w f c file area =
+    let x = sealOn (movesWrong unsound m w (length area) file) f w area in quietChange (x .refusal) (x .file) c
+
+unfoldable pub sealAreaOn : Bool → ℕ → ℕ → File → ℕ → List ℕ → List ℕ
+sealAreaOn unsound m w f file area = sealOnArea (movesWrong unsound m w (length area) file) f w area

@@ -1,0 +1,115 @@
+// The calls that move no words: open, close, ask and skip, each on the file and the channel that it concerns. `unsound` is what is known
+// of the state.
+use crate::Change;
+use call_open::FLAGS;
+use call_open::close_on;
+use call_open::free_of;
+use call_open::open_on;
+use call_open::wish_of;
+use call_record::skip_on;
+use call_request::ask_on;
+use channel::Channel;
+use channel::UNITS;
+use file::File;
+use pool::FILES;
+use pool::LAST_FILE;
+use pool::is_bound;
+use session_frame::Answer;
+use state::CHANNELS;
+ghost use mathlib.Core.Path.{_≡_};
+ghost use Rattle.session_reply.specs.Replies.{answerOr};
+ghost use Rattle.session_reply.specs.Changes.{quietChange, openChangeOn, closeChangeOn, askChangeOn, skipChangeOn};
+
+// The answer of an accepted call, or its refusal.
+pub fn answer_or(refusal: u8, a: Answer) -> Answer
+    ensures { λ r. ⌜ r ≡ answerOr refusal a ⌝ }
+{
+    if refusal == 0 {
+        return a;
+    }
+    Answer::Refused(refusal)
+}
+
+// A call whose answer adds nothing.
+pub fn quiet(refusal: u8, f: File, c: Channel) -> Change
+    ensures { λ r. ⌜ r ≡ quietChange refusal f c ⌝ }
+{
+    let answer = answer_or(refusal, Answer::Done);
+    Change {
+        answer,
+        start: 0,
+        count: 0,
+        file: f,
+        channel: c,
+    }
+}
+
+pub fn opened(
+    unsound: bool,
+    m: u8,
+    w: u16,
+    files: [File; FILES],
+    f: File,
+    c: Channel,
+    file: u8,
+    channel: u8,
+    unit: u8,
+    flags: u8,
+    size: u16,
+    rlen: u16,
+) -> Change
+    ensures { λ r. ⌜ r ≡ openChangeOn unsound m w files f c file channel unit flags size rlen ⌝ }
+{
+    let i = file as usize;
+    let j = channel as usize;
+    let u = unit as usize;
+    let c1 = (FILES <= i) | ((CHANNELS <= j) | ((UNITS <= u) | ((FLAGS < flags) | unsound)));
+    let bound = is_bound(files, channel, unit);
+    let free = free_of(m, files);
+    let q = wish_of(channel, unit, flags, size, rlen);
+    let x = open_on(c1, bound, f, c, free, w, q);
+    let g = x.file;
+    quiet(x.refusal, g, c)
+}
+
+pub fn closed(unsound: bool, f: File, c: Channel, file: u8) -> Change
+    ensures { λ r. ⌜ r ≡ closeChangeOn unsound f c file ⌝ }
+{
+    let i = file as usize;
+    let x = close_on((FILES <= i) | unsound, f, c);
+    let g = x.file;
+    quiet(x.refusal, g, c)
+}
+
+pub fn asked(
+    unsound: bool,
+    frozen: bool,
+    f: File,
+    c: Channel,
+    file: u8,
+    op: u8,
+    priority: u8,
+) -> Change
+    ensures { λ r. ⌜ r ≡ askChangeOn unsound frozen f c file op priority ⌝ }
+{
+    let x = ask_on(unsound | (LAST_FILE < file), f, c, op, priority, frozen);
+    let g = x.file;
+    let d = x.channel;
+    let working = x.working;
+    let answer = answer_or(x.refusal, Answer::Asked { working });
+    Change {
+        answer,
+        start: 0,
+        count: 0,
+        file: g,
+        channel: d,
+    }
+}
+
+pub fn skipped(unsound: bool, f: File, c: Channel, file: u8) -> Change
+    ensures { λ r. ⌜ r ≡ skipChangeOn unsound f c file ⌝ }
+{
+    let x = skip_on((LAST_FILE < file) | unsound, f);
+    let g = x.file;
+    quiet(x.refusal, g, c)
+}

@@ -1,0 +1,32 @@
+// Replacements in a state, which leave all else alone.
+use crate::CHANNELS;
+use crate::State;
+use channel::Channel;
+use file::File;
+use pool::FILES;
+ghost use mathlib.Core.Path.{_≡_};
+ghost use Rattle.state.specs.Stores.{withFile, withChannel};
+
+// The state with another file in the place of that number, unchanged past the last.
+pub fn with_file(s: State, i: usize, f: File) -> State
+    ensures { λ r. ⌜ r ≡ withFile s i f ⌝ }
+{
+    if FILES <= i {
+        return s;
+    }
+    let mut t = s;
+    t.files[i] = f;
+    t
+}
+
+// The state with another channel in the place of that number, unchanged past the last.
+pub fn with_channel(s: State, c: usize, x: Channel) -> State
+    ensures { λ r. ⌜ r ≡ withChannel s c x ⌝ }
+{
+    if CHANNELS <= c {
+        return s;
+    }
+    let mut t = s;
+    t.channels[c] = x;
+    t
+}

@@ -1,0 +1,215 @@
+-- What ask, report, start and thaw keep of a channel: its facts, every unit's declaration, and what is requested of every other unit.
+-- Assumes nothing.
+use mathlib.Core.Path.{_≡_, refl, sym, ap, subst, _∙_}
+use mathlib.Core.Logic.{_≢_}
+use mathlib.Core.Bool.{Bool, true, false, not, cond, _&&_, _||_}
+use mathlib.Core.Option.{Option, none, some}
+use mathlib.Core.List.{List}
+use Prim.Native.Nat.{ℕ, _+_, _≤_, _<_}
+use native.Mathlib.Omega.{arith}
+use lib.ListN.{getD}
+use Rattle.area.proofs.Walks.{by-test, true-not-false, and-left, and-right, or-either}
+use Rattle.channel.specs.declared.Op.{Op}
+use Rattle.channel.specs.declared.Request.{Request}
+use Rattle.channel.specs.declared.Turn.{Turn}
+use Rattle.channel.specs.declared.Turn.the-variants.{Idle, Waiting, Displaced, Working}
+use Rattle.channel.specs.declared.Unit.{Unit}
+use Rattle.channel.specs.declared.Channel.{Channel}
+use Rattle.channel.specs.declared.Work.{Work}
+use Rattle.channel.specs.declared.Work.the-variants.{At, Nothing}
+use Rattle.channel_turns.specs.declared.Asked.{Asked}
+use Rattle.channel_outcomes.specs.declared.Ending.{Ending}
+use Rattle.channel_outcomes.specs.declared.Verdict.{Verdict}
+use Rattle.channel_outcomes.specs.declared.Verdict.the-variants.{Refused, Repeats, Ends}
+use Rattle.channel_outcomes.specs.Rules.{verdictOf}
+use Rattle.channel.specs.Units.{size, idleUnit, unitAt, declaredAt, turnAt, withTurn, withMark, isIdle, acceptsAt}
+use Rattle.channel_turns.specs.Scans.{nextUnit, workingIn}
+use Rattle.area.specs.Lists.{isFound}
+use Rattle.channel_turns.specs.Turns.{judgeTurn, judgeOf, goesOn, incompleteTurn, repeatOf, isOrdinary, markAfter, endOf, bookOf, reportOf}
+use Rattle.channel_turns.specs.Starts.{startOf, thawOf, newRequest, askOf}
+use Rattle.channel_theorems.specs.History.{Station, station, Event, ask, report, freeze, thaw, Step, step}
+use Rattle.channel_turns.proofs.Laws.Scans.{next-below}
+use Rattle.channel_turns.proofs.Laws.Starts.{ask-taken}
+use Rattle.channel_theorems.proofs.Theorems.Turning.{held, size-with, at-set, busy-inside, declared-inside}
+use Rattle.channel_theorems.proofs.Theorems.Starts.{Begins, Started, isFrozen, isBusy, isQuiet, begins, started, start-alive}
+use Rattle.channel_theorems.proofs.Theorems.Calls.{endedAt, Took, refuses, asks, repeats, ends, freezes, thaws, took}
+use Rattle.channel_theorems.proofs.Theorems.Sound.{Again, verdict-again, one-kept, ranges-kept}
+use Rattle.state_sound.specs.Requests.{requested}
+use Rattle.state_sound.proofs.ChannelFacts.{ChannelFacts}
+
+-- ---- what is requested of a unit is the operation that it holds
+
+abbrev opHeld : Option Request → Work
+opHeld none = Nothing
+opHeld (some q) = At (q .op)
+
+requested-held : (t : Turn) → requested t ≡ opHeld (held t)
+requested-held Idle = refl
+requested-held (Waiting q) = refl
+requested-held (Displaced q) = refl
+requested-held (Working q) = refl
+
+-- what two channels share at a unit
+abbrev Alike : Channel → ℕ → Unit → Type 0
+Alike c y k = (requested (k .turn) ≡ requested (turnAt c y)) × (k .declared ≡ declaredAt c y)
+
+-- ---- a start
+
+pub start-alike : (c : Channel) (frozen : Bool) (y : ℕ) → Alike c y (unitAt (startOf c frozen) y)
+start-alike c frozen y = go (startOf c frozen) (started c frozen)
+  where
+    go : (d : Channel) → Started c frozen d → Alike c y (unitAt d y)
+    go d (isFrozen e) = (refl, refl)
+    go d (isBusy x e) = (refl, refl)
+    go d (isQuiet q) = (refl, refl)
+    go d (begins x t b) =
+        at-set c x t (b .within) (Alike c)
+        (requested-held t ∙ ap opHeld (b .same) ∙ sym (requested-held (turnAt c x)), refl) (λ z ne. (refl, refl)) y
+
+pub start-mark : (c : Channel) (frozen : Bool) → (startOf c frozen .mark ≡ c .mark) × (size (startOf c frozen) ≡ size c)
+unfolding withTurn
+start-mark c frozen = go (startOf c frozen) (started c frozen)
+  where
+    go : (d : Channel) → Started c frozen d → (d .mark ≡ c .mark) × (size d ≡ size c)
+    go d (isFrozen e) = (refl, refl)
+    go d (isBusy x e) = (refl, refl)
+    go d (isQuiet q) = (refl, refl)
+    go d (begins x t b) = (refl, size-with c x t)
+
+start-works : (c : Channel) (frozen : Bool) → frozen ≡ false → (u : ℕ) → isIdle (turnAt (startOf c frozen) u) ≡ false → isFound (workingIn (startOf c frozen)) ≡ true
+start-works c frozen f u i = or-either frozen _ (start-alive c frozen (startOf c frozen) u (started c frozen) i) (λ e. true-not-false e f) (λ e. e)
+
+-- ---- every call keeps a channel's facts
+
+with-declared : (c : Channel) (x : ℕ) (t : Turn) → x < size c → (y : ℕ) → declaredAt (withTurn c x t) y ≡ declaredAt c y
+with-declared c x t l = at-set c x t l (λ y k. k .declared ≡ declaredAt c y) refl (λ y ne. refl)
+
+mark-below : (c : Channel) (u : ℕ) → c .mark < size c → markAfter c u < size c
+unfolding markAfter
+mark-below c u h = by-test (λ b. cond b (nextUnit (size c) u) (c .mark) < size c) (isOrdinary (turnAt c u)) (λ e. next-below (size c) u (omega arith)) (λ e. h)
+
+module _ (m : ℕ) (s : Station) (F : ChannelFacts m (s .frozen) (s .channel)) where
+  took-declared : (e : Event) (o : Step) → Took s e o → (y : ℕ) → declaredAt (o .after .channel) y ≡ declaredAt (s .channel) y
+  took-declared e o refuses y = refl
+  took-declared e o (asks u op p d i) y = start-alike _ (s .frozen) y .1 ∙ with-declared (s .channel) u _ (declared-inside (s .channel) u d) y
+  took-declared e o (repeats u oc r q t i j k) y = start-alike _ (s .frozen) y .1 ∙ with-declared (s .channel) u t (busy-inside (s .channel) u (ap isIdle i)) y
+  took-declared e o (ends u oc r i) y = start-alike _ (s .frozen) y .1 ∙ with-declared (s .channel) u Idle (busy-inside (s .channel) u (ap isIdle i)) y
+  took-declared e o freezes y = refl
+  took-declared e o thaws y = start-alike (s .channel) false y .1
+
+  took-mark : (e : Event) (o : Step) → Took s e o → o .after .channel .mark < size (o .after .channel)
+  unfolding withTurn
+  took-mark e o refuses = F .mark
+  took-mark e o (asks u op p d i) = let k = start-mark (withTurn (s .channel) u (Waiting (newRequest op p))) (s .frozen) in omega (arith, k .0, k .1, size-with (s .channel) u (Waiting (newRequest op p)), F .mark)
+  took-mark e o (repeats u oc r q t i j n) = let k = start-mark (withTurn (s .channel) u t) (s .frozen) in omega (arith, k .0, k .1, size-with (s .channel) u t, F .mark)
+  took-mark e o (ends u oc r i) = let k = start-mark (endedAt (s .channel) u) (s .frozen) in omega (arith, k .0, k .1, size-with (s .channel) u Idle, mark-below (s .channel) u (F .mark))
+  took-mark e o freezes = F .mark
+  took-mark e o thaws = let k = start-mark (s .channel) false in omega (arith, k .0, k .1, F .mark)
+
+  took-alive : (e : Event) (o : Step) → Took s e o → o .after .frozen ≡ false → (u : ℕ) → isIdle (turnAt (o .after .channel) u) ≡ false → isFound (workingIn (o .after .channel)) ≡ true
+  took-alive e o refuses = F .alive
+  took-alive e o (asks u op p d i) = start-works _ (s .frozen)
+  took-alive e o (repeats u oc r q t i j n) = start-works _ (s .frozen)
+  took-alive e o (ends u oc r i) = start-works _ (s .frozen)
+  took-alive e o freezes = λ f. true-not-false refl f
+  took-alive e o thaws = start-works (s .channel) false
+
+  pub step-facts : (e : Event) → ChannelFacts m (step s e .after .frozen) (step s e .after .channel)
+  step-facts e = record {
+    mark = took-mark e (step s e) (took s e);
+    one = one-kept s e (step s e) (F .one) (took s e);
+    ranges = ranges-kept s e (step s e) (F .ranges) (took s e);
+    pool = λ u h. F .pool u (sym (took-declared e (step s e) (took s e) u) ∙ h);
+    alive = took-alive e (step s e) (took s e);
+  }
+
+-- ---- ask and report, as replacements: r is requested of unit u afterwards, and all else is as it was
+
+pub record Moved (m : ℕ) (frozen : Bool) (c x : Channel) (u : ℕ) (r : Work) : Type 0 where
+  pub facts : ChannelFacts m frozen x
+  pub here : requested (turnAt x u) ≡ r
+  pub known : declaredAt x u ≡ declaredAt c u
+  pub others : (y : ℕ) → y ≢ u → (requested (turnAt x y) ≡ requested (turnAt c y)) × (declaredAt x y ≡ declaredAt c y)
+
+-- another turn at a unit, and then a start
+with-here : (c : Channel) (u : ℕ) (t : Turn) → u < size c → requested (turnAt (withTurn c u t) u) ≡ requested t
+with-here c u t l = at-set c u t l (λ y k. y ≡ u → requested (k .turn) ≡ requested t) (λ e. refl) (λ y ne e. absurd (ne e)) u refl
+
+with-others : (c : Channel) (u : ℕ) (t : Turn) → u < size c → (y : ℕ) → y ≢ u → Alike c y (unitAt (withTurn c u t) y)
+with-others c u t l = at-set c u t l (λ y k. y ≢ u → Alike c y k) (λ ne. absurd (ne refl)) (λ y ne q. (refl, refl))
+
+moved : (m : ℕ) (frozen : Bool) (c d : Channel) (u : ℕ) (t : Turn) → u < size c → d .units ≡ withTurn c u t .units → ChannelFacts m frozen (startOf d frozen)
+    → Moved m frozen c (startOf d frozen) u (requested t)
+moved m frozen c d u t l e F = record {
+  facts = F;
+  here = start-alike d frozen u .0 ∙ same u (λ k. requested (k .turn) ≡ requested t) (with-here c u t l);
+  known = start-alike d frozen u .1 ∙ same u (λ k. k .declared ≡ declaredAt c u) (with-declared c u t l u);
+  others = λ y ne.
+      let o : Alike c y (unitAt d y) = same y (Alike c y) (with-others c u t l y ne) in
+      let a = start-alike d frozen y in
+      (a .0 ∙ o .0, a .1 ∙ o .1);
+}
+  where
+    same : (y : ℕ) (P : Unit → Type 0) → P (unitAt (withTurn c u t) y) → P (unitAt d y)
+    same y P p = subst (λ (us : List Unit). P (getD us y (idleUnit false))) (sym e) p
+
+module _ (m : ℕ) (c : Channel) (u : ℕ) (frozen : Bool) (F : ChannelFacts m frozen c) where
+  -- an accepted ask
+  pub ask-moved : (op : Op) (priority : Bool) → acceptsAt c u ≡ true → Moved m frozen c (askOf c u op priority frozen .channel) u (At op)
+  unfolding acceptsAt step
+  ask-moved op p a =
+      let e : askOf c u op p frozen .channel ≡ startOf (withTurn c u (Waiting (newRequest op p))) frozen =
+      ap (λ (k : Asked). k .channel) (ask-taken c u op p frozen true (sym a) refl) in
+      let F' : ChannelFacts m frozen (askOf c u op p frozen .channel) = step-facts m (station c frozen) F (ask u op p) in
+      subst (λ (x : Channel). Moved m frozen c x u (At op)) (sym e)
+      (moved m frozen c (withTurn c u (Waiting (newRequest op p))) u (Waiting (newRequest op p)) (declared-inside c u (and-left (declaredAt c u) _ a)) refl
+      (subst (ChannelFacts m frozen) e F'))
+
+  booked-facts : (outcome : ℕ) (v : Verdict) → judgeOf c u outcome ≡ v → ChannelFacts m frozen (bookOf c u v frozen)
+  unfolding step reportOf
+  booked-facts outcome v e =
+      let F' : ChannelFacts m frozen (bookOf c u (judgeOf c u outcome) frozen) = step-facts m (station c frozen) F (report u outcome) in
+      subst (λ (w : Verdict). ChannelFacts m frozen (bookOf c u w frozen)) e F'
+
+  judged-again : (t : Turn) (outcome : ℕ) (q : Request) → judgeTurn t outcome ≡ Repeats q → (isIdle t ≡ false) × (At (q .op) ≡ requested t)
+  judged-again Idle outcome q e = absurd (let z : _≡_ {A = ℕ} 0 1 = cc in omega arith)
+  judged-again (Waiting r) outcome q e = absurd (let z : _≡_ {A = ℕ} 0 1 = cc in omega arith)
+  judged-again (Displaced r) outcome q e = absurd (let z : _≡_ {A = ℕ} 0 1 = cc in omega arith)
+  judged-again (Working r) outcome q e = (refl, ap At (verdict-again r outcome q e .sameOp))
+
+  judged-ended : (t : Turn) (outcome : ℕ) (k : Ending) → judgeTurn t outcome ≡ Ends k → isIdle t ≡ false
+  judged-ended Idle outcome k e = absurd (let z : _≡_ {A = ℕ} 0 1 = cc in omega arith)
+  judged-ended (Waiting r) outcome k e = refl
+  judged-ended (Displaced r) outcome k e = refl
+  judged-ended (Working r) outcome k e = refl
+
+  incomplete-op : (b : Bool) (q : Request) → requested (incompleteTurn b q) ≡ At (q .op)
+  incomplete-op true q = refl
+  incomplete-op false q = refl
+
+  -- a report after which the operation is repeated
+  pub repeat-moved : (outcome : ℕ) (q : Request) → judgeOf c u outcome ≡ Repeats q → Moved m frozen c (bookOf c u (Repeats q) frozen) u (requested (turnAt c u))
+  unfolding judgeOf bookOf repeatOf
+  repeat-moved outcome q e =
+      let j = judged-again (turnAt c u) outcome q e in
+      subst (Moved m frozen c (startOf (withTurn c u (incompleteTurn (goesOn c (q .priority) frozen) q)) frozen) u) (incomplete-op (goesOn c (q .priority) frozen) q ∙ j .1)
+      (moved m frozen c (withTurn c u (incompleteTurn (goesOn c (q .priority) frozen) q)) u (incompleteTurn (goesOn c (q .priority) frozen) q) (busy-inside c u (j .0)) refl (booked-facts outcome (Repeats q) e))
+
+  -- a report that ends the operation
+  pub end-moved : (outcome : ℕ) (k : Ending) → judgeOf c u outcome ≡ Ends k → Moved m frozen c (bookOf c u (Ends k) frozen) u Nothing
+  unfolding judgeOf bookOf endOf
+  end-moved outcome k e =
+      moved m frozen c (endedAt c u) u Idle (busy-inside c u (judged-ended (turnAt c u) outcome k e)) refl (booked-facts outcome (Ends k) e)
+
+-- ---- freeze and thaw
+
+pub freeze-facts : (m : ℕ) (frozen : Bool) (c : Channel) → ChannelFacts m frozen c → ChannelFacts m true c
+freeze-facts m frozen c F = record { mark = F .mark; one = F .one; ranges = F .ranges; pool = F .pool; alive = λ f. true-not-false refl f }
+
+pub thaw-facts : (m : ℕ) (frozen : Bool) (c : Channel) → ChannelFacts m frozen c → ChannelFacts m false (thawOf c)
+unfolding step
+thaw-facts m frozen c F = step-facts m (station c frozen) F thaw
+
+pub thaw-alike : (c : Channel) (y : ℕ) → (requested (turnAt (thawOf c) y) ≡ requested (turnAt c y)) × (declaredAt (thawOf c) y ≡ declaredAt c y)
+unfolding thawOf
+thaw-alike c y = start-alike c false y

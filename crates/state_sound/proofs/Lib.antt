@@ -1,0 +1,16 @@
+pub mod FileFacts
+pub mod FilesKept
+pub mod Changes
+pub mod Puts
+pub mod Shares
+pub mod Replaced
+pub mod Inside
+pub mod Events
+pub mod Everywhere
+pub mod Apart
+pub mod ChannelFacts
+pub mod ChannelCalls
+pub mod Facts
+pub mod Buffers
+pub mod Kept
+pub mod Wholes

@@ -1,0 +1,4 @@
+pub mod Files
+pub mod Judged
+pub mod Requests
+pub mod Soundness

@@ -1,0 +1,29 @@
+// Whether a state that a caller passes back is sound.
+use crate::channels::channels_right;
+use crate::fits::files_fit;
+use crate::pairs::files_sound;
+use pool::pool_sound;
+use state::State;
+ghost use mathlib.Core.Path.{_≡_};
+ghost use Rattle.state_sound.specs.Soundness.{sound};
+ghost use Rattle.state_sound.specs.Judged.{judged};
+
+// Document 01's paragraph in four passes: the pool, each file and every two, each file with its unit, each channel.
+fn is_judged(s: State) -> bool
+    ensures { λ r. ⌜ r ≡ judged s ⌝ }
+{
+    let files = s.files;
+    let channels = s.channels;
+    let pool = pool_sound(s.m, s.w);
+    let own = files_sound(s.m, s.w, files);
+    let fits = files_fit(channels, files);
+    let turns = channels_right(s.m, s.frozen, files, channels);
+    pool & (own & (fits & turns))
+}
+
+// Whether the state is sound: document 01's paragraph "A state passed back by the caller is sound if ..", for any state.
+pub fn is_sound(s: State) -> bool
+    ensures { λ r. ⌜ r ≡ sound s ⌝ }
+{
+    is_judged(s)
+}
