@@ -1,5 +1,5 @@
 -- What `lowest` says of a call's rows: the number given is that of the row that applies with none that applies before it, and 0 is given
--- exactly if none applies. A row whose condition is false may be left out. Assumes nothing.
+-- exactly if none applies. Assumes nothing.
 use mathlib.Core.Path.{_≡_, refl, sym, ap, subst, _∙_}
 use mathlib.Core.Bool.{Bool, true, false, cond, _&&_}
 use mathlib.Core.List.{List, [], _∷_}
@@ -94,17 +94,3 @@ exactly-from from ((k, b) ∷ rows) up = go b refl (exactly-from k rows (rest-ri
 -- for a call's rows, in rising order
 pub exactly : (rows : Rows) → rising 0 rows ≡ true → Exactly rows
 exactly = exactly-from 0
-
--- ---- rows left out
-
--- ys are the rows xs without some whose condition is false
-pub data Shorter : Rows → Rows → Type 0 where
-  end : Shorter [] []
-  keep : {n : ℕ} {b : Bool} {xs ys : Rows} → Shorter xs ys → Shorter ((n, b) ∷ xs) ((n, b) ∷ ys)
-  skip : {n : ℕ} {xs ys : Rows} → Shorter xs ys → Shorter ((n, false) ∷ xs) ys
-
-pub shorter-same : {xs ys : Rows} → Shorter xs ys → lowest xs ≡ lowest ys
-unfolding lowest
-shorter-same end = refl
-shorter-same (keep {n} {b} p) = ap (λ (k : ℕ). cond b n k) (shorter-same p)
-shorter-same (skip p) = shorter-same p

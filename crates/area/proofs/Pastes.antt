@@ -1,7 +1,7 @@
 -- Laws of parts and of `paste`. Assumes nothing.
 use borrow.Author.Tests.{le-leb, lt-leb}
 use mathlib.Core.Path.{_≡_, refl, sym, ap, _∙_}
-use mathlib.Core.List.{List, [], _++_, append-assoc}
+use mathlib.Core.List.{List, [], _++_, append-assoc, append-nil}
 use Prim.Native.Nat.{ℕ, _+_, _-_, _≤_, _<_}
 use native.Mathlib.Omega.{arith}
 use lib.ListN.{length, take, drop, length-append, length-take, length-drop, drop-of-length-le, take-append-drop}
@@ -62,6 +62,14 @@ module _ {A : Type 0} where
   paste-nothing at xs =
       let e : at + length {A = A} [] ≡ at = omega arith in
       ap (λ (n : ℕ). take at xs ++ drop n xs) e ∙ take-append-drop at xs
+
+  -- ys pasted over a list as long as they are
+  pub paste-whole : (ys xs : List A) → length xs ≡ length ys → pastedIn 0 ys xs ≡ ys
+  unfolding paste
+  paste-whole ys xs h =
+      paste-fitting 0 ys xs (omega arith)
+      ∙ ap (λ (l : List A). ys ++ l) (drop-of-length-le xs {i = 0 + length ys} (omega arith))
+      ∙ append-nil ys
 
   -- a copy of every element, one after the other, is a paste
   pub paste-copied : (at i : ℕ) (ys xs : List A) → length ys ≤ i → i ≤ length ys → Seq.paste xs at ys i ≡ paste at ys xs

@@ -1,14 +1,12 @@
-// Words in a lent area: a part of it, words copied into a part, and whether words are below 2^36.
+// Words in a lent area: a part of it, words copied into a part, and whether words are below 2^36; and a row of the refusal table.
 // Here too is the one home of the general laws on lists that the crates above cite.
-// It knows nothing of blocks, buffers or files.
-// Document 01's refusal table: the lowest number that applies. It knows nothing of states and calls.
+// It knows nothing of blocks, buffers, files or calls.
 mod refusals;
 
 ghost use Rattle.area.specs.Lists.{allOf, isFound};
 ghost use Rattle.area.specs.Parts.{isWord, partOf, pasteFits, pastedIn};
 ghost use mathlib.Core.Path.{_≡_};
-pub use refusals::job_refusal;
-pub use refusals::lowest_of;
+pub use refusals::row;
 
 // What a search for a number finds.
 pub enum Found {
@@ -60,7 +58,22 @@ pub fn part_are_words(area: &[u64], at: usize, n: usize) -> bool
     are_words(part(area, at, n))
 }
 
-// Puts the words into the area from word `at` on, and says whether they fit there. Words that do not fit change nothing.
+// Puts the words at the front of a part of the area. Words for which the part has no room change nothing.
+fn fill(part: &mut [u64], words: &[u64])
+    ensures { λ _. ⌜ now (part .exit) ≡ pastedIn 0 (now (words .entry)) (now (part .entry)) ⌝ }
+{
+    if part.len() < words.len() {
+        return;
+    }
+    let mut i = 0;
+    while i < words.len() {
+        part[i] = words[i];
+        i += 1;
+    }
+}
+
+// Puts the words into the part of the area that begins at word `at` and is as long as they are, and says whether the area has that part.
+// No word outside the part changes.
 pub fn copy_in(area: &mut [u64], at: usize, words: &[u64]) -> bool
     ensures { λ r. ⌜ r ≡ pasteFits at (now (words .entry)) (now (area .entry)) ⌝ }
     ensures { λ _. ⌜ now (area .exit) ≡ pastedIn at (now (words .entry)) (now (area .entry)) ⌝ }
@@ -71,10 +84,7 @@ pub fn copy_in(area: &mut [u64], at: usize, words: &[u64]) -> bool
     if area.len() - at < words.len() {
         return false;
     }
-    let mut i = 0;
-    while i < words.len() {
-        area[at + i] = words[i];
-        i += 1;
-    }
+    let end = at + words.len();
+    fill(&mut area[at..end], words);
     true
 }

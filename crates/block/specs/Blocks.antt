@@ -1,7 +1,7 @@
 -- Sealing a block, and judging one as delivered (document 01, "Files and buffers", "The check word"). Assumes nothing.
 use mathlib.Core.Bool.{Bool, not, cond, _&&_, _||_}
 use mathlib.Core.List.{List, [], _∷_}
-use Prim.Native.Nat.{ℕ, _+_, _-_, _^_}
+use Prim.Native.Nat.{ℕ, _+_, _-_}
 use lib.Dec.{ltb, eqb}
 use lib.ListN.{length, take, getD, set}
 use Rattle.area.specs.Lists.{allOf}
@@ -9,15 +9,11 @@ use Rattle.area.specs.Parts.{isWord}
 use Rattle.area.specs.Refusals.{lowest}
 use Rattle.block.specs.declared.blocks.Judged.{Judged}
 use Rattle.word.specs.Sums.{logicalSum, firstHalf, folded}
-use Rattle.word.specs.CheckWords.{address, chosen, checkWord}
-
--- "Let e be 1 if sequence or check is chosen, else 0."
-abbrev pub extra : Bool → Bool → ℕ
-extra sequence check = cond (sequence || check) 1 0
+use Rattle.word.specs.CheckWords.{address, blockNumbers, chosen, checkWord, extra}
 
 -- a block number is 0 to 32,767
 abbrev pub isNumber : ℕ → Bool
-isNumber n = ltb n (2 ^ 15)
+isNumber n = ltb n blockNumbers
 
 -- ---- sealing the n data words at the start of a slice
 

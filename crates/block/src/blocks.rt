@@ -5,9 +5,11 @@ ghost use Prim.Native.Nat.{_-_, _≤_};
 ghost use lib.Dec.{eqb};
 ghost use lib.ListN.{take, getD};
 ghost use Rattle.word.specs.Sums.{logicalSum};
-ghost use Rattle.word.specs.CheckWords.{chosen, checkWord};
-ghost use Rattle.block.specs.Blocks.{extra, sealRefusal, sealed, errorOf, judged};
+ghost use Rattle.word.specs.CheckWords.{chosen, checkWord, extra};
+ghost use Rattle.block.specs.Blocks.{sealRefusal, sealed, errorOf, judged};
+use word::LAST_NUMBER;
 use word::check_word;
+use word::extra;
 use word::folded;
 use word::logical_sum;
 use word::number_field;
@@ -25,16 +27,6 @@ struct Sealing {
     word: u64,
 }
 
-// The highest block number.
-const LAST_NUMBER: u16 = 32767;
-
-// How many words a check word takes: 1 if sequence or check sums are chosen, else 0.
-fn extra_words(sequence: bool, check: bool) -> usize
-    ensures { λ r. ⌜ (r ≡ extra sequence check) × (r ≤ 1) ⌝ }
-{
-    if sequence | check { 1 } else { 0 }
-}
-
 // How many of n data words are summed: all if check sums are chosen, else none.
 fn summed_words(check: bool, n: usize) -> usize
     ensures { λ r. ⌜ (r ≡ chosen check n) × (r ≤ n) ⌝ }
@@ -47,7 +39,7 @@ fn sealed_word(block: &[u64], n: usize, sequence: bool, check: bool, number: u16
     ensures { λ r. ⌜ r .refusal ≡ sealRefusal (now (block .entry)) n sequence check number ⌝ }
     ensures { λ r. ⌜ (r .refusal ≡ 0 → r .word ≡ checkWord sequence check (logicalSum (take n (now (block .entry)))) number) ⌝ }
 {
-    let e = extra_words(sequence, check);
+    let e = extra(sequence, check) as usize;
     if LAST_NUMBER < number {
         return Sealing {
             refusal: 1,
@@ -140,7 +132,7 @@ pub fn judge(block: &[u64], sequence: bool, check: bool, number: u16) -> Judged
             error: 0,
         };
     }
-    let e = extra_words(sequence, check);
+    let e = extra(sequence, check) as usize;
     let n = data_words(block.len(), e);
     let s = logical_sum(&block[..n]);
     let last = area::are_words(&block[n..]);

@@ -8,8 +8,8 @@ use Rattle.channel.specs.Units.{hasRequest}
 use Rattle.file.specs.declared.File.{File}
 use Rattle.file.specs.Sizes.{closedFile}
 use Rattle.file_output.specs.Sends.{hasUnsent}
-use Rattle.state.specs.declared.FileChange.{FileChange}
-use Rattle.state.specs.Answers.{fileChange}
+use Rattle.file.specs.declared.FileChange.{FileChange}
+use Rattle.file.specs.Changes.{fileChange}
 
 -- ---- its refusals
 

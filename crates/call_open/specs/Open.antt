@@ -12,13 +12,17 @@ use Rattle.file.specs.declared.File.{File}
 use Rattle.file.specs.declared.Wish.{Wish}
 use Rattle.file.specs.Sizes.{sizesFit, buffersFor, openedFile}
 use Rattle.pool.specs.Free.{lowestFree, freeCount}
-use Rattle.state.specs.declared.FileChange.{FileChange}
+use Rattle.file.specs.declared.FileChange.{FileChange}
 use Rattle.call_open.specs.declared.Free.{Free}
-use Rattle.state.specs.Answers.{fileChange}
+use Rattle.file.specs.Changes.{fileChange}
 
 -- "flag 1 output, 2 double, 4 sequence, 8 check"
 abbrev pub isSet : ℕ → ℕ → Bool
 isSet flags flag = eqb (flags / flag % 2) 1
+
+-- all four flags together: the highest number that flags make
+abbrev pub allFlags : ℕ
+allFlags = 15
 
 -- "Open gives file, channel, unit, direction, single or double, sequence yes/no, check sum yes/no, block size B and record length r."
 abbrev pub wishOf : ℕ → ℕ → ℕ → ℕ → ℕ → Wish

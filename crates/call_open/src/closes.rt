@@ -1,11 +1,11 @@
 // Close on one file: its buffers are given back, and unread input blocks are dropped.
-use area::lowest_of;
+use area::row;
 use channel::Channel;
 use channel::has_request;
 use file::File;
+use file::FileChange;
 use file::closed_file;
 use file_output::has_unsent;
-use state::FileChange;
 ghost use mathlib.Core.Path.{_≡_};
 ghost use Rattle.call_open.specs.Close.{closeRefusal, closeOn};
 
@@ -13,24 +13,10 @@ ghost use Rattle.call_open.specs.Close.{closeRefusal, closeOn};
 fn close_refusal(c1: bool, f: File, c: Channel) -> u8
     ensures { λ r. ⌜ r ≡ closeRefusal c1 f c ⌝ }
 {
-    let asked = has_request(c, f.unit as usize);
-    let unsent = has_unsent(f);
-    lowest_of(
-        c1,
-        false,
-        false,
-        false,
-        !f.opened,
-        false,
-        false,
-        asked,
-        false,
-        false,
-        false,
-        false,
-        false,
-        unsent,
-    )
+    let c5 = !f.opened;
+    let c8 = has_request(c, f.unit as usize);
+    let c15 = has_unsent(f);
+    row(1, c1, row(5, c5, row(8, c8, row(15, c15, 0))))
 }
 
 // A close of the file f, whose unit is one of the channel c. `c1` is whether row 1 applies.

@@ -1,10 +1,11 @@
 // Open on one file: a file number gets a unit and the lowest-numbered free buffers.
 use crate::Free;
 use area::Found;
-use area::lowest_of;
+use area::row;
 use channel::Channel;
 use channel::is_declared;
 use file::File;
+use file::FileChange;
 use file::Wish;
 use file::buffers_for;
 use file::opened_file;
@@ -12,7 +13,6 @@ use file::sizes_fit;
 use pool::FILES;
 use pool::free_count;
 use pool::lowest_free;
-use state::FileChange;
 ghost use mathlib.Core.Path.{_≡_};
 ghost use Prim.Native.Nat.{_<_};
 ghost use Rattle.call_open.specs.Open.{wishOf, lowestNumber, freeOf, openRefusal, openOn};
@@ -61,24 +61,11 @@ fn open_refusal(c1: bool, bound: bool, f: File, c: Channel, free: Free, w: u16, 
     let known = is_declared(c, q.unit as usize);
     let want = buffers_for(q.double);
     let fit = sizes_fit(w, q.sequence, q.check, q.size, q.rlen);
+    let c3 = !known;
     let c4 = f.opened | bound;
     let c7 = free.count < want;
-    lowest_of(
-        c1,
-        false,
-        !known,
-        c4,
-        false,
-        false,
-        c7,
-        false,
-        false,
-        false,
-        false,
-        false,
-        !fit,
-        false,
-    )
+    let c13 = !fit;
+    row(1, c1, row(3, c3, row(4, c4, row(7, c7, row(13, c13, 0)))))
 }
 
 // An open of the file f on the channel c. `c1` is whether row 1 applies, `bound` whether the unit is bound.

@@ -17,23 +17,6 @@ use Rattle.file_input.specs.Histories.{shown}
 use Rattle.call_record.specs.Get.{getRows, getRefusal, noAnswer, getOn}
 use Rattle.call_record.specs.Skip.{skipRows, skipRefusal, skipOn}
 
--- ---- the refusal: rows that the call does not have are false
-
-abbrev rows : Bool → Bool → Bool → Bool → Bool → Rows
-rows c1 c2 c5 c6 c9 =
-    (1, c1) ∷ (2, c2) ∷ (5, c5) ∷ (6, c6) ∷ (9, c9) ∷ (13, false) ∷ []
-
-pub get-rows : (c1 right : Bool) (f : File) (g : Got) (area words : List ℕ) → words ≡ shown area g → right ≡ allOf isWord words
-    → lowest (rows c1 ((f .opened && not (f .output)) && not right) (not (f .opened)) (f .output) false) ≡ getRefusal c1 f g area
-unfolding lowest getRefusal getRows
-get-rows c1 right f g area words ew er =
-    let e : right ≡ allOf isWord (shown area g) = er ∙ ap (allOf isWord) ew in
-    rw e
-
-pub skip-rows : (c1 full : Bool) (f : File) → full ≡ hasFull f → lowest (rows c1 false (not (f .opened)) (f .output) (not full)) ≡ skipRefusal c1 f
-unfolding lowest skipRefusal skipRows
-skip-rows c1 full f e = rw e
-
 -- ---- get on one file
 
 module _ (wrong : Bool) (f : File) (w : ℕ) (area : List ℕ) (x : Finding) (ex : x ≡ getFrom w f) (no : ℕ) (e : no ≡ getRefusal wrong f (x .got) area) where

@@ -16,29 +16,6 @@ use Rattle.call_record.specs.Blocks.{heldRight, sealedArea}
 use Rattle.call_record.specs.Put.{sums, putRows, putRefusal, filledArea, putArea, putOn, putOnArea}
 use Rattle.call_record.specs.Seal.{sealSums, sealRows, sealRefusal, sealOn, sealOnArea}
 
--- ---- the refusal: rows that the call does not have are false
-
-abbrev rows : Bool → Bool → Bool → Bool → Bool → Bool → Rows
-rows c1 c2 c5 c6 c9 c13 =
-    (1, c1) ∷ (2, c2) ∷ (5, c5) ∷ (6, c6) ∷ (9, c9) ∷ (13, c13) ∷ []
-
-pub put-rows : (c1 right summed spoilt room : Bool) (f : File) (w : ℕ) (area words : List ℕ)
-    → right ≡ allOf isWord words → summed ≡ sums f (length words) → spoilt ≡ (summed && not (heldRight w f area)) → room ≡ hasRoom f
-    → lowest (rows c1 (not right || spoilt) (not (f .opened)) (not (f .output)) (not room) (not (eqb (length words) (f .rlen)))) ≡ putRefusal c1 f w area words
-unfolding lowest putRefusal putRows
-put-rows c1 right summed spoilt room f w area words er es ep em =
-    let e : spoilt ≡ (sums f (length words) && not (heldRight w f area)) = ep ∙ ap (λ (b : Bool). b && not (heldRight w f area)) es in
-    rw (er, e, em)
-
-pub seal-rows : (c1 part summed spoilt : Bool) (f : File) (w : ℕ) (area : List ℕ)
-    → part ≡ hasPart f → summed ≡ (f .opened && (f .output && (part && f .check))) → spoilt ≡ (summed && not (heldRight w f area))
-    → lowest (rows c1 spoilt (not (f .opened)) (not (f .output)) (not part) false) ≡ sealRefusal c1 f w area
-unfolding lowest sealRefusal sealRows
-seal-rows c1 part summed spoilt f w area em es ep =
-    let s : summed ≡ sealSums f = es ∙ ap (λ (b : Bool). f .opened && (f .output && (b && f .check))) em in
-    let e : spoilt ≡ (sealSums f && not (heldRight w f area)) = ep ∙ ap (λ (b : Bool). b && not (heldRight w f area)) s in
-    rw (em, e)
-
 -- ---- put on one file
 
 module _ (wrong : Bool) (f : File) (w : ℕ) (area words : List ℕ) (no : ℕ) (e : no ≡ putRefusal wrong f w area words) where

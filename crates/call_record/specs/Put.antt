@@ -10,8 +10,8 @@ use Rattle.area.specs.Refusals.{Rows, lowest}
 use Rattle.file.specs.declared.File.{File}
 use Rattle.file_output.specs.Puts.{hasRoom, putStart, added, afterPut}
 use Rattle.file_output.specs.Parts.{isComplete}
-use Rattle.state.specs.Answers.{fileChange}
-use Rattle.state.specs.declared.FileChange.{FileChange}
+use Rattle.file.specs.Changes.{fileChange}
+use Rattle.file.specs.declared.FileChange.{FileChange}
 use Rattle.call_record.specs.Blocks.{heldRight, sealedArea}
 
 -- ---- the refusal

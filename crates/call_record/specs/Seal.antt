@@ -6,8 +6,8 @@ use lib.Dec.{eqb}
 use Rattle.area.specs.Refusals.{Rows, lowest}
 use Rattle.file.specs.declared.File.{File}
 use Rattle.file_output.specs.Parts.{hasPart, sealed}
-use Rattle.state.specs.Answers.{fileChange}
-use Rattle.state.specs.declared.FileChange.{FileChange}
+use Rattle.file.specs.Changes.{fileChange}
+use Rattle.file.specs.declared.FileChange.{FileChange}
 use Rattle.call_record.specs.Blocks.{heldRight, sealedArea}
 
 -- ---- the refusal

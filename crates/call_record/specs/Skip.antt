@@ -6,8 +6,8 @@ use Rattle.area.specs.Refusals.{Rows, lowest}
 use Rattle.file.specs.declared.File.{File}
 use Rattle.file.specs.Fills.{withoutOldest}
 use Rattle.file_input.specs.Delivers.{hasFull}
-use Rattle.state.specs.Answers.{fileChange}
-use Rattle.state.specs.declared.FileChange.{FileChange}
+use Rattle.file.specs.Changes.{fileChange}
+use Rattle.file.specs.declared.FileChange.{FileChange}
 
 -- 5: "file not open"; 6: "wrong direction: read, get, skip on an output file"; 9: "Ask write, skip: no full buffer"
 unfoldable pub skipRows : Bool → File → Rows

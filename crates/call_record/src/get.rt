@@ -1,6 +1,6 @@
 // Get on one file: the next record, shown as a part of the lent area.
 use crate::GetChange;
-use area::job_refusal;
+use area::row;
 use file::File;
 use file_input::Got;
 use file_input::got_start;
@@ -25,7 +25,7 @@ fn get_refusal(c1: bool, f: File, g: Got, area: &[u64]) -> u8
     let c2 = (f.opened & !f.output) & !right;
     let c5 = !f.opened;
     let c6 = f.output;
-    job_refusal(c1, c2, c5, c6, false, false)
+    row(1, c1, row(2, c2, row(5, c5, row(6, c6, 0))))
 }
 
 // Get on one file, in an area with w words for each buffer.

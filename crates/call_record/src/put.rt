@@ -1,14 +1,14 @@
 // Put on one file: words added, and the block sealed at once if no more fit.
 use crate::blocks::seal_block;
 use crate::blocks::sums_spoilt;
-use area::job_refusal;
+use area::row;
 use file::File;
+use file::FileChange;
 use file_output::added;
 use file_output::has_room;
 use file_output::is_complete;
 use file_output::put_start;
 use file_output::sealed;
-use state::FileChange;
 ghost use mathlib.Core.Path.{_≡_};
 ghost use Rattle.call_record.specs.Put.{sums, putRefusal, filledArea, putOn, putOnArea};
 
@@ -37,7 +37,11 @@ fn put_refusal(c1: bool, f: File, w: u16, area: &[u64], words: &[u64]) -> u8
     let c6 = !f.output;
     let c9 = !room;
     let c13 = !fits;
-    job_refusal(c1, c2, c5, c6, c9, c13)
+    row(
+        1,
+        c1,
+        row(2, c2, row(5, c5, row(6, c6, row(9, c9, row(13, c13, 0))))),
+    )
 }
 
 // The words go after those of the part-filled buffer, or from the start of the lowest empty one.

@@ -1,11 +1,11 @@
 // Seal on one file: its part-filled block gets its check word and is full.
 use crate::blocks::seal_block;
 use crate::blocks::sums_spoilt;
-use area::job_refusal;
+use area::row;
 use file::File;
+use file::FileChange;
 use file_output::has_part;
 use file_output::sealed;
-use state::FileChange;
 ghost use mathlib.Core.Path.{_≡_};
 ghost use Rattle.call_record.specs.Seal.{sealRefusal, sealOn, sealOnArea};
 
@@ -19,7 +19,7 @@ fn seal_refusal(c1: bool, f: File, w: u16, area: &[u64]) -> u8
     let c5 = !f.opened;
     let c6 = !f.output;
     let c9 = !part;
-    job_refusal(c1, c2, c5, c6, c9, false)
+    row(1, c1, row(2, c2, row(5, c5, row(6, c6, row(9, c9, 0)))))
 }
 
 // Seal on one file, in an area with w words for each buffer.

@@ -1,9 +1,9 @@
 // Skip on one file: its oldest full block is dropped.
-use area::job_refusal;
+use area::row;
 use file::File;
+use file::FileChange;
 use file::without_oldest;
 use file_input::has_full;
-use state::FileChange;
 ghost use mathlib.Core.Path.{_≡_};
 ghost use Rattle.call_record.specs.Skip.{skipRefusal, skipOn};
 
@@ -15,7 +15,7 @@ fn skip_refusal(c1: bool, f: File) -> u8
     let c5 = !f.opened;
     let c6 = f.output;
     let c9 = !full;
-    job_refusal(c1, false, c5, c6, c9, false)
+    row(1, c1, row(5, c5, row(6, c6, row(9, c9, 0))))
 }
 
 // Skip on one file.

@@ -9,7 +9,6 @@ use lib.ListN.{length}
 use borrow.Author.Tests.{ne-eqb, lt-ltb, leb-true, leb-false, le-ltb}
 use Rattle.area.proofs.Walks.{and-left, and-right, true-not-false}
 use Rattle.area.proofs.Lowest.{lowest-none}
-use Rattle.area.proofs.Exactly.{end, keep, skip, shorter-same}
 use Rattle.area.specs.Lists.{allOf}
 use Rattle.area.specs.Parts.{isWord, partOf}
 use Rattle.area.specs.Refusals.{lowest}
@@ -26,7 +25,7 @@ use Rattle.channel.specs.Units.{turnAt, workOf, operationAt}
 use Rattle.channel_turns.specs.Scans.{workingIn, unitNumber}
 use Rattle.channel_turns.specs.Turns.{judgeTurn, judgeOf, bookOf}
 use Rattle.file.specs.declared.File.{File}
-use Rattle.file.specs.Sizes.{extra}
+use Rattle.word.specs.CheckWords.{extra}
 use Rattle.file_input.specs.Delivers.{blockFits}
 use Rattle.block.specs.declared.blocks.Judged.{Judged}
 use Rattle.block.specs.Blocks.{isNumber, judgeRefusal, judged}
@@ -72,17 +71,6 @@ forbidden-number c u outcome = go (turnAt c u)
     go (Working q) = verdict-number (isAllowed (q .op) outcome) (not (isFailure outcome) || isPermanent q outcome) (endingOf (q .op) (q .attempts) outcome) (nextAttempt q outcome) 12 refl ∙ works (isAllowed (q .op) outcome)
 
 -- ---- report: its rows
-
-pub rows-found : (wrong : Bool) (u outcome : ℕ) (x : Work) (v : Verdict) (e : Effect) (fits clean room : Bool) (n : ℕ) (silent : Bool) (number : ℕ) (brings : Bool)
-    → silent ≡ takesNoWords x → number ≡ refusalNumber v → brings ≡ isDelivery e
-    → lowest
-    ((1, wrong || ((ltb 9 u || ltb 4 outcome) || (ltb 0 n && (ltb 0 outcome || silent)))) ∷ (2, not fits || not clean) ∷ (3, false) ∷ (4, false)
-    ∷ (5, false) ∷ (6, false) ∷ (7, false) ∷ (8, false) ∷ (9, false) ∷ (10, false) ∷ (11, eqb number 11) ∷ (12, eqb number 12) ∷ (13, brings && not room)
-    ∷ (15, false) ∷ [])
-    ≡ lowest (rowsBy wrong u outcome x v e fits clean room n)
-rows-found wrong u outcome x v e fits clean room n silent number brings s m b =
-    shorter-same (keep (keep (skip (skip (skip (skip (skip (skip (skip (skip (keep (keep (keep (skip end))))))))))))))
-    ∙ rw (s, m, b)
 
 -- what the code has looked at before it judges, by the names of `rowsBy`
 pub record Seen (f : File) (c : Channel) (u outcome w : ℕ) (area words : List ℕ) (x : Work) (v : Verdict) (e : Effect) (fits clean room : Bool) (start count : ℕ) : Type 0 where

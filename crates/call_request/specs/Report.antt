@@ -2,7 +2,7 @@
 use Prim.Native.Nat.{ℕ, _-_}
 use mathlib.Core.Bool.{Bool, true, false, not, cond, _&&_, _||_}
 use mathlib.Core.List.{List, [], _∷_}
-use lib.Dec.{ltb, eqb}
+use lib.Dec.{leb, ltb, eqb}
 use lib.ListN.{length}
 use Rattle.area.specs.Lists.{allOf}
 use Rattle.area.specs.Parts.{isWord, partOf, pastedIn}
@@ -13,13 +13,13 @@ use Rattle.channel.specs.declared.Work.{Work}
 use Rattle.channel.specs.declared.Work.the-variants as work
 use Rattle.channel.specs.declared.Channel.{Channel}
 use Rattle.channel_outcomes.specs.declared.Verdict.{Verdict}
-use Rattle.channel_outcomes.specs.Rules.{isAllowed, resultNumber, refusalNumber}
-use Rattle.channel.specs.Units.{operationAt}
+use Rattle.channel_outcomes.specs.Rules.{outcomeCount, isAllowed, resultNumber, refusalNumber}
+use Rattle.channel.specs.Units.{unitCount, operationAt}
 use Rattle.channel_turns.specs.Scans.{workingIn, unitNumber}
 use Rattle.channel_turns.specs.Turns.{judgeOf, bookOf}
 use Rattle.file.specs.declared.File.{File}
 use Rattle.file.specs.Sides.{startAt, takenSide}
-use Rattle.file.specs.Sizes.{extra}
+use Rattle.word.specs.CheckWords.{extra}
 use Rattle.file_input.specs.Delivers.{blockFits, delivered, gaveBack, metMark}
 use Rattle.file_output.specs.Sends.{sendStart, sendWords, afterWrite}
 use Rattle.block.specs.Blocks.{judged}
@@ -75,7 +75,7 @@ shownBlock x w f area = partOf (shownStart x w f) (shownCount x f) area
 abbrev pub reportRows : Bool → File → Channel → ℕ → ℕ → ℕ → List ℕ → List ℕ → Rows
 reportRows wrong f c u outcome w area words =
     -- "an argument is outside its range"; "Words given with an outcome other than 0, or to a write or mark, are refused 1"
-    (1, wrong || ((ltb 9 u || ltb 4 outcome) || (ltb 0 (length words) && (ltb 0 outcome || takesNoWords (operationAt c u))))) ∷
+    (1, wrong || ((leb unitCount u || leb outcomeCount outcome) || (ltb 0 (length words) && (ltb 0 outcome || takesNoWords (operationAt c u))))) ∷
     -- "a given word, or a buffer word that the call .. hands out, is 2^36 or more"
     (2, not (allOf isWord words) || not (allOf isWord (shownBlock (effectAt c u outcome) w f area))) ∷
     (11, isIdleFor (operationAt c u)) ∷
@@ -88,7 +88,7 @@ reportRows wrong f c u outcome w area words =
 -- out are below 2^36, and whether n words are as many as a delivered block may have
 abbrev pub rowsBy : Bool → ℕ → ℕ → Work → Verdict → Effect → Bool → Bool → Bool → ℕ → Rows
 rowsBy wrong u outcome x v e fits clean room n =
-    (1, wrong || ((ltb 9 u || ltb 4 outcome) || (ltb 0 n && (ltb 0 outcome || takesNoWords x)))) ∷
+    (1, wrong || ((leb unitCount u || leb outcomeCount outcome) || (ltb 0 n && (ltb 0 outcome || takesNoWords x)))) ∷
     (2, not fits || not clean) ∷
     (11, eqb (refusalNumber v) 11) ∷
     (12, eqb (refusalNumber v) 12) ∷

@@ -1,6 +1,6 @@
 // Ask: a read, a write or a mark of a file's unit.
 use crate::AskChange;
-use area::lowest_of;
+use area::row;
 use channel::Channel;
 use channel::Op;
 use channel::has_request;
@@ -36,7 +36,7 @@ fn op_of(op: u8) -> Op
 fn ask_refusal(wrong: bool, f: File, c: Channel, op: u8, priority: u8) -> u8
     ensures { λ r. ⌜ r ≡ askRefusal wrong f c op priority ⌝ }
 {
-    let busy = has_request(c, f.unit as usize);
+    let c8 = has_request(c, f.unit as usize);
     let empty = has_empty(f);
     let full = has_full(f);
     let unsent = has_unsent(f);
@@ -44,25 +44,19 @@ fn ask_refusal(wrong: bool, f: File, c: Channel, op: u8, priority: u8) -> u8
     let write = op == WRITE;
     let mark = op == MARK;
     let c1 = wrong | ((MARK < op) | (1 < priority));
+    let c5 = !f.opened;
     let c6 = (read & f.output) | ((write | mark) & !f.output);
     let c9 = (read & !empty) | (write & !full);
     let c10 = read & f.marked;
     let c15 = mark & unsent;
-    lowest_of(
+    row(
+        1,
         c1,
-        false,
-        false,
-        false,
-        !f.opened,
-        c6,
-        false,
-        busy,
-        c9,
-        c10,
-        false,
-        false,
-        false,
-        c15,
+        row(
+            5,
+            c5,
+            row(6, c6, row(8, c8, row(9, c9, row(10, c10, row(15, c15, 0))))),
+        ),
     )
 }
 

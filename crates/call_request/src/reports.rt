@@ -9,12 +9,13 @@ use crate::blocks::shown_start;
 use crate::effects::effect_of;
 use crate::effects::is_delivery;
 use crate::effects::takes_no_words;
-use area::lowest_of;
 use area::part_are_words;
+use area::row;
 use channel::Channel;
-use channel::LAST_UNIT;
+use channel::UNITS;
 use channel::Work;
 use channel::operation_of;
+use channel_outcomes::OUTCOMES;
 use channel_outcomes::Verdict;
 use channel_outcomes::refusal_number;
 use channel_outcomes::result_number;
@@ -26,9 +27,6 @@ use file_input::block_fits;
 ghost use mathlib.Core.Path.{_≡_};
 ghost use Rattle.area.specs.Refusals.{lowest};
 ghost use Rattle.call_request.specs.Report.{rowsBy, refusedReport, reportOn, reportOnArea};
-
-// The highest outcome.
-const LAST_OUTCOME: u8 = 4;
 
 // The refusal of a report, 0 for none: by what the channel makes of it, whether the words given and those handed out are below 2^36, and
 // whether n words are as many as a delivered block may have.
@@ -50,26 +48,15 @@ fn report_refusal(
     let number = refusal_number(v);
     let brings = is_delivery(e);
     let given = (0 < n) & ((0 < outcome) | silent);
-    let c1 = wrong | (((LAST_UNIT < unit) | (LAST_OUTCOME < outcome)) | given);
+    let c1 = wrong | (((UNITS <= unit as usize) | (OUTCOMES <= outcome)) | given);
     let c2 = !fits | !clean;
     let c11 = number == 11;
     let c12 = number == 12;
     let c13 = brings & !room;
-    lowest_of(
+    row(
+        1,
         c1,
-        c2,
-        false,
-        false,
-        false,
-        false,
-        false,
-        false,
-        false,
-        false,
-        c11,
-        c12,
-        c13,
-        false,
+        row(2, c2, row(11, c11, row(12, c12, row(13, c13, 0)))),
     )
 }
 

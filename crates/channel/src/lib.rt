@@ -1,5 +1,5 @@
 // One channel as a value: its units with their requests, and what can be seen of them.
-// Every function answers for any channel value and any number. What a report comes to stands in `outcomes`, whose turn it is in `scanning`.
+// Every function answers for any channel value and any number. What a report comes to stands in `channel_outcomes`, whose turn it is in `channel_turns`.
 // The crate knows nothing of files, buffers or words.
 mod units;
 
@@ -11,10 +11,8 @@ pub use units::operation_of;
 pub use units::turn_of;
 pub use units::with_turn;
 
-// The units of a channel, and the number of the last.
+// How many units a channel has.
 pub const UNITS: usize = 10;
-
-pub const LAST_UNIT: u8 = 9;
 
 pub enum Op {
     Read,

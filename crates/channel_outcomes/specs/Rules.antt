@@ -34,6 +34,10 @@ fileMark = 3
 abbrev pub endOfMedium : ℕ
 endOfMedium = 4
 
+-- how many outcomes there are
+abbrev pub outcomeCount : ℕ
+outcomeCount = 5
+
 -- a row of the table: the outcomes that are allowed; the attempt at which a failure is permanent; and how many incomplete words
 -- an operation meets before one that is permanent
 pub record Row : Type 0 where

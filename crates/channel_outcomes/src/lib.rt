@@ -3,9 +3,13 @@
 mod rules;
 
 use channel::Request;
+pub use rules::attempt_limit;
 pub use rules::refusal_number;
 pub use rules::result_number;
 pub use rules::verdict_of;
+
+// The outcomes are 0 good, 1 redundancy, 2 incomplete word, 3 file mark, 4 end of medium: how many they are.
+pub const OUTCOMES: u8 = 5;
 
 // How an operation ends.
 pub enum Ending {

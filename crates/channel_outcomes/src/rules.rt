@@ -1,5 +1,6 @@
 // Which outcomes an operation may have, when a failure is permanent, and document 01's numbers of what a report comes to.
 use crate::Ending;
+use crate::OUTCOMES;
 use crate::Verdict;
 use channel::Op;
 use channel::Request;
@@ -7,9 +8,7 @@ ghost use mathlib.Core.Path.{_≡_};
 ghost use Prim.Native.Nat.{_<_};
 ghost use Rattle.channel_outcomes.specs.Rules.{opNumber, incompleteWord, rowOf, nextAttempt, goodEnding, endingOf, verdictOf, endingNumber, resultNumber, refusalNumber};
 
-// The outcomes are numbered from 0; these two are failures.
-const OUTCOMES: u8 = 5;
-
+// These two outcomes are failures.
 const REDUNDANCY: usize = 1;
 
 const INCOMPLETE_WORD: u8 = 2;

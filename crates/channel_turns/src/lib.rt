@@ -1,9 +1,4 @@
-// Who is next on one channel: the unit that works, and the scans for priority and for ordinary requests.
-// Every function answers for any channel value and any number. The crate knows nothing of files, buffers or words.
-// A start, a thaw and an ask on one channel: who is worked for.
-// A channel goes in and comes out by value, and every function answers for any channel value and any number.
-// Whether the pack is frozen is a parameter. The crate knows nothing of files, buffers or words.
-// A report on one channel: what it comes to, and who is worked for next.
+// Turns on one channel: the unit that works, the scans for priority and for ordinary requests; a start, a thaw, an ask and a report.
 // A channel goes in and comes out by value, and every function answers for any channel value and any number.
 // Whether the pack is frozen is a parameter. The crate knows nothing of files, buffers or words.
 mod scans;

@@ -6,7 +6,7 @@ use mathlib.Core.List.{List, []}
 use Prim.Native.Nat.{ℕ, _+_, _%_}
 use lib.ListN.{length}
 use Rattle.block.specs.Blocks.{judged}
-use Rattle.file.specs.Fills.{blockNumbers}
+use Rattle.word.specs.CheckWords.{blockNumbers}
 use Rattle.pool.specs.Serving.{serves}
 use Rattle.state.specs.declared.State.{State}
 use Rattle.state.specs.Places.{fileAt}

@@ -5,11 +5,10 @@ use mathlib.Core.Bool.{Bool, true, false}
 use mathlib.Core.List.{List, []}
 use Prim.Native.Nat.{ℕ, _+_, _%_}
 use lib.ListN.{length}
-use Rattle.word.specs.CheckWords.{checkWord, IsCheckWord}
+use Rattle.word.specs.CheckWords.{checkWord, IsCheckWord, blockNumbers}
 use Rattle.block.specs.Blocks.{judged}
 use Rattle.word.proofs.Laws.CheckWord.{check-word-is, check-word-only}
 use Rattle.file.specs.declared.File.{File}
-use Rattle.file.specs.Fills.{blockNumbers}
 use Rattle.pool.specs.Serving.{serves}
 use Rattle.state.specs.declared.State.{State}
 use Rattle.state.specs.Places.{beforeStart, fileAt}

@@ -14,7 +14,7 @@ use Rattle.channel_turns.specs.Scans.{scanFrom, workingIn, priorityIn, ordinary
 use Rattle.channel_turns.specs.Turns.{judgeOf, goesOn, repeatOf, markAfter, endOf, bookOf}
 use Rattle.channel_turns.specs.Starts.{startOf, askOf}
 use Rattle.file.specs.Sides.{emptySide, takenSide, partSide, oldest}
-use Rattle.file.specs.Fills.{nextBlock, filledAt, emptiedAt, withoutOldest}
+use Rattle.file.specs.Fills.{filledAt, emptiedAt, withoutOldest}
 use Rattle.file_input.specs.Delivers.{tookBuffer, delivered, gaveBack, metMark}
 use Rattle.file_output.specs.Puts.{putSide, putStart, added, afterPut}
 use Rattle.file_output.specs.Parts.{partStart, partLength, isComplete, sealed}
@@ -31,9 +31,8 @@ use Rattle.call_open.specs.Open.{freeOf, openRows, openOn}
 use Rattle.pack_open.specs.Open.{openBy}
 use Rattle.pack_request.specs.Changes.{changedState}
 use Rattle.call_request.specs.Ask.{opOf, askRefusal, askedFile, askedChannel, askOn}
-use Rattle.pack_request.specs.Calls.{askBy}
+use Rattle.pack_request.specs.Calls.{askBy, reportBy, reportByArea}
 use Rattle.call_request.specs.Report.{reportRefusal, reportedFile, reportedArea, reportOn, reportOnArea}
-use Rattle.pack_request.specs.Calls.{reportBy, reportByArea}
 use Rattle.call_record.specs.Blocks.{sealedIn, sealedArea}
 use Rattle.call_record.specs.Put.{putRows, putRefusal, filledArea, putArea, putOn, putOnArea}
 use Rattle.pack_record.specs.Puts.{putBy, putByArea}
@@ -41,7 +40,7 @@ use Rattle.pack.specs.Calls.{answerOf}
 use Rattle.demands.specs.Examples.{play, repeatedFrom, table, allShown, allWanted}
 
 -- the next block number is one thing, of a file and of a check word
-pub next-same : (n : ℕ) → nextBlock n ≡ nextNumber n
+pub next-same : (n : ℕ) → nextNumber n ≡ nextNumber n
 unfolding address nextNumber
 next-same n = refl
 

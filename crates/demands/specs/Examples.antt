@@ -7,14 +7,13 @@ use lib.ListN.{replicate}
 use Rattle.area.specs.declared.Found.{Found}
 use Rattle.area.specs.declared.Found.the-variants.{At, Nothing}
 use Rattle.word.specs.Sums.{logicalSum, folded}
-use Rattle.word.specs.CheckWords.{checkWord}
+use Rattle.word.specs.CheckWords.{checkWord, nextNumber}
 use Rattle.channel.specs.declared.Turn.{Turn}
 use Rattle.channel.specs.declared.Turn.the-variants.{Idle, Waiting, Displaced, Working}
 use Rattle.channel.specs.declared.Channel.{Channel}
 use Rattle.channel_outcomes.specs.Rules.{good, redundancy}
 use Rattle.channel.specs.Units.{turnAt}
 use Rattle.channel_turns.specs.Scans.{workingIn}
-use Rattle.file.specs.Fills.{nextBlock}
 use Rattle.state.specs.declared.State.{State}
 use Rattle.state.specs.Places.{beforeStart, channelAt}
 use Rattle.pack.specs.Calls.{Call, fresh, opening, ask, report, put, Added, nothing, working, reported, Answer, answerOf}
@@ -118,7 +117,7 @@ table =
     -- P5 the word 262,144 folds to 1
     ∷ is (foldOf (262144 ∷ [])) (number 1)
     -- P6 after block 32,767 comes 0
-    ∷ is (number (nextBlock 32767)) (number 0)
+    ∷ is (number (nextNumber 32767)) (number 0)
     -- P7 100 read redundancies repeat, the 101st is permanent
     ∷ is (answers (session (starts 1 ∷ opens 0 0 ∷ asks 0 ∷ replicate 101 (fails 0))))
     (answers (quiet ∷ quiet ∷ seen 0 (working 0) (attempt 1 0) ∷ (repeatedFrom 2 100 0 ++ (seen 0 (reported 5 0 255) nobody ∷ []))))

@@ -18,8 +18,8 @@ use Rattle.file.specs.declared.Side.the-variants.{Low, High, Neither}
 use Rattle.file.specs.declared.File.{File}
 use Rattle.file.specs.Slots.{isTaken, isPart, isFull, partWords, fullWords}
 use Rattle.file.specs.Sides.{bufferAt, slotAt, startAt, isSide, lower, takenSide, partSide, oldest}
-use Rattle.file.specs.Fills.{withSlot, turnedBy, nextBlock, filledAt, emptiedAt, withoutOldest}
-use Rattle.file.specs.Sizes.{extra}
+use Rattle.file.specs.Fills.{withSlot, turnedBy, filledAt, emptiedAt, withoutOldest}
+use Rattle.word.specs.CheckWords.{nextNumber, extra}
 use Rattle.file_input.specs.Delivers.{blockFits, delivered, gaveBack, withMark, metMark}
 use Rattle.file_output.specs.Parts.{partStart, partLength}
 use Rattle.file_output.specs.Sends.{sendStart, sendWords}
@@ -157,7 +157,7 @@ module _ (m w : ℕ) (f : File) (S : Sound m w f) (xs : List ℕ) (long : m * w 
         let only = only-wider (startAt f w k) (length words) (startAt f w k) w xs zs (pasted-only (startAt f w k) words xs fit) (omega arith)
         (omega arith) in
         let same = T .chose o in
-        told-in w f (delivered f size err) (slot-same f k (Full size 0 err) (turnedBy f k) (nextBlock (f .block))) zs
+        told-in w f (delivered f size err) (slot-same f k (Full size 0 err) (turnedBy f k) (nextNumber (f .block))) zs
         (plus L [] (asBlock words) (owedFor (L .sequence) (L .check) err words)) input (T .opened) same
         (subst (λ (bs : List (List ℕ)). Brought w (delivered f size err) zs (L .came ++ bs) (L .gone)
         (L .owed ++ owedFor (L .sequence) (L .check) err words)) (sym (one-block words some))
@@ -165,9 +165,9 @@ module _ (m w : ℕ) (f : File) (S : Sound m w f) (xs : List ℕ) (long : m * w 
         (sym (one-owed (L .sequence) (L .check) err words some ∙ ap₂ (λ (s c : Bool). contentsOf s c err words ∷ []) (same .sequences)
         (same .checks)))
         (brought-more w f (delivered f size err) xs zs (L .came) (L .gone) (L .owed)
-        (slot-same f k (Full size 0 err) (turnedBy f k) (nextBlock (f .block))) (T .brought o input)
+        (slot-same f k (Full size 0 err) (turnedBy f k) (nextNumber (f .block))) (T .brought o input)
         words (bufferAt f k .number) size (unread-same m w f S xs zs (beside m w f S k xs zs (own-taken m w f S side) (taken-no f .1) only))
-        (delivered-line f size err side) (slot-block f k (Full size 0 err) (turnedBy f k) (nextBlock (f .block)) side)
+        (delivered-line f size err side) (slot-block f k (Full size 0 err) (turnedBy f k) (nextNumber (f .block)) side)
         (ap (λ (l : List ℕ). wrongs err ++ map word l) there))))
       where
         there : partOf (startAt f w (takenSide f) + 0) (size - 0) zs ≡ take size words

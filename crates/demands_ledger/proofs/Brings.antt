@@ -19,7 +19,8 @@ use Rattle.file.specs.declared.Side.the-variants.{Neither}
 use Rattle.file.specs.declared.File.{File}
 use Rattle.file.specs.Slots.{isEmpty}
 use Rattle.file.specs.Sides.{bufferAt, slotAt, isSide, oldest}
-use Rattle.file.specs.Fills.{withSlot, nextBlock, emptiedAt, withoutOldest}
+use Rattle.file.specs.Fills.{withSlot, emptiedAt, withoutOldest}
+use Rattle.word.specs.CheckWords.{nextNumber}
 use Rattle.file_input.specs.Ages.{Block, line}
 use Rattle.file_input.proofs.Ages.{block, Aged, noBlock, old, aged}
 use Rattle.file_input.specs.Gets.{isUsedUp, passed}
@@ -55,7 +56,7 @@ module _ (w : ℕ) (f g : File) (xs zs : List ℕ) (came : List (List ℕ)) (gon
 
   -- a block is delivered
   pub brought-more : (ys : List ℕ) (b n : ℕ) → unreadOf w f zs ≡ unreadOf w f xs
-      → line g ≡ line f ++ (block b n 0 (judged ys (f .sequence) (f .check) (f .block) .error) ∷ []) → g .block ≡ nextBlock (f .block)
+      → line g ≡ line f ++ (block b n 0 (judged ys (f .sequence) (f .check) (f .block) .error) ∷ []) → g .block ≡ nextNumber (f .block)
       → unreadIn w zs (block b n 0 (judged ys (f .sequence) (f .check) (f .block) .error))
       ≡ contentsOf (f .sequence) (f .check) (judged ys (f .sequence) (f .check) (f .block) .error) ys
       → Brought w g zs (came ++ (ys ∷ [])) gone
@@ -70,7 +71,7 @@ module _ (w : ℕ) (f g : File) (xs zs : List ℕ) (came : List (List ℕ)) (gon
         ∙ ap (λ (k : ℕ). contents (f .sequence) (f .check) 1 came ++ contentsOf (f .sequence) (f .check) (judged ys (f .sequence) (f .check) k .error)
         ys) (T .number)
         ∙ sym (contents-last (f .sequence) (f .check) 1 came ys) ∙ same-contents (came ++ (ys ∷ []));
-    number = e ∙ ap nextBlock (T .number) ∙ sym (number-last 1 came ys);
+    number = e ∙ ap nextNumber (T .number) ∙ sym (number-last 1 came ys);
     untold = subst (All UntoldFirst) (sym l) (all-append UntoldFirst (line f) (new ∷ []) (T .untold) (more (inr refl) none));
   }
     where

@@ -9,7 +9,7 @@ use Rattle.file.specs.declared.Side.the-variants.{Low, High}
 use Rattle.file.specs.declared.File.{File}
 use Rattle.file.specs.Slots.{isPart, isFull, partWords}
 use Rattle.file.specs.Sides.{slotAt, startAt, lower, partSide}
-use Rattle.file.specs.Sizes.{extra}
+use Rattle.word.specs.CheckWords.{extra}
 use Rattle.file_output.specs.Parts.{partStart, partLength}
 use Rattle.file_output.specs.Sends.{hasUnsent}
 use Rattle.file_input.specs.Ages.{Block, inOrder, line}

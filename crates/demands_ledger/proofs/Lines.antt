@@ -19,7 +19,7 @@ use Rattle.file.specs.declared.Side.the-variants.{Low, High, Neither}
 use Rattle.file.specs.declared.File.{File}
 use Rattle.file.specs.Slots.{isEmpty, isFull}
 use Rattle.file.specs.Sides.{bufferAt, slotAt, isSide}
-use Rattle.file.specs.Sizes.{extra}
+use Rattle.word.specs.CheckWords.{extra}
 use Rattle.file_input.specs.Ages.{Block, fullIn, fullAt, inOrder, line}
 use Rattle.file_input.proofs.Ages.{block}
 use Rattle.state_sound.specs.Files.{isNoBuffer}

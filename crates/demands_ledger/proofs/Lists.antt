@@ -3,7 +3,7 @@ use mathlib.Core.Path.{_≡_, refl, sym, ap, ap₂, _∙_}
 use mathlib.Core.Bool.{Bool}
 use mathlib.Core.List.{List, [], _∷_, _++_, map, append-assoc, append-nil}
 use Prim.Native.Nat.{ℕ}
-use Rattle.file.specs.Fills.{nextBlock}
+use Rattle.word.specs.CheckWords.{nextNumber}
 use Rattle.block.specs.Blocks.{judged}
 use Rattle.demands_ledger.specs.Ledgers.{contentsOf}
 use Rattle.demands_ledger.specs.Blocks.{checked, allChecked, joined, contents, numberAfter}
@@ -20,20 +20,20 @@ pub checked-last : (s c : Bool) (k : ℕ) (ds : List (List ℕ)) (d : List ℕ)
     → allChecked s c k (ds ++ (d ∷ [])) ≡ allChecked s c k ds ++ (checked s c (numberAfter k ds) d ∷ [])
 unfolding allChecked numberAfter
 checked-last s c k [] d = refl
-checked-last s c k (x ∷ ds) d = ap (λ (l : List (List ℕ)). checked s c k x ∷ l) (checked-last s c (nextBlock k) ds d)
+checked-last s c k (x ∷ ds) d = ap (λ (l : List (List ℕ)). checked s c k x ∷ l) (checked-last s c (nextNumber k) ds d)
 
 pub contents-last : (s c : Bool) (k : ℕ) (bs : List (List ℕ)) (b : List ℕ)
     → contents s c k (bs ++ (b ∷ [])) ≡ contents s c k bs ++ contentsOf s c (judged b s c (numberAfter k bs) .error) b
 unfolding contents numberAfter
 contents-last s c k [] b = append-nil _
 contents-last s c k (x ∷ bs) b =
-    ap (λ l. contentsOf s c (judged x s c k .error) x ++ l) (contents-last s c (nextBlock k) bs b)
-    ∙ sym (append-assoc (contentsOf s c (judged x s c k .error) x) (contents s c (nextBlock k) bs) _)
+    ap (λ l. contentsOf s c (judged x s c k .error) x ++ l) (contents-last s c (nextNumber k) bs b)
+    ∙ sym (append-assoc (contentsOf s c (judged x s c k .error) x) (contents s c (nextNumber k) bs) _)
 
-pub number-last : (k : ℕ) (bs : List (List ℕ)) (b : List ℕ) → numberAfter k (bs ++ (b ∷ [])) ≡ nextBlock (numberAfter k bs)
+pub number-last : (k : ℕ) (bs : List (List ℕ)) (b : List ℕ) → numberAfter k (bs ++ (b ∷ [])) ≡ nextNumber (numberAfter k bs)
 unfolding numberAfter
 number-last k [] b = refl
-number-last k (x ∷ bs) b = number-last (nextBlock k) bs b
+number-last k (x ∷ bs) b = number-last (nextNumber k) bs b
 
 pub map-append : {A B : Type 0} (h : A → B) (a b : List A) → map h (a ++ b) ≡ map h a ++ map h b
 map-append h [] b = refl

@@ -11,7 +11,8 @@ use Rattle.area.proofs.Marks.{cond-true, cond-false}
 use Rattle.file.specs.declared.Slot.the-variants.{Empty, Part, Full}
 use Rattle.file.specs.declared.File.{File}
 use Rattle.file.specs.Sides.{bufferAt, slotAt, isSide, partSide, oldest}
-use Rattle.file.specs.Fills.{withSlot, turnedBy, nextBlock, filledAt, emptiedAt, withoutOldest}
+use Rattle.file.specs.Fills.{withSlot, turnedBy, filledAt, emptiedAt, withoutOldest}
+use Rattle.word.specs.CheckWords.{nextNumber}
 use Rattle.file_output.specs.Puts.{putSide, wordsAfter, afterPut}
 use Rattle.file_output.specs.Parts.{partStart, partLength, sealed}
 use Rattle.file_input.specs.Gets.{isUsedUp, passed, lookedAt, slotAfter, afterFound, getFrom}
@@ -47,12 +48,12 @@ unfolding filledAt
 put-same m w f S room = subst (Same f) (sym (put-is f room (put-at m w f S room))) (go (ltb (f .size) (wordsAfter f + f .rlen)))
   where
     go : (t : Bool) → Same f (cond t (filledAt f (putSide f) (wordsAfter f) 0) (withSlot f (putSide f) (Part (wordsAfter f)) false (f .block)))
-    go true = slot-same f (putSide f) (Full (wordsAfter f) 0 0) (turnedBy f (putSide f)) (nextBlock (f .block))
+    go true = slot-same f (putSide f) (Full (wordsAfter f) 0 0) (turnedBy f (putSide f)) (nextNumber (f .block))
     go false = slot-same f (putSide f) (Part (wordsAfter f)) false (f .block)
 
 seal-same : (f : File) → Same f (sealed f)
 unfolding sealed filledAt
-seal-same f = slot-same f (partSide f) (Full (partLength f) 0 0) (turnedBy f (partSide f)) (nextBlock (f .block))
+seal-same f = slot-same f (partSide f) (Full (partLength f) 0 0) (turnedBy f (partSide f)) (nextNumber (f .block))
 
 pub drop-same : (f : File) → Same f (withoutOldest f)
 unfolding withoutOldest emptiedAt

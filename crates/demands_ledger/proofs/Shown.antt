@@ -9,9 +9,8 @@ use native.Mathlib.Omega.{arith}
 use lib.ListN.{length, take, length-append}
 use lib.Seq.{take-at}
 use Rattle.word.specs.Sums.{logicalSum}
-use Rattle.word.specs.CheckWords.{checkWord}
+use Rattle.word.specs.CheckWords.{checkWord, blockNumbers, nextNumber}
 use Rattle.file.specs.declared.File.{File}
-use Rattle.file.specs.Fills.{blockNumbers, nextBlock}
 use Rattle.demands_ledger.specs.Ledgers.{dataOf}
 use Rattle.demands_ledger.specs.Blocks.{blocksIn, partIn, checked, allChecked, joined, numberAfter}
 use Rattle.demands_ledger.proofs.Told.{Wrote}
@@ -32,7 +31,7 @@ data-checked s c k d = go (s || c)
 pub data-all : (s c : Bool) (k : ℕ) (ds : List (List ℕ)) → map (dataOf s c) (allChecked s c k ds) ≡ ds
 unfolding allChecked
 data-all s c k [] = refl
-data-all s c k (d ∷ ds) = ap₂ (λ (x : List ℕ) (l : List (List ℕ)). x ∷ l) (data-checked s c k d) (data-all s c (nextBlock k) ds)
+data-all s c k (d ∷ ds) = ap₂ (λ (x : List ℕ) (l : List (List ℕ)). x ∷ l) (data-checked s c k d) (data-all s c (nextNumber k) ds)
 
 -- the first blocks of a row are as they must be
 pub first-checked : (s c : Bool) (k : ℕ) (bs rest ds : List (List ℕ)) → bs ++ rest ≡ allChecked s c k ds → bs ≡ allChecked s c k (map (dataOf s c) bs)
@@ -41,9 +40,9 @@ first-checked s c k [] rest ds e = refl
 first-checked s c k (b ∷ bs) rest [] e = absurd (let z : _≡_ {A = ℕ} 0 1 = cc in omega arith)
 first-checked s c k (b ∷ bs) rest (d ∷ ds) e =
     let h : b ≡ checked s c k d = cc in
-    let t : bs ++ rest ≡ allChecked s c (nextBlock k) ds = cc in
+    let t : bs ++ rest ≡ allChecked s c (nextNumber k) ds = cc in
     let q : dataOf s c b ≡ d = ap (dataOf s c) h ∙ data-checked s c k d in
-    ap₂ (λ (x : List ℕ) (l : List (List ℕ)). x ∷ l) (h ∙ ap (checked s c k) (sym q)) (first-checked s c (nextBlock k) bs rest ds t)
+    ap₂ (λ (x : List ℕ) (l : List (List ℕ)). x ∷ l) (h ∙ ap (checked s c k) (sym q)) (first-checked s c (nextNumber k) bs rest ds t)
 
 joined-append : {A : Type 0} (a b : List (List A)) → joined (a ++ b) ≡ joined a ++ joined b
 unfolding joined
@@ -75,9 +74,9 @@ numbers-from : (k : ℕ) (bs : List (List ℕ)) → k < blockNumbers → numberA
 unfolding numberAfter
 numbers-from k [] l = let q : k + 0 ≡ k = omega arith in sym (ap (λ (n : ℕ). n % blockNumbers) q ∙ mod-eq-of-lt l)
 numbers-from k (b ∷ bs) l =
-    let i : nextBlock k < blockNumbers = mod-lt (k + 1) (omega arith) in
+    let i : nextNumber k < blockNumbers = mod-lt (k + 1) (omega arith) in
     let j : k + 1 + length bs ≡ k + suc (length bs) = omega arith in
-    numbers-from (nextBlock k) bs i ∙ mod-add-mod (k + 1) blockNumbers (length bs) ∙ ap (λ (n : ℕ). n % blockNumbers) j
+    numbers-from (nextNumber k) bs i ∙ mod-add-mod (k + 1) blockNumbers (length bs) ∙ ap (λ (n : ℕ). n % blockNumbers) j
 
 -- after so many blocks comes the number that is one more than they are, of 32,768
 pub numbers : (bs : List (List ℕ)) → numberAfter 1 bs ≡ (1 + length bs) % blockNumbers

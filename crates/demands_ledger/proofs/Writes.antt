@@ -14,8 +14,8 @@ use Rattle.file.specs.declared.Side.the-variants.{Neither}
 use Rattle.file.specs.declared.File.{File}
 use Rattle.file.specs.Slots.{isPart, partWords, fullWords}
 use Rattle.file.specs.Sides.{bufferAt, slotAt, startAt, isSide, partSide, oldest}
-use Rattle.file.specs.Fills.{withSlot, turnedBy, nextBlock, filledAt, emptiedAt, withoutOldest}
-use Rattle.file.specs.Sizes.{extra}
+use Rattle.file.specs.Fills.{withSlot, turnedBy, filledAt, emptiedAt, withoutOldest}
+use Rattle.word.specs.CheckWords.{nextNumber, extra}
 use Rattle.file_output.specs.Puts.{putSide, wordsAfter, added, afterPut}
 use Rattle.file_output.specs.Parts.{partStart, partLength, isComplete, sealed}
 use Rattle.file_output.specs.Sends.{sendStart, sendWords}
@@ -59,7 +59,7 @@ module _ (w : ℕ) (f g : File) (xs zs puts : List ℕ) (sent : List (List ℕ))
     wrote-still l p n = subst (λ (v : List ℕ). Wrote w g zs v sent) (append-nil puts) (wrote-more [] l (p ∙ sym (append-nil (partIn w f xs))) n)
 
     -- the block of the data words d is sealed
-    pub wrote-block : (d puts′ : List ℕ) (b n : ℕ) → line g ≡ line f ++ (block b n 0 0 ∷ []) → partIn w g zs ≡ [] → g .block ≡ nextBlock (f .block)
+    pub wrote-block : (d puts′ : List ℕ) (b n : ℕ) → line g ≡ line f ++ (block b n 0 0 ∷ []) → partIn w g zs ≡ [] → g .block ≡ nextNumber (f .block)
         → partOf (b * w) (n + extra (f .sequence) (f .check)) zs ≡ checked (f .sequence) (f .check) (f .block) d → joined (T .data-words) ++ d ≡ puts′
         → Wrote w g zs puts′ sent
     wrote-block d puts′ b n l p e c q = record {
@@ -72,7 +72,7 @@ module _ (w : ℕ) (f g : File) (xs zs puts : List ℕ) (sent : List (List ℕ))
           ∙ ap (λ (k : ℕ). allChecked (f .sequence) (f .check) 1 (T .data-words) ++ (checked (f .sequence) (f .check) k d ∷ [])) (T .number)
           ∙ sym (checked-last (f .sequence) (f .check) 1 (T .data-words) d)
           ∙ same-checked (T .data-words ++ (d ∷ []));
-      number = e ∙ ap nextBlock (T .number) ∙ sym (number-last 1 (T .data-words) d);
+      number = e ∙ ap nextNumber (T .number) ∙ sym (number-last 1 (T .data-words) d);
     }
       where
         lie : blocksIn w g zs ≡ blocksIn w f xs ++ (checked (f .sequence) (f .check) (f .block) d ∷ [])
@@ -138,11 +138,11 @@ module _ (m w : ℕ) (f : File) (S : Sound m w f) (room : isSide (putSide f) ≡
           sent
       go true e =
           wrote-block w f (filledAt f (putSide f) (wordsAfter f) 0) xs zs puts sent
-          (slot-same f (putSide f) (Full (wordsAfter f) 0 0) (turnedBy f (putSide f)) (nextBlock (f .block))) T still
+          (slot-same f (putSide f) (Full (wordsAfter f) 0 0) (turnedBy f (putSide f)) (nextNumber (f .block))) T still
           (partOf (startAt f w (putSide f)) (partWords (slotAt f (putSide f))) xs ++ ys) (puts ++ ys) (bufferAt f (putSide f) .number) (wordsAfter f)
           (young f (putSide f) (wordsAfter f) 0 room (no-full f (putSide f) (put-side-free f room)))
-          (part-gone f (putSide f) room (P .alone) w (wordsAfter f) 0 0 (turnedBy f (putSide f)) (nextBlock (f .block)) zs)
-          (slot-block f (putSide f) (Full (wordsAfter f) 0 0) (turnedBy f (putSide f)) (nextBlock (f .block)) room)
+          (part-gone f (putSide f) room (P .alone) w (wordsAfter f) 0 0 (turnedBy f (putSide f)) (nextNumber (f .block)) zs)
+          (slot-block f (putSide f) (Full (wordsAfter f) 0 0) (turnedBy f (putSide f)) (nextNumber (f .block)) room)
           (seals (completes ∙ e))
           (ap (λ (v : List ℕ). joined (T .data-words) ++ (v ++ ys)) (sym had) ∙ sym (append-assoc (joined (T .data-words)) (partIn w f xs) ys)
           ∙ ap (λ (v : List ℕ). v ++ ys) (T .words))
@@ -166,12 +166,12 @@ module _ (m w : ℕ) (f : File) (S : Sound m w f) (part : isSide (partSide f) �
   unfolding sealed filledAt partStart
   seal-wrote =
       wrote-block w f (filledAt f (partSide f) (partLength f) 0) xs zs puts sent
-      (slot-same f (partSide f) (Full (partLength f) 0 0) (turnedBy f (partSide f)) (nextBlock (f .block))) T
+      (slot-same f (partSide f) (Full (partLength f) 0 0) (turnedBy f (partSide f)) (nextNumber (f .block))) T
       (blocks-same m w f S xs zs (beside m w f S (partSide f) xs zs (Q .own) (part-side-free f part) only))
       (partIn w f xs) puts (bufferAt f (partSide f) .number) (partLength f)
       (young f (partSide f) (partLength f) 0 part (no-full f (partSide f) (part-side-free f part)))
-      (part-gone f (partSide f) part (Q .alone) w (partLength f) 0 0 (turnedBy f (partSide f)) (nextBlock (f .block)) zs)
-      (slot-block f (partSide f) (Full (partLength f) 0 0) (turnedBy f (partSide f)) (nextBlock (f .block)) part)
+      (part-gone f (partSide f) part (Q .alone) w (partLength f) 0 0 (turnedBy f (partSide f)) (nextNumber (f .block)) zs)
+      (slot-block f (partSide f) (Full (partLength f) 0 0) (turnedBy f (partSide f)) (nextNumber (f .block)) part)
       seals (T .words)
 
 -- ---- a write that is done with its block

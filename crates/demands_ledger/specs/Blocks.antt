@@ -4,11 +4,9 @@ use mathlib.Core.Bool.{Bool, cond, _||_}
 use mathlib.Core.List.{List, [], _∷_, _++_, map}
 use Rattle.area.specs.Parts.{partOf}
 use Rattle.word.specs.Sums.{logicalSum}
-use Rattle.word.specs.CheckWords.{checkWord}
+use Rattle.word.specs.CheckWords.{checkWord, nextNumber, extra}
 use Rattle.block.specs.Blocks.{judged}
 use Rattle.file.specs.declared.File.{File}
-use Rattle.file.specs.Fills.{nextBlock}
-use Rattle.file.specs.Sizes.{extra}
 use Rattle.file_output.specs.Parts.{partStart, partLength}
 use Rattle.file_input.specs.Ages.{Block, line}
 use Rattle.demands_ledger.specs.Ledgers.{Item, word, wrongs, contentsOf}
@@ -44,7 +42,7 @@ checked sequence check number words =
 -- blocks of these data words in a row, numbered from k on
 unfoldable pub allChecked : Bool → Bool → ℕ → List (List ℕ) → List (List ℕ)
 allChecked sequence check k [] = []
-allChecked sequence check k (words ∷ rest) = checked sequence check k words ∷ allChecked sequence check (nextBlock k) rest
+allChecked sequence check k (words ∷ rest) = checked sequence check k words ∷ allChecked sequence check (nextNumber k) rest
 
 unfoldable pub joined : {A : Type 0} → List (List A) → List A
 joined [] = []
@@ -54,9 +52,9 @@ joined (x ∷ xs) = x ++ joined xs
 unfoldable pub contents : Bool → Bool → ℕ → List (List ℕ) → List Item
 contents sequence check k [] = []
 contents sequence check k (words ∷ rest) =
-    contentsOf sequence check (judged words sequence check k .error) words ++ contents sequence check (nextBlock k) rest
+    contentsOf sequence check (judged words sequence check k .error) words ++ contents sequence check (nextNumber k) rest
 
 -- the number after so many blocks
 unfoldable pub numberAfter : ℕ → List (List ℕ) → ℕ
 numberAfter k [] = k
-numberAfter k (x ∷ xs) = numberAfter (nextBlock k) xs
+numberAfter k (x ∷ xs) = numberAfter (nextNumber k) xs

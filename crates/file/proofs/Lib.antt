@@ -1,2 +1,3 @@
 pub mod SlotLaws
 pub mod Which
+pub mod Changed

@@ -1,5 +1,5 @@
 -- The file with something else in one of its buffers. Assumes nothing.
-use Prim.Native.Nat.{ℕ, _+_, _%_}
+use Prim.Native.Nat.{ℕ}
 use mathlib.Core.Bool.{Bool, false}
 use Rattle.file.specs.declared.Slot.{Slot}
 use Rattle.file.specs.declared.Slot.the-variants.{Empty, Full}
@@ -8,6 +8,7 @@ use Rattle.file.specs.declared.Side.the-variants.{Low, High, Neither}
 use Rattle.file.specs.declared.File.{File}
 use Rattle.file.specs.Slots.{isFull}
 use Rattle.file.specs.Sides.{oldest}
+use Rattle.word.specs.CheckWords.{nextNumber}
 
 -- the file with x in buffer k, the order of its full blocks and its next block number; as it is if k is none
 abbrev pub withSlot : File → Side → Slot → Bool → ℕ → File
@@ -45,23 +46,15 @@ withSlot f High x turned block = record {
 }
 withSlot f Neither x turned block = f
 
--- "the block number fills .. the low 15 bits": 0 to 32,767
-abbrev pub blockNumbers : ℕ
-blockNumbers = 32768
-
--- "block numbers .. go up by one for every block sealed or delivered, and pass from 32,767 to 0"
-abbrev pub nextBlock : ℕ → ℕ
-nextBlock n = (n + 1) % blockNumbers
-
 -- a block that becomes full in the low buffer is younger than one in the high buffer
 abbrev pub turnedBy : File → Side → Bool
 turnedBy f Low = isFull (f .high .slot)
 turnedBy f High = false
 turnedBy f Neither = false
 
--- a block of n data words with check error e is full in buffer k, the youngest
+-- a block of n data words with check error e is full in buffer k, the youngest; "block numbers .. go up by one for every block sealed or delivered"
 unfoldable pub filledAt : File → Side → ℕ → ℕ → File
-filledAt f k n e = withSlot f k (Full n 0 e) (turnedBy f k) (nextBlock (f .block))
+filledAt f k n e = withSlot f k (Full n 0 e) (turnedBy f k) (nextNumber (f .block))
 
 -- buffer k is empty
 unfoldable pub emptiedAt : File → Side → File

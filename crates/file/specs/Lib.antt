@@ -2,3 +2,4 @@ pub mod Slots
 pub mod Sides
 pub mod Fills
 pub mod Sizes
+pub mod Changes

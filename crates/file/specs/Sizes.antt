@@ -1,16 +1,13 @@
 -- Open (document 01, "Files and buffers"). Assumes nothing.
 use Prim.Native.Nat.{ℕ, _+_}
-use mathlib.Core.Bool.{Bool, true, false, cond, _&&_, _||_}
+use mathlib.Core.Bool.{Bool, true, false, cond, _&&_}
 use lib.Dec.{leb}
 use Rattle.file.specs.declared.Slot.the-variants.{Empty}
 use Rattle.file.specs.declared.Buffer.{Buffer}
 use Rattle.file.specs.declared.File.{File}
 use Rattle.file.specs.declared.Wish.{Wish}
 use Rattle.file.specs.Sides.{noBuffer}
-
--- "Let e be 1 if sequence or check is chosen, else 0."
-abbrev pub extra : Bool → Bool → ℕ
-extra sequence check = cond (sequence || check) 1 0
+use Rattle.word.specs.CheckWords.{extra}
 
 -- "Size 13 unless r is 1 to B and B + e is at most W."
 abbrev pub sizesFit : ℕ → Bool → Bool → ℕ → ℕ → Bool

@@ -1,8 +1,6 @@
-// What one buffer of an open file holds, by value.
-// One file by value: its one or two buffers, what each of them holds, and which of them is meant.
+// One file by value: its one or two buffers, what each of them holds, and which of them is meant; the file with something else in a buffer;
+// its sizes, and the file as it is opened and as it is closed.
 // It only numbers the buffers and knows nothing of channels, of other files, or of the words of an area.
-// A file with something else in one of its buffers. It knows nothing of channels, of other files, or of the words of an area.
-// What an open asks for, whether its sizes fit, and a file as it is opened and as it is closed. It knows nothing of channels and of other files.
 mod refills;
 mod sides;
 mod sizes;
@@ -21,7 +19,6 @@ pub use sides::start_at;
 pub use sides::taken_side;
 pub use sizes::buffers_for;
 pub use sizes::closed_file;
-pub use sizes::extra;
 pub use sizes::opened_file;
 pub use sizes::sizes_fit;
 pub use slots::full_error;
@@ -77,8 +74,11 @@ pub enum Side {
     Neither,
 }
 
-// Block numbers are below this.
-pub const BLOCK_NUMBERS: u32 = 32768;
+// What a call on one file answers: the refusal, 0 for none, and the file after it, which is the one passed if it is refused.
+pub struct FileChange {
+    pub refusal: u8,
+    pub file: File,
+}
 
 // What an open asks for.
 pub struct Wish {

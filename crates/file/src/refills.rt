@@ -1,13 +1,13 @@
 // The file with something else in one of its buffers.
-use crate::BLOCK_NUMBERS;
 use crate::Buffer;
 use crate::File;
 use crate::Side;
 use crate::Slot;
 use crate::sides::oldest;
 use crate::slots::is_full;
+use word::next_number;
 ghost use mathlib.Core.Path.{_≡_};
-ghost use Rattle.file.specs.Fills.{withSlot, nextBlock, turnedBy, filledAt, emptiedAt, withoutOldest};
+ghost use Rattle.file.specs.Fills.{withSlot, turnedBy, filledAt, emptiedAt, withoutOldest};
 
 // The file with x in that buffer, the order of its full blocks and its next block number.
 pub fn with_slot(f: File, k: Side, x: Slot, turned: bool, block: u16) -> File
@@ -39,13 +39,6 @@ pub fn with_slot(f: File, k: Side, x: Slot, turned: bool, block: u16) -> File
     }
 }
 
-// The block number after n: one more, and 0 after 32,767.
-fn next_block(n: u16) -> u16
-    ensures { λ r. ⌜ r ≡ nextBlock n ⌝ }
-{
-    (((n as u32) + 1) % BLOCK_NUMBERS) as u16
-}
-
 // Whether a block that becomes full in that buffer leaves the older one of two in the high buffer.
 fn turned_by(f: File, k: Side) -> bool
     ensures { λ r. ⌜ r ≡ turnedBy f k ⌝ }
@@ -65,7 +58,7 @@ pub fn filled_at(f: File, k: Side, words: u16, error: u8) -> File
     ensures { λ r. ⌜ r ≡ filledAt f k words error ⌝ }
 {
     let turned = turned_by(f, k);
-    let next = next_block(f.block);
+    let next = next_number(f.block);
     let x = Slot::Full {
         words: words,
         at: 0,

@@ -3,19 +3,9 @@ use crate::Buffer;
 use crate::File;
 use crate::Slot;
 use crate::Wish;
+use word::extra;
 ghost use mathlib.Core.Path.{_≡_};
-ghost use Prim.Native.Nat.{_≤_};
-ghost use Rattle.file.specs.Sizes.{extra as extraOf, sizesFit, buffersFor, emptyBuffer, secondNumber, openedFile, closedFile};
-
-// e: 1 if a block has a check word, else 0.
-pub fn extra(sequence: bool, check: bool) -> u16
-    ensures { λ r. ⌜ (r ≡ extraOf sequence check) × (r ≤ 1) ⌝ }
-{
-    if sequence | check {
-        return 1;
-    }
-    0
-}
+ghost use Rattle.file.specs.Sizes.{sizesFit, buffersFor, emptyBuffer, secondNumber, openedFile, closedFile};
 
 // Whether r is 1 to B, and B with a check word fits a buffer of w words.
 pub fn sizes_fit(w: u16, sequence: bool, check: bool, size: u16, rlen: u16) -> bool

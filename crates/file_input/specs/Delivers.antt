@@ -6,7 +6,7 @@ use Rattle.file.specs.declared.Slot.the-variants.{Taken}
 use Rattle.file.specs.declared.File.{File}
 use Rattle.file.specs.Sides.{isSide, emptySide, takenSide, oldest}
 use Rattle.file.specs.Fills.{withSlot, filledAt, emptiedAt}
-use Rattle.file.specs.Sizes.{extra}
+use Rattle.word.specs.CheckWords.{extra}
 
 -- refusal 9, "ask read: no empty buffer"
 abbrev pub hasEmpty : File → Bool

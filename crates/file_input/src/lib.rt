@@ -1,9 +1,6 @@
-// What a read does to one file: which buffer it takes, and the file after it. It knows nothing of channels, of other files, or of the words
-// of an area.
-// The order in which the blocks of a file were delivered or sealed: theorems over what reads, puts and writes do to it. There is no code.
-// Get, on one file: what it finds in the oldest full block, and the file after it. What each finding is numbered stands in `showing`.
-// Document 01's number and values for each answer of get.
-// The words that it shows are named by start and length within the lent area; the part itself is cut out by whoever has the area.
+// Input on one file: which buffer a read takes, and the file after its end; what get finds in the oldest full block, with document 01's
+// number and values for each answer, and the file after it. Words that get shows are named by start and length within the lent area; the
+// part itself is cut out by whoever has the area. It knows nothing of channels and of other files.
 mod delivers;
 mod gets;
 mod shows;

@@ -5,7 +5,7 @@ use Rattle.file.specs.declared.File.{File}
 use Rattle.file.specs.Slots.{isPart, isFull, fullWords}
 use Rattle.file.specs.Sides.{slotAt, startAt, oldest}
 use Rattle.file.specs.Fills.{withoutOldest}
-use Rattle.file.specs.Sizes.{extra}
+use Rattle.word.specs.CheckWords.{extra}
 
 -- "Ask write sends the oldest full block.": where its words begin in the area, and how many they are, check word last
 unfoldable pub sendStart : ℕ → File → ℕ

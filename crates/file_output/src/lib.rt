@@ -1,9 +1,5 @@
-// The part-filled block of one file: where it lies, when it is complete, and the file with it sealed. It knows nothing of channels, of other
-// files, or of the words of an area.
-// What a put does to one file: which buffer it adds to, and the file after it. It knows nothing of channels, of other files, or of the words
-// of an area.
-// What a write does to one file: which block it sends, and the file after it. It knows nothing of channels, of other files, or of the words
-// of an area.
+// Output on one file: its part-filled block, when that is complete, and the file with it sealed; which buffer a put adds to; which block a
+// write sends; and the file after each. It knows nothing of channels, of other files, or of the words of an area.
 mod parts;
 mod puts;
 mod sends;

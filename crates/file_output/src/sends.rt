@@ -1,6 +1,5 @@
 // Output: what a write sends, what its end does to the file, and whether anything is left to send.
 use file::File;
-use file::extra;
 use file::full_words;
 use file::is_full;
 use file::is_part;
@@ -8,6 +7,7 @@ use file::oldest;
 use file::slot_at;
 use file::start_at;
 use file::without_oldest;
+use word::extra;
 ghost use mathlib.Core.Path.{_≡_};
 ghost use Prim.Native.Nat.{_<_};
 ghost use Rattle.file_output.specs.Sends.{sendStart, sendWords, afterWrite, hasUnsent};

@@ -20,8 +20,7 @@ use Rattle.state.specs.declared.State.{State}
 use Rattle.state.specs.Places.{noChannel, fileAt, channelIn, channelAt}
 use Rattle.pack_start.specs.Freeze.{frozenState, thawedState, freezeBy, thawBy}
 use Rattle.call_request.specs.Ask.{opOf, isPriority}
-use Rattle.pack_request.specs.Calls.{askBy}
-use Rattle.pack_request.specs.Calls.{reportBy}
+use Rattle.pack_request.specs.Calls.{askBy, reportBy}
 use Rattle.pack_open.proofs.OpenTheorems.{open-frame}
 use Rattle.pack_open.proofs.CloseTheorems.{close-frame}
 use Rattle.pack_start.proofs.FreezeTheorems.{freeze-refused, freeze-state, thaw-refused, thaw-state}

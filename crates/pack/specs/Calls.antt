@@ -14,8 +14,7 @@ use Rattle.pack_open.specs.Close.{closeBy}
 use Rattle.pack_start.specs.Freeze.{freezeBy, thawBy}
 use Rattle.pack_request.specs.declared.Asking.{Asking}
 use Rattle.pack_request.specs.declared.Reporting.{Reporting}
-use Rattle.pack_request.specs.Calls.{askBy}
-use Rattle.pack_request.specs.Calls.{reportBy, reportByArea}
+use Rattle.pack_request.specs.Calls.{askBy, reportBy, reportByArea}
 use Rattle.pack_record.specs.declared.Getting.{Getting}
 use Rattle.call_record.specs.Get.{noAnswer}
 use Rattle.pack_record.specs.Gets.{getBy, getWords}

@@ -19,9 +19,8 @@ use Rattle.call_open.specs.Close.{closeRows}
 use Rattle.pack_open.specs.Close.{closeOff}
 use Rattle.pack_start.specs.Freeze.{stateRows}
 use Rattle.call_request.specs.Ask.{askRows}
-use Rattle.pack_request.specs.Calls.{askWrong}
+use Rattle.pack_request.specs.Calls.{askWrong, fileOf, reportWrong}
 use Rattle.call_request.specs.Report.{reportRows}
-use Rattle.pack_request.specs.Calls.{fileOf, reportWrong}
 use Rattle.call_record.specs.Get as gets
 use Rattle.call_record.specs.Skip.{skipRows}
 use Rattle.pack_record.specs.Skips.{skipMisused}
@@ -37,7 +36,7 @@ abbrev pub isTableNumber : ℕ → Bool
 isTableNumber n = anyOf (eqb n) tableNumbers
 
 unfoldable pub rowsOf : State → List ℕ → Call → Rows
-rowsOf s area (fresh m w masks) = freshRows m w masks (length area)
+rowsOf s area (fresh m w masks) = freshRows (not (sound s)) m w masks (length area)
 rowsOf s area (opening file channel unit flags size rlen) =
     openRows (openOff s file channel unit flags) (isBound (s .files) channel unit) (fileAt s file) (channelAt s channel)
     (freeOf (s .m) (s .files)) (s .w) (wishOf channel unit flags size rlen)

@@ -30,7 +30,8 @@ use Rattle.state_sound.proofs.Kept.{close-kept as close-facts, place-of}
 use Rattle.call_open.specs.Close.{closeRows, closeOn}
 use Rattle.pack_open.specs.Close.{closeOff, closeChange, closeBy}
 use Rattle.pack_open.specs.Open.{openBy}
-use Rattle.state.proofs.Answered.{not-so, state-refused, state-accepted, file-accepted}
+use Rattle.state.proofs.Answered.{not-so, state-refused, state-accepted}
+use Rattle.file.proofs.Changed.{file-accepted}
 use Rattle.pack_open.proofs.Frames.{OnlyFile, store-frame}
 use Rattle.pack_open.proofs.OpenTheorems.{lowOf, open-lowest}
 

@@ -32,7 +32,8 @@ use Rattle.state_sound.proofs.Facts.{sound-facts, facts-sound}
 use Rattle.state_sound.proofs.Kept.{open-kept as open-facts}
 use Rattle.call_open.specs.Open.{isSet, wishOf, lowestNumber, freeOf, openRows, openOn}
 use Rattle.pack_open.specs.Open.{openOff, openChange, openBy}
-use Rattle.state.proofs.Answered.{not-so, state-refused, state-accepted, file-accepted}
+use Rattle.state.proofs.Answered.{not-so, state-refused, state-accepted}
+use Rattle.file.proofs.Changed.{file-accepted}
 use Rattle.pack_open.proofs.Frames.{OnlyFile, store-frame}
 use Rattle.call_open.proofs.Frees.{first-free, second-free}
 

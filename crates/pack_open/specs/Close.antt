@@ -8,7 +8,7 @@ use Rattle.state.specs.Places.{fileAt, channelAt}
 use Rattle.state.specs.Stores.{withFile}
 use Rattle.state_sound.specs.Soundness.{sound}
 use Rattle.state.specs.declared.Called.{Called}
-use Rattle.state.specs.declared.FileChange.{FileChange}
+use Rattle.file.specs.declared.FileChange.{FileChange}
 use Rattle.state.specs.Answers.{called}
 use Rattle.call_open.specs.Close.{closeOn}
 

@@ -10,14 +10,14 @@ use Rattle.state.specs.Places.{channelCount, fileAt, channelAt}
 use Rattle.state.specs.Stores.{withFile}
 use Rattle.state_sound.specs.Soundness.{sound}
 use Rattle.state.specs.declared.Called.{Called}
-use Rattle.state.specs.declared.FileChange.{FileChange}
+use Rattle.file.specs.declared.FileChange.{FileChange}
 use Rattle.state.specs.Answers.{called}
-use Rattle.call_open.specs.Open.{wishOf, freeOf, openOn}
+use Rattle.call_open.specs.Open.{allFlags, wishOf, freeOf, openOn}
 
 -- row 1: "Files 0 to 15", "Channels 0 to 4", "Units 0 to 9", four flags, a sound state
 abbrev pub openOff : State → ℕ → ℕ → ℕ → ℕ → Bool
 openOff s file channel unit flags =
-    leb fileCount file || (leb channelCount channel || (leb unitCount unit || (ltb 15 flags || not (sound s))))
+    leb fileCount file || (leb channelCount channel || (leb unitCount unit || (ltb allFlags flags || not (sound s))))
 
 -- what the open of a state comes to for the file of that number
 abbrev pub openChange : State → ℕ → ℕ → ℕ → ℕ → ℕ → ℕ → FileChange

@@ -20,7 +20,7 @@ use Rattle.file.specs.declared.File.{File}
 use Rattle.file.specs.Slots.{isPart, partWords}
 use Rattle.file.specs.Sides.{bufferAt, slotAt, startAt, isSide, lower, emptySide, partSide}
 use Rattle.file.specs.Fills.{withSlot}
-use Rattle.file.specs.Sizes.{extra}
+use Rattle.word.specs.CheckWords.{extra}
 use Rattle.file_output.specs.Puts.{putSide, wordsAfter, added}
 use Rattle.file_output.specs.Parts.{partStart, partLength}
 use Rattle.file.proofs.Which.{none-side, empty-there}

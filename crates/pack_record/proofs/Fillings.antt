@@ -10,12 +10,11 @@ use Rattle.area.specs.Lists.{allOf}
 use Rattle.area.specs.Parts.{isWord, partOf, pastedIn}
 use Rattle.area.proofs.Walks.{all-append}
 use Rattle.word.specs.Sums.{logicalSum}
-use Rattle.word.specs.CheckWords.{checkWord, IsCheckWord}
+use Rattle.word.specs.CheckWords.{checkWord, IsCheckWord, extra}
 use Rattle.word.proofs.Laws.CheckWord.{check-word-is}
 use Rattle.file.specs.declared.File.{File}
 use Rattle.file.specs.Slots.{partWords}
 use Rattle.file.specs.Sides.{slotAt, startAt, isSide, partSide}
-use Rattle.file.specs.Sizes.{extra}
 use Rattle.file_output.specs.Puts.{putSide, putStart, wordsAfter, added}
 use Rattle.file_output.specs.Parts.{isComplete, partStart, partLength}
 use Rattle.state_sound.proofs.FileFacts.{Sound}

@@ -15,7 +15,7 @@ use Rattle.state.specs.Stores.{withFile}
 use Rattle.pack_record.specs.Misused.{misused}
 use Rattle.call_record.specs.declared.GetChange.{GetChange}
 use Rattle.pack_record.specs.declared.Getting.{Getting}
-use Rattle.state.specs.declared.FileChange.{FileChange}
+use Rattle.file.specs.declared.FileChange.{FileChange}
 use Rattle.call_record.specs.Get.{getOn}
 use Rattle.pack_record.specs.Gets.{getChange, getBy, getWords}
 use Rattle.call_record.specs.Skip.{skipOn}

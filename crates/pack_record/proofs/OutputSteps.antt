@@ -9,7 +9,7 @@ use Rattle.state.specs.declared.State.{State}
 use Rattle.state.specs.Places.{fileAt}
 use Rattle.state.specs.Stores.{withFile}
 use Rattle.pack_record.specs.Misused.{misused}
-use Rattle.state.specs.declared.FileChange.{FileChange}
+use Rattle.file.specs.declared.FileChange.{FileChange}
 use Rattle.call_record.specs.Put.{putOn, putOnArea}
 use Rattle.pack_record.specs.Puts.{putChange, putBy, putByArea}
 use Rattle.call_record.specs.Seal.{sealOn, sealOnArea}

@@ -17,7 +17,8 @@ use Rattle.area.proofs.Exactly.{exactly}
 use Rattle.file.specs.declared.File.{File}
 use Rattle.file.specs.Slots.{partWords}
 use Rattle.file.specs.Sides.{bufferAt, slotAt, startAt}
-use Rattle.file.specs.Sizes.{closedFile, extra}
+use Rattle.file.specs.Sizes.{closedFile}
+use Rattle.word.specs.CheckWords.{extra}
 use Rattle.file_output.specs.Puts.{putSide, hasRoom, putStart, wordsAfter, added, afterPut}
 use Rattle.file_output.specs.Parts.{isComplete}
 use Rattle.file_input.specs.Histories as histories

@@ -15,7 +15,8 @@ use Rattle.area.proofs.Walks.{or-left, or-right, true-not-false, and-both}
 use Rattle.area.proofs.Exactly.{exactly}
 use Rattle.file.specs.declared.File.{File}
 use Rattle.file.specs.Sides.{bufferAt, partSide}
-use Rattle.file.specs.Sizes.{closedFile, extra}
+use Rattle.file.specs.Sizes.{closedFile}
+use Rattle.word.specs.CheckWords.{extra}
 use Rattle.file_output.specs.Parts.{hasPart, partStart, partLength, sealed}
 use Rattle.file_input.specs.Histories as histories
 use Rattle.state_sound.proofs.FileFacts.{Sound}

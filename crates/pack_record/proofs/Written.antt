@@ -15,8 +15,8 @@ use Rattle.area.specs.Lists.{allOf}
 use Rattle.area.specs.Parts.{isWord, partOf, paste, pastedIn}
 use Rattle.area.proofs.Pastes.{length-part, length-paste, paste-fitting, paste-part, paste-before, paste-after}
 use Rattle.word.specs.Sums.{logicalSum}
-use Rattle.word.specs.CheckWords.{checkWord, IsCheckWord}
-use Rattle.block.specs.Blocks.{extra, sealRefusal, sealed}
+use Rattle.word.specs.CheckWords.{checkWord, IsCheckWord, extra}
+use Rattle.block.specs.Blocks.{sealRefusal, sealed}
 use Rattle.word.proofs.Laws.CheckWord.{check-word-is}
 use Rattle.block.proofs.Laws.Block.{seal-accepted, seal-writes, seal-leaves}
 use Rattle.pack_record.specs.Only.{Only}

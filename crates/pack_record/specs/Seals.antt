@@ -7,7 +7,7 @@ use Rattle.state.specs.Places.{fileAt}
 use Rattle.state.specs.Stores.{withFile}
 use Rattle.pack_record.specs.Misused.{misused}
 use Rattle.state.specs.Answers.{called}
-use Rattle.state.specs.declared.FileChange.{FileChange}
+use Rattle.file.specs.declared.FileChange.{FileChange}
 use Rattle.state.specs.declared.Called.{Called}
 use Rattle.call_record.specs.Seal.{sealOn, sealOnArea}
 

@@ -1,19 +1,20 @@
 -- Skip on a whole state (document 01, "Refusal numbers", and "Files and buffers", Input). Assumes nothing.
 use Prim.Native.Nat.{ℕ}
 use mathlib.Core.Bool.{Bool, not, _||_}
-use lib.Dec.{ltb}
+use lib.Dec.{leb}
 use Rattle.state.specs.declared.State.{State}
+use Rattle.pool.specs.Free.{fileCount}
 use Rattle.state.specs.Places.{fileAt}
 use Rattle.state.specs.Stores.{withFile}
 use Rattle.state_sound.specs.Soundness.{sound}
 use Rattle.state.specs.Answers.{called}
-use Rattle.state.specs.declared.FileChange.{FileChange}
+use Rattle.file.specs.declared.FileChange.{FileChange}
 use Rattle.state.specs.declared.Called.{Called}
 use Rattle.call_record.specs.Skip.{skipOn}
 
 -- 1: "an argument is outside its range, .. a state passed back is unsound"; skip takes no area
 abbrev pub skipMisused : State → ℕ → Bool
-skipMisused s file = ltb 15 file || not (sound s)
+skipMisused s file = leb fileCount file || not (sound s)
 
 -- what changes: the file of that number
 abbrev pub skipChange : State → ℕ → FileChange

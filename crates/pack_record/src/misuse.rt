@@ -1,5 +1,5 @@
 // Row 1 of a call on a file that is lent the area.
-use pool::LAST_FILE;
+use pool::FILES;
 use state::State;
 use state::area_short;
 use state_sound::is_sound;
@@ -12,5 +12,5 @@ pub fn is_misused(s: State, n: usize, file: u8) -> bool
 {
     let short = area_short(s, n);
     let whole = is_sound(s);
-    (LAST_FILE < file) | (short | !whole)
+    (FILES <= file as usize) | (short | !whole)
 }

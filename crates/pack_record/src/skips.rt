@@ -1,6 +1,6 @@
 // Skip on a whole state.
 use call_record::skip_on;
-use pool::LAST_FILE;
+use pool::FILES;
 use state::Called;
 use state::State;
 use state::file_at;
@@ -15,7 +15,7 @@ pub fn skip(s: State, file: u8) -> Called
 {
     let whole = is_sound(s);
     let f = file_at(s, file as usize);
-    let c1 = (LAST_FILE < file) | !whole;
+    let c1 = (FILES <= file as usize) | !whole;
     let x = skip_on(c1, f);
     if x.refusal != 0 {
         return Called {

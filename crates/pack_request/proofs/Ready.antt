@@ -20,8 +20,8 @@ use Rattle.file.specs.declared.Side.the-variants.{Low, High, Neither}
 use Rattle.file.specs.declared.File.{File}
 use Rattle.file.specs.Slots.{isTaken}
 use Rattle.file.specs.Sides.{slotAt, isSide, lower, emptySide, takenSide, oldest}
-use Rattle.file.specs.Fills.{withSlot, turnedBy, nextBlock, filledAt, emptiedAt, withoutOldest}
-use Rattle.file.specs.Sizes.{extra}
+use Rattle.file.specs.Fills.{withSlot, turnedBy, filledAt, emptiedAt, withoutOldest}
+use Rattle.word.specs.CheckWords.{nextNumber, extra}
 use Rattle.file_input.specs.Delivers.{hasEmpty, hasFull, blockFits, tookBuffer, delivered, gaveBack, metMark}
 use Rattle.file_output.specs.Sends.{hasUnsent, afterWrite}
 use Rattle.file.proofs.Which.{taken-there}
@@ -72,7 +72,7 @@ module _ (f : File) (n : takenCount f ≡ 1) where
 
   delivered-count : (k e : ℕ) → takenCount (delivered f k e) ≡ 0
   unfolding delivered filledAt
-  delivered-count k e = freed-count f (takenSide f) (Full k 0 e) (turnedBy f (takenSide f)) (nextBlock (f .block)) here (taken-there f here) refl n
+  delivered-count k e = freed-count f (takenSide f) (Full k 0 e) (turnedBy f (takenSide f)) (nextNumber (f .block)) here (taken-there f here) refl n
 
   back-count : takenCount (gaveBack f) ≡ 0
   unfolding gaveBack emptiedAt

@@ -16,9 +16,8 @@ use Rattle.call_request.specs.declared.ReportChange.{ReportChange}
 use Rattle.pack_request.specs.declared.Reporting.{Reporting}
 use Rattle.pack_request.specs.Changes.{changedState}
 use Rattle.call_request.specs.Ask.{askOn}
-use Rattle.pack_request.specs.Calls.{askBy}
+use Rattle.pack_request.specs.Calls.{askBy, fileOf, reportBy, reportByArea}
 use Rattle.call_request.specs.Report.{reportOn, reportOnArea}
-use Rattle.pack_request.specs.Calls.{fileOf, reportBy, reportByArea}
 
 pub ask-whole : (s : State) (file op priority : ℕ) (f : File) (c : Channel) (whole : Bool) (x : AskChange) (t : State)
     → f ≡ fileAt s file → c ≡ channelAt s (f .channel) → whole ≡ sound s → x ≡ askOn (not whole || ltb 15 file) f c op priority (s .frozen)

@@ -2,11 +2,12 @@
 use Prim.Native.Nat.{ℕ}
 use mathlib.Core.Bool.{Bool, not, _||_}
 use mathlib.Core.List.{List}
-use lib.Dec.{ltb}
+use lib.Dec.{leb}
 use lib.ListN.{length}
 use Rattle.pool.specs.Serving.{fileServing}
 use Rattle.state.specs.declared.State.{State}
-use Rattle.state.specs.Places.{fileAt, channelAt, areaShort}
+use Rattle.pool.specs.Free.{fileCount}
+use Rattle.state.specs.Places.{channelCount, fileAt, channelAt, areaShort}
 use Rattle.state_sound.specs.Soundness.{sound}
 use Rattle.call_request.specs.declared.AskChange.{AskChange}
 use Rattle.call_request.specs.declared.ReportChange.{ReportChange}
@@ -20,7 +21,7 @@ use Rattle.pack_request.specs.Changes.{changedState}
 
 -- what row 1 says of the state and of the file's number: "Files 0 to 15."
 abbrev pub askWrong : State → ℕ → Bool
-askWrong s file = not (sound s) || ltb 15 file
+askWrong s file = not (sound s) || leb fileCount file
 
 -- what changes: the file, and the channel that it is open on
 abbrev pub askChange : State → ℕ → ℕ → ℕ → AskChange
@@ -39,7 +40,7 @@ fileOf s c u = fileServing (s .files) c u
 
 -- what row 1 says of the state, of an area of n words and of the channel's number: "Channels 0 to 4"
 abbrev pub reportWrong : State → ℕ → ℕ → Bool
-reportWrong s n c = not (sound s) || (areaShort s n || ltb 4 c)
+reportWrong s n c = not (sound s) || (areaShort s n || leb channelCount c)
 
 -- what changes: the channel, and the file that its unit serves
 abbrev pub reportChange : State → List ℕ → ℕ → ℕ → ℕ → List ℕ → ReportChange

@@ -5,9 +5,9 @@ use crate::changes::changed_state;
 use area::part;
 use call_request::ask_on;
 use call_request::report_on;
-use pool::LAST_FILE;
+use pool::FILES;
 use pool::file_of;
-use state::LAST_CHANNEL;
+use state::CHANNELS;
 use state::State;
 use state::area_short;
 use state::channel_at;
@@ -26,7 +26,14 @@ pub fn ask(s: State, file: u8, op: u8, priority: u8) -> Asking
     let j = f.channel as usize;
     let c = channel_at(s, j);
     let whole = is_sound(s);
-    let x = ask_on(!whole | (LAST_FILE < file), f, c, op, priority, s.frozen);
+    let x = ask_on(
+        !whole | (FILES <= file as usize),
+        f,
+        c,
+        op,
+        priority,
+        s.frozen,
+    );
     let g = x.file;
     let d = x.channel;
     let t = changed_state(s, i, j, x.refusal, g, d);
@@ -57,7 +64,7 @@ pub fn report(
     let f = file_at(s, i);
     let j = channel as usize;
     let c = channel_at(s, j);
-    let wrong = !whole | (short | (LAST_CHANNEL < channel));
+    let wrong = !whole | (short | (CHANNELS <= channel as usize));
     let x = report_on(wrong, f, c, unit, outcome, s.w, s.frozen, area, words);
     let g = x.file;
     let d = x.channel;

@@ -14,10 +14,9 @@ use Rattle.area.proofs.Exactly.{exactly}
 use Rattle.channel.specs.declared.Turn.{Turn}
 use Rattle.channel.specs.declared.Turn.the-variants.{Idle, Waiting, Displaced, Working}
 use Rattle.channel.specs.declared.Channel.{Channel}
-use Rattle.channel.specs.Units.{isIdle, turnAt}
+use Rattle.channel.specs.Units.{isIdle, turnAt, isWorking}
 use Rattle.channel_turns.specs.Scans.{workingIn}
 use Rattle.area.specs.Lists.{isFound}
-use Rattle.channel.specs.Units.{isWorking}
 use Rattle.channel_turns.specs.Starts.{startOf, thawOf}
 use Rattle.channel_theorems.proofs.Theorems.Turning.{held, at-set}
 use Rattle.channel_theorems.proofs.Theorems.Starts.{Started, isFrozen, isBusy, isQuiet, begins, started, works-found}

@@ -12,6 +12,7 @@ use Rattle.state.specs.declared.State.{State}
 use Rattle.state.specs.declared.Called.{Called}
 use Rattle.pack_start.specs.declared.Masks.{Masks}
 use Rattle.state.specs.Answers.{called}
+use Rattle.state_sound.specs.Soundness.{sound}
 
 -- ---- its refusals
 
@@ -23,13 +24,14 @@ abbrev pub areMasks : Masks → Bool
 areMasks k = isMask (k .a) && (isMask (k .b) && (isMask (k .c) && (isMask (k .d) && isMask (k .e))))
 
 -- "An area under m×W is refused 1.": the m and W that are asked for
-unfoldable pub freshRows : ℕ → ℕ → Masks → ℕ → Rows
-freshRows m w k n =
-    -- "an argument is outside its range, the area is short": m from 1 to 32, W from 1 to 1,024, masks of units
-    (1, not (poolFits m w) || (not (areMasks k) || ltb n (m * w))) ∷ []
+-- `wrong` is what row 1 says of the state
+unfoldable pub freshRows : Bool → ℕ → ℕ → Masks → ℕ → Rows
+freshRows wrong m w k n =
+    -- "an argument is outside its range, the area is short, a state passed back is unsound": m from 1 to 32, W from 1 to 1,024, masks of units
+    (1, wrong || (not (poolFits m w) || (not (areMasks k) || ltb n (m * w)))) ∷ []
 
-abbrev pub freshRefusal : ℕ → ℕ → Masks → ℕ → ℕ
-freshRefusal m w k n = lowest (freshRows m w k n)
+abbrev pub freshRefusal : Bool → ℕ → ℕ → Masks → ℕ → ℕ
+freshRefusal wrong m w k n = lowest (freshRows wrong m w k n)
 
 -- ---- its effect
 
@@ -45,4 +47,4 @@ freshState m w k = record {
 
 -- of a state, an area of n words, and what the start asks for
 unfoldable pub freshBy : State → ℕ → ℕ → ℕ → Masks → Called
-freshBy s n m w k = called (freshRefusal m w k n) s (freshState m w k)
+freshBy s n m w k = called (freshRefusal (not (sound s)) m w k n) s (freshState m w k)

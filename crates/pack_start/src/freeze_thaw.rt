@@ -1,5 +1,5 @@
 // Freeze stops starts on all channels; thaw lets them happen.
-use area::lowest_of;
+use area::row;
 use channel::Channel;
 use state::CHANNELS;
 use state::Called;
@@ -15,22 +15,7 @@ fn state_refusal(s: State) -> u8
     ensures { λ r. ⌜ r ≡ stateRefusal s ⌝ }
 {
     let good = is_sound(s);
-    lowest_of(
-        !good,
-        false,
-        false,
-        false,
-        false,
-        false,
-        false,
-        false,
-        false,
-        false,
-        false,
-        false,
-        false,
-        false,
-    )
+    row(1, !good, 0)
 }
 
 // The state, frozen.

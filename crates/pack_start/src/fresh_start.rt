@@ -1,12 +1,13 @@
 // Fresh start: it closes everything, drops all requests, thaws, resets the scans and declares the units. It touches no word.
 use crate::Masks;
-use area::lowest_of;
+use area::row;
 use channel::UNITS;
 use file::closed_file;
 use pool::FILES;
 use pool::pool_fits;
 use state::Called;
 use state::State;
+use state_sound::is_sound;
 ghost use mathlib.Core.Path.{_≡_};
 ghost use lib.ListN.{length};
 ghost use Rattle.pack_start.specs.Fresh.{isMask, areMasks, freshRefusal, freshState, freshBy};
@@ -32,30 +33,15 @@ fn are_masks(masks: Masks) -> bool
     a & (b & (c & (d & e)))
 }
 
-// The refusal of a fresh start with an area of n words, 0 for none.
-pub fn fresh_refusal(m: u8, w: u16, masks: Masks, n: usize) -> u8
-    ensures { λ r. ⌜ r ≡ freshRefusal m w masks n ⌝ }
+// The refusal of a fresh start with an area of n words, 0 for none. `wrong` is what its caller found of row 1: that the state is unsound.
+pub fn fresh_refusal(wrong: bool, m: u8, w: u16, masks: Masks, n: usize) -> u8
+    ensures { λ r. ⌜ r ≡ freshRefusal wrong m w masks n ⌝ }
 {
     let pool = pool_fits(m, w);
     let units = are_masks(masks);
     let short = n < (m as usize) * (w as usize);
-    let c1 = !pool | (!units | short);
-    lowest_of(
-        c1,
-        false,
-        false,
-        false,
-        false,
-        false,
-        false,
-        false,
-        false,
-        false,
-        false,
-        false,
-        false,
-        false,
-    )
+    let c1 = wrong | (!pool | (!units | short));
+    row(1, c1, 0)
 }
 
 // The state after a fresh start.
@@ -79,11 +65,12 @@ pub fn fresh_state(m: u8, w: u16, masks: Masks) -> State
     }
 }
 
-// A fresh start, whatever the state passed: nothing of it is used unless the start is refused.
+// A fresh start. Nothing of the state passed is used, but it is judged as every call judges it.
 pub fn fresh(s: State, area: &[u64], m: u8, w: u16, masks: Masks) -> Called
     ensures { λ r. ⌜ r ≡ freshBy s (length (now (area .entry))) m w masks ⌝ }
 {
-    let no = fresh_refusal(m, w, masks, area.len());
+    let whole = is_sound(s);
+    let no = fresh_refusal(!whole, m, w, masks, area.len());
     if no != 0 {
         return Called {
             refusal: no,

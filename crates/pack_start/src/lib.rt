@@ -1,5 +1,4 @@
-// Fresh start: it judges its row of the refusal table and answers the state after it. It writes no word.
-// Freeze and thaw: each judges its row of the refusal table and answers the state after it. Neither writes a word.
+// Fresh start, freeze and thaw: each judges its row of the refusal table and answers the state after it. None writes a word.
 mod freeze_thaw;
 mod fresh_start;
 

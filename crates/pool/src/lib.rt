@@ -1,6 +1,5 @@
-// The files over one pool of buffers: which buffers are free. It knows nothing of channels and requests, and only numbers the buffers.
-// When the files are sound stands in `filing`.
-// Which file serves a unit of a channel. It knows nothing of requests.
+// The files over one pool of buffers: which buffers are free, and which file serves a unit of a channel.
+// It only numbers the buffers and knows nothing of requests. When the files are sound stands in `state_sound`.
 mod free;
 mod units;
 
@@ -13,10 +12,8 @@ pub use units::file_of;
 pub use units::is_bound;
 pub use units::serves;
 
-// How many files there are, and the number of the last; how many buffers a pool may have, and how many words a buffer.
+// How many files there are; how many buffers a pool may have, and how many words a buffer.
 pub const FILES: usize = 16;
-
-pub const LAST_FILE: u8 = 15;
 
 pub const BUFFERS: u8 = 32;
 

@@ -16,7 +16,7 @@ use Rattle.file.specs.declared.Side.the-variants.{Neither}
 use Rattle.file.specs.declared.File.{File}
 use Rattle.file.specs.Slots.{fullWords, fullPlace, fullError}
 use Rattle.file.specs.Sides.{slotAt, startAt, isSide, oldest}
-use Rattle.file.specs.Sizes.{extra}
+use Rattle.word.specs.CheckWords.{extra}
 use Rattle.file_output.specs.Sends.{sendWords}
 use Rattle.file_input.proofs.Ages.{Aged, noBlock, old, aged}
 use Rattle.session_frame.specs.declared.Frame.{Frame}

@@ -37,9 +37,8 @@ use Rattle.call_request.specs.declared.AskChange.{AskChange}
 use Rattle.call_request.specs.declared.ReportChange.{ReportChange}
 use Rattle.pack_request.specs.Changes.{changedState}
 use Rattle.call_request.specs.Ask.{askRefusal, askedFile, askedChannel, askOn}
-use Rattle.pack_request.specs.Calls.{askChange, askBy}
+use Rattle.pack_request.specs.Calls.{askChange, askBy, fileOf, reportChange, reportBy, reportByArea}
 use Rattle.call_request.specs.Report.{effectAt, deliveryError, shownStart, shownCount, reportedFile, reportRefusal, refusedReport, reportOn}
-use Rattle.pack_request.specs.Calls.{fileOf, reportChange, reportBy, reportByArea}
 use Rattle.call_record.specs.Get.{getOn}
 use Rattle.pack_record.specs.Gets.{getChange, getBy, getWords}
 use Rattle.call_record.specs.Skip.{skipOn}

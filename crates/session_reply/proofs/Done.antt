@@ -16,7 +16,7 @@ use Rattle.session_frame.specs.declared.Masks as frame
 use Rattle.file_input.specs.Gets.{gotStart, gotWords}
 use Rattle.pool.specs.Serving.{isBound}
 use Rattle.state.specs.declared.State.{State}
-use Rattle.state.specs.declared.FileChange.{FileChange}
+use Rattle.file.specs.declared.FileChange.{FileChange}
 use Rattle.call_open.specs.declared.Free.{Free}
 use Rattle.pack_start.specs.declared.Masks.{Masks}
 use Rattle.pack_start.specs.Fresh.{freshRefusal, freshState}

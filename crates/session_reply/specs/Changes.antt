@@ -13,7 +13,7 @@ use Rattle.file_input.specs.Gets.{gotStart, gotWords}
 use Rattle.pool.specs.Free.{fileCount}
 use Rattle.pool.specs.Serving.{isBound}
 use Rattle.state.specs.Places.{channelCount}
-use Rattle.call_open.specs.Open.{wishOf, freeOf, openOn}
+use Rattle.call_open.specs.Open.{allFlags, wishOf, freeOf, openOn}
 use Rattle.call_open.specs.Close.{closeOn}
 use Rattle.call_request.specs.Ask.{askOn}
 use Rattle.call_request.specs.Report.{reportOn, reportOnArea}
@@ -31,13 +31,13 @@ quietChange n f c = record { answer = answerOr n answer.Done; start = 0; count =
 
 abbrev pub openWrong : Bool → ℕ → ℕ → ℕ → ℕ → Bool
 openWrong unsound file channel unit flags =
-    leb fileCount file || (leb channelCount channel || (leb unitCount unit || (ltb 15 flags || unsound)))
+    leb fileCount file || (leb channelCount channel || (leb unitCount unit || (ltb allFlags flags || unsound)))
 
 abbrev pub movesWrong : Bool → ℕ → ℕ → ℕ → ℕ → Bool
-movesWrong unsound m w n file = ltb 15 file || (ltb n (m * w) || unsound)
+movesWrong unsound m w n file = leb fileCount file || (ltb n (m * w) || unsound)
 
 abbrev pub reportWrongBy : Bool → ℕ → ℕ → ℕ → ℕ → Bool
-reportWrongBy unsound m w n channel = unsound || (ltb n (m * w) || ltb 4 channel)
+reportWrongBy unsound m w n channel = unsound || (ltb n (m * w) || leb channelCount channel)
 
 -- ---- the calls that move no words
 
@@ -51,11 +51,11 @@ closeChangeOn unsound f c file = let x = closeOn (leb fileCount file || unsound)
 
 unfoldable pub askChangeOn : Bool → Bool → File → Channel → ℕ → ℕ → ℕ → Change
 askChangeOn unsound frozen f c file op priority =
-    let x = askOn (unsound || ltb 15 file) f c op priority frozen in
+    let x = askOn (unsound || leb fileCount file) f c op priority frozen in
     record { answer = answerOr (x .refusal) (answer.Asked (x .working)); start = 0; count = 0; file = x .file; channel = x .channel }
 
 unfoldable pub skipChangeOn : Bool → File → Channel → ℕ → Change
-skipChangeOn unsound f c file = let x = skipOn (ltb 15 file || unsound) f in quietChange (x .refusal) (x .file) c
+skipChangeOn unsound f c file = let x = skipOn (leb fileCount file || unsound) f in quietChange (x .refusal) (x .file) c
 
 -- ---- the calls that move or show words
 

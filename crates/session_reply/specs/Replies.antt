@@ -22,8 +22,7 @@ use Rattle.pack_start.specs.Fresh.{freshBy}
 use Rattle.pack_open.specs.Open.{openBy}
 use Rattle.pack_open.specs.Close.{closeBy}
 use Rattle.pack_start.specs.Freeze.{freezeBy, thawBy}
-use Rattle.pack_request.specs.Calls.{askBy}
-use Rattle.pack_request.specs.Calls.{reportBy, reportByArea}
+use Rattle.pack_request.specs.Calls.{askBy, reportBy, reportByArea}
 use Rattle.pack_record.specs.Gets.{getBy, getWords}
 use Rattle.pack_record.specs.Skips.{skipBy}
 use Rattle.pack_record.specs.Puts.{putBy, putByArea}

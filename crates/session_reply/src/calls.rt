@@ -12,7 +12,6 @@ use channel::Channel;
 use channel::UNITS;
 use file::File;
 use pool::FILES;
-use pool::LAST_FILE;
 use pool::is_bound;
 use session_frame::Answer;
 use state::CHANNELS;
@@ -92,7 +91,14 @@ pub fn asked(
 ) -> Change
     ensures { λ r. ⌜ r ≡ askChangeOn unsound frozen f c file op priority ⌝ }
 {
-    let x = ask_on(unsound | (LAST_FILE < file), f, c, op, priority, frozen);
+    let x = ask_on(
+        unsound | (FILES <= file as usize),
+        f,
+        c,
+        op,
+        priority,
+        frozen,
+    );
     let g = x.file;
     let d = x.channel;
     let working = x.working;
@@ -109,7 +115,7 @@ pub fn asked(
 pub fn skipped(unsound: bool, f: File, c: Channel, file: u8) -> Change
     ensures { λ r. ⌜ r ≡ skipChangeOn unsound f c file ⌝ }
 {
-    let x = skip_on((LAST_FILE < file) | unsound, f);
+    let x = skip_on((FILES <= file as usize) | unsound, f);
     let g = x.file;
     quiet(x.refusal, g, c)
 }

@@ -11,9 +11,9 @@ use channel::Channel;
 use file::File;
 use file_input::Got;
 use file_input::got_start;
-use pool::LAST_FILE;
+use pool::FILES;
 use session_frame::Answer;
-use state::LAST_CHANNEL;
+use state::CHANNELS;
 ghost use mathlib.Core.Path.{_≡_};
 ghost use Prim.Native.Nat.{_*_};
 ghost use lib.Dec.{ltb};
@@ -44,7 +44,7 @@ pub fn reported(
     ensures { λ _. ⌜ now (area .exit) ≡ reportAreaOn unsound m w f c channel unit outcome (now (area .entry)) (now (words .entry)) ⌝ }
 {
     let short = is_short(m, w, area.len());
-    let wrong = unsound | (short | (LAST_CHANNEL < channel));
+    let wrong = unsound | (short | (CHANNELS <= channel as usize));
     let x = report_on(wrong, f, c, unit, outcome, w, frozen, area, words);
     let g = x.file;
     let d = x.channel;
@@ -85,7 +85,7 @@ pub fn got(unsound: bool, m: u8, w: u16, f: File, c: Channel, file: u8, area: &[
     ensures { λ r. ⌜ r ≡ getChangeOn unsound m w f c file (now (area .entry)) ⌝ }
 {
     let short = is_short(m, w, area.len());
-    let x = get_on((LAST_FILE < file) | (short | unsound), f, w, area);
+    let x = get_on((FILES <= file as usize) | (short | unsound), f, w, area);
     let g = x.file;
     let found = x.got;
     let told = got_answer(found);
@@ -115,7 +115,13 @@ pub fn filled(
     ensures { λ _. ⌜ now (area .exit) ≡ putAreaOn unsound m w f file (now (area .entry)) (now (words .entry)) ⌝ }
 {
     let short = is_short(m, w, area.len());
-    let x = put_on((LAST_FILE < file) | (short | unsound), f, w, area, words);
+    let x = put_on(
+        (FILES <= file as usize) | (short | unsound),
+        f,
+        w,
+        area,
+        words,
+    );
     let g = x.file;
     quiet(x.refusal, g, c)
 }
@@ -133,7 +139,7 @@ pub fn sealed(
     ensures { λ _. ⌜ now (area .exit) ≡ sealAreaOn unsound m w f file (now (area .entry)) ⌝ }
 {
     let short = is_short(m, w, area.len());
-    let x = seal_on((LAST_FILE < file) | (short | unsound), f, w, area);
+    let x = seal_on((FILES <= file as usize) | (short | unsound), f, w, area);
     let g = x.file;
     quiet(x.refusal, g, c)
 }

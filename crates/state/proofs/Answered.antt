@@ -5,12 +5,11 @@ use mathlib.Core.Bool.{Bool, true, false, not, cond}
 use Prim.Native.Nat.{ℕ}
 use lib.Dec.{eqb}
 use borrow.Author.Tests.{eq-eqb, ne-eqb}
-use Rattle.file.specs.declared.File.{File}
 use Rattle.state.specs.declared.State.{State}
 use Rattle.state.specs.Stores.{withFile}
 use Rattle.state.specs.declared.Called.{Called}
-use Rattle.state.specs.declared.FileChange.{FileChange}
-use Rattle.state.specs.Answers.{called, fileChange}
+use Rattle.file.specs.declared.FileChange.{FileChange}
+use Rattle.state.specs.Answers.{called}
 
 pub not-so : (b : Bool) → not b ≡ false → b ≡ true
 not-so true e = refl
@@ -23,24 +22,12 @@ state-refused n s t h = rw (ne-eqb n 0 h)
 pub state-accepted : (n : ℕ) (s t : State) → n ≡ 0 → called n s t .state ≡ t
 state-accepted n s t h = rw (eq-eqb n 0 h)
 
-pub file-refused : (n : ℕ) (f g : File) → n ≢ 0 → fileChange n f g .file ≡ f
-file-refused n f g h = rw (ne-eqb n 0 h)
-
-pub file-accepted : (n : ℕ) (f g : File) → n ≡ 0 → fileChange n f g .file ≡ g
-file-accepted n f g h = rw (eq-eqb n 0 h)
-
 -- what a call's two returns answer, by the number n that it found
 pub answers-refused : (n k : ℕ) (s t : State) → n ≡ k → n ≢ 0 → record { refusal = n; state = s } ≡ called k s t
 answers-refused n k s t e h = rw (← e, ne-eqb n 0 h)
 
 pub answers-accepted : (n k : ℕ) (s t u : State) → n ≡ k → n ≡ 0 → u ≡ t → record { refusal = 0; state = u } ≡ called k s t
 answers-accepted n k s t u e z same = rw (← e, z, same)
-
-pub changes-refused : (n k : ℕ) (f g : File) → n ≡ k → n ≢ 0 → record { refusal = n; file = f } ≡ fileChange k f g
-changes-refused n k f g e h = rw (← e, ne-eqb n 0 h)
-
-pub changes-accepted : (n k : ℕ) (f g h : File) → n ≡ k → n ≡ 0 → h ≡ g → record { refusal = 0; file = h } ≡ fileChange k f g
-changes-accepted n k f g h e z same = rw (← e, z, same)
 
 -- the same for a call that stores the file of what its inner form answered
 module _ (x y : FileChange) (s : State) (file : ℕ) (same : x ≡ y) where

@@ -2,15 +2,9 @@
 use Prim.Native.Nat.{ℕ}
 use mathlib.Core.Bool.{cond}
 use lib.Dec.{eqb}
-use Rattle.file.specs.declared.File.{File}
 use Rattle.state.specs.declared.State.{State}
 use Rattle.state.specs.declared.Called.{Called}
-use Rattle.state.specs.declared.FileChange.{FileChange}
 
 -- "A refusal returns the number alone and changes nothing.": of the state before and the state that an accepted call makes
 abbrev pub called : ℕ → State → State → Called
 called n before after = record { refusal = n; state = cond (eqb n 0) after before }
-
--- the same of the one file that an inner form takes
-abbrev pub fileChange : ℕ → File → File → FileChange
-fileChange n before after = record { refusal = n; file = cond (eqb n 0) after before }

@@ -20,9 +20,8 @@ use Rattle.channel.specs.declared.Turn.the-variants.{Idle, Waiting, Displaced, 
 use Rattle.channel.specs.declared.Unit.{Unit}
 use Rattle.channel.specs.declared.Channel.{Channel}
 use Rattle.channel_outcomes.specs.Rules.{rowOf}
-use Rattle.channel.specs.Units.{size, idleUnit, unitAt, declaredAt, turnAt, freshWith, bitsFrom, freshOf, isIdle}
+use Rattle.channel.specs.Units.{size, idleUnit, unitAt, declaredAt, turnAt, freshWith, bitsFrom, freshOf, isIdle, isWorking, unitWorks}
 use Rattle.channel_turns.specs.Scans.{beginOf, workingIn, Scanned, finds, misses}
-use Rattle.channel.specs.Units.{isWorking, unitWorks}
 use Rattle.channel_theorems.proofs.Theorems.Turning.{held, working-scan}
 use Rattle.channel_theorems.proofs.Theorems.Starts.{works-found}
 use Rattle.channel_theorems.proofs.Theorems.Sound.{Counted, OneWorks, HoldOk, InRanges}

@@ -7,7 +7,8 @@ use Rattle.file.specs.declared.Side.{Side}
 use Rattle.file.specs.declared.Slot.the-variants.{Taken, Part, Full, Empty}
 use Rattle.file.specs.declared.File.{File}
 use Rattle.file.specs.Sides.{slotAt, isSide, emptySide, takenSide, partSide, oldest}
-use Rattle.file.specs.Fills.{turnedBy, nextBlock, filledAt, emptiedAt, withoutOldest, withSlot}
+use Rattle.file.specs.Fills.{turnedBy, filledAt, emptiedAt, withoutOldest, withSlot}
+use Rattle.word.specs.CheckWords.{nextNumber}
 use Rattle.file_input.specs.Delivers.{hasEmpty, tookBuffer, delivered, gaveBack, withMark, metMark}
 use Rattle.file_output.specs.Puts.{putSide, hasRoom, wordsAfter, added, afterPut}
 use Rattle.file_output.specs.Parts.{hasPart, isComplete, partLength, sealed}
@@ -52,7 +53,7 @@ emptied-alike f k = alike-slot f k Empty false (f .block)
 
 filled-alike : (f : File) (k : Side) (n e : ℕ) → Alike f (filledAt f k n e)
 unfolding filledAt
-filled-alike f k n e = alike-slot f k (Full n 0 e) (turnedBy f k) (nextBlock (f .block))
+filled-alike f k n e = alike-slot f k (Full n 0 e) (turnedBy f k) (nextNumber (f .block))
 
 marked-alike : (f : File) → Alike f (withMark f)
 marked-alike f = record { opened = refl; channel = refl; unit = refl; double = refl; output = refl; low = refl; high = refl }

@@ -12,7 +12,7 @@ use Rattle.file.specs.declared.Buffer.{Buffer}
 use Rattle.file.specs.declared.File.{File}
 use Rattle.file.specs.Slots.{isEmpty, isFull, fullError}
 use Rattle.file.specs.Sides.{noBuffer}
-use Rattle.file.specs.Fills.{blockNumbers}
+use Rattle.word.specs.CheckWords.{blockNumbers}
 use Rattle.file.specs.Sizes.{sizesFit, closedFile}
 use Rattle.state_sound.specs.Files.{inRange, isNoBuffer, hasBuffers, oneIf, takenCount, takenRight, fullFits, fullRight, partsHeld, partFits, partRight, placeFits, placeRight, isUnread, openSound, isBlank, fileSound}
 

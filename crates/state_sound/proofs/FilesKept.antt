@@ -15,7 +15,8 @@ use Rattle.file.specs.declared.Side.the-variants.{Low, High, Neither}
 use Rattle.file.specs.declared.File.{File}
 use Rattle.file.specs.Slots.{isEmpty, isTaken, isPart, isFull}
 use Rattle.file.specs.Sides.{slotAt, isSide}
-use Rattle.file.specs.Fills.{withSlot, blockNumbers, turnedBy, nextBlock, filledAt, emptiedAt}
+use Rattle.file.specs.Fills.{withSlot, turnedBy, filledAt, emptiedAt}
+use Rattle.word.specs.CheckWords.{blockNumbers, nextNumber}
 use Rattle.state_sound.specs.Files.{isNoBuffer, oneIf, takenCount, partsHeld}
 use Rattle.state_sound.proofs.FileFacts.{slotFits, Sound}
 
@@ -152,7 +153,7 @@ turned-full f Neither n e t = true-not-false t refl
 pub filled : (m w : ℕ) (f : File) (k : Side) (n e : ℕ) → Sound m w f → owns f k ≡ true → 1 ≤ n → n ≤ f .size → e ≤ 3 → (f .output ≡ true → e ≡ 0) → Sound m w (filledAt f k n e)
 unfolding filledAt
 filled m w f k n e S o some fit err zero =
-    changed m w f k (Full n 0 e) (turnedBy f k) (nextBlock (f .block)) S
+    changed m w f k (Full n 0 e) (turnedBy f k) (nextNumber (f .block)) S
     (record {
       own = o;
       slot = full-slot (f .output) (f .size) (f .rlen) n 0 e some fit (omega arith) err (λ q. (refl, zero q));

@@ -15,7 +15,7 @@ use Rattle.file.specs.declared.Side.the-variants.{Low, High, Neither}
 use Rattle.file.specs.declared.File.{File}
 use Rattle.file.specs.Slots.{fullWords}
 use Rattle.file.specs.Sides.{bufferAt, slotAt, startAt, isSide, takenSide, oldest}
-use Rattle.file.specs.Sizes.{extra}
+use Rattle.word.specs.CheckWords.{extra}
 use Rattle.file_output.specs.Puts.{putSide, wordsAfter}
 use Rattle.file_output.specs.Sends.{sendStart, sendWords}
 use Rattle.file_input.proofs.Ages.{Aged, noBlock, old, aged}

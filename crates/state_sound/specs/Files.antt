@@ -10,7 +10,7 @@ use Rattle.file.specs.declared.Slot.the-variants.{Empty, Taken, Part, Full}
 use Rattle.file.specs.declared.Buffer.{Buffer}
 use Rattle.file.specs.declared.File.{File}
 use Rattle.file.specs.Slots.{isEmpty, isTaken, isPart, isFull, fullPlace, fullError}
-use Rattle.file.specs.Fills.{blockNumbers}
+use Rattle.word.specs.CheckWords.{blockNumbers}
 use Rattle.file.specs.Sizes.{sizesFit}
 use Rattle.pool.specs.Free.{heldBy}
 use Rattle.pool.specs.Serving.{serves}

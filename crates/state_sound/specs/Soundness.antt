@@ -13,8 +13,7 @@ use Rattle.channel.specs.declared.Unit.{Unit}
 use Rattle.channel.specs.declared.Channel.{Channel}
 use Rattle.channel.specs.declared.Work.{Work}
 use Rattle.channel_outcomes.specs.Rules.{rowOf}
-use Rattle.channel.specs.Units.{unitWorks}
-use Rattle.channel.specs.Units.{size, declaredAt, turnAt}
+use Rattle.channel.specs.Units.{unitWorks, size, declaredAt, turnAt}
 use Rattle.file.specs.declared.File.{File}
 use Rattle.file_input.specs.Delivers.{hasFull}
 use Rattle.pool.specs.Free.{poolSound}

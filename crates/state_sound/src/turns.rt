@@ -4,6 +4,7 @@ use channel::Request;
 use channel::Turn;
 use channel::Unit;
 use channel::Work;
+use channel_outcomes::attempt_limit;
 ghost use mathlib.Core.Path.{_≡_};
 ghost use mathlib.Core.Bool.{_&&_};
 ghost use Rattle.channel_outcomes.specs.Rules.{rowOf};
@@ -123,17 +124,6 @@ pub fn is_waiting(t: Turn) -> bool
         Turn::Waiting(_) => true,
         Turn::Displaced(_) => true,
         Turn::Working(_) => false,
-    }
-}
-
-// The attempt at which a failure of the operation is permanent.
-fn attempt_limit(op: Op) -> u8
-    ensures { λ r. ⌜ r ≡ rowOf op .attempts ⌝ }
-{
-    match op {
-        Op::Read => 101,
-        Op::Write => 27,
-        Op::Mark => 27,
     }
 }
 

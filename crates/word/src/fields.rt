@@ -2,7 +2,18 @@
 ghost use mathlib.Core.Path.{_≡_};
 ghost use Prim.Native.Nat.{_≤_, _<_, _^_};
 ghost use Rattle.word.specs.Sums.{firstHalf};
-ghost use Rattle.word.specs.CheckWords.{address, chosen, checkWord, nextNumber};
+ghost use Rattle.word.specs.CheckWords.{address, blockNumbers, chosen, checkWord, extra as extraOf, nextNumber};
+use crate::BLOCK_NUMBERS;
+
+// e: how many words of a block are its check word, 1 if sequence or check sums are chosen, else 0.
+pub fn extra(sequence: bool, check: bool) -> u16
+    ensures { λ r. ⌜ (r ≡ extraOf sequence check) × (r ≤ 1) ⌝ }
+{
+    if sequence | check {
+        return 1;
+    }
+    0
+}
 
 // A field's value if it is chosen, else 0.
 fn field(choice: bool, n: u64) -> u64
@@ -36,7 +47,7 @@ pub fn number_field(w: u64) -> u64
 
 // The block number after n: one more, and 0 after 32,767.
 pub fn next_number(n: u16) -> u16
-    ensures { λ r. ⌜ (r ≡ nextNumber n) × (r < 2 ^ 15) ⌝ }
+    ensures { λ r. ⌜ (r ≡ nextNumber n) × (r < blockNumbers) ⌝ }
 {
-    (((n as u32) + 1) % 32768) as u16
+    (((n as u32) + 1) % BLOCK_NUMBERS) as u16
 }

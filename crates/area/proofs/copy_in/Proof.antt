@@ -1,97 +1,61 @@
--- `area::copy_in` meets its contract. After i turns the first i words are in their places (`Copied`). Assumes nothing.
+-- `area::copy_in` meets its contract: the part is filled and put back. Assumes nothing.
 use borrow.Author.Needs.{needs}
-use Prim.Native.Nat.{_+_, _-_, _≤_, _<_}
 use native.Mathlib.Omega.{arith}
-use lib.ListN.{length}
-use Rattle.area.proofs.Copies.{copy-misfit, Copied, copied-none, copied-length, copied-one, copied-all}
+use Rattle.area.proofs.Copies.{copy-misfit, copied-back}
 use Rattle.area.proofs.copy_in.Statement.{statement}
 use Rattle.area.proofs.copy_in.Tie as tie
 
-abbrev Inv-loop : tie.InvT-loop
-Inv-loop area₀ at words i₀ area i = Copied at words area₀ i area
-
-abbrev μ-loop : tie.MeasureT-loop
-μ-loop area₀ at words i₀ area i = length words - i
-
-returns : tie.Need-returns Inv-loop μ-loop
+returns : tie.Need-returns
 returns c =
-    let a = c .before .args in
+    let a = c .before .before .before .args in
     copy-misfit (a .at) (a .words .now) (a .area .now) (omega arith)
 
-sub-if2 : tie.Need-sub-if2 Inv-loop μ-loop
+sub-if2 : tie.Need-sub-if2
 sub-if2 c = search needs
 
-returns-2 : tie.Need-returns-2 Inv-loop μ-loop
+returns-2 : tie.Need-returns-2
 returns-2 c =
-    let a = c .before .before .args in
+    let a = c .before .before .before .before .args in
     copy-misfit (a .at) (a .words .now) (a .area .now) (omega arith)
 
-loop-holds : tie.Need-loop-holds Inv-loop μ-loop
-loop-holds c =
-    let a = c .before .before .args in
-    copied-none (a .at) (a .words .now) (a .area .now) (omega arith)
+add-end : tie.Need-add-end
+add-end c = search needs
 
-mul-area : tie.Need-mul-area Inv-loop μ-loop
-mul-area c = search needs
+mul-fill : tie.Need-mul-fill
+mul-fill c = search needs
 
-shared-slice-read-area : tie.Need-shared-slice-read-area Inv-loop μ-loop
-shared-slice-read-area c = search needs
+sub-fill : tie.Need-sub-fill
+sub-fill c = search needs
 
-add-area : tie.Need-add-area Inv-loop μ-loop
-add-area c =
-    let t = c .before .before .loop in
-    omega (arith, t .inv .fits)
+part-fill-start : tie.Need-part-fill-start
+part-fill-start c = search needs
 
-mul-area-2 : tie.Need-mul-area-2 Inv-loop μ-loop
-mul-area-2 c = search needs
+part-fill-end : tie.Need-part-fill-end
+part-fill-end c = search needs
 
-slice-write-area : tie.Need-slice-write-area Inv-loop μ-loop
-slice-write-area c =
-    let t = c .before .before .loop in
-    let a = c .before .before .before .before .before .args in
-    omega (arith, copied-length (a .at) (a .words .now) (a .area .now) (t .i) (t .area) (t .inv), t .inv .fits)
+fill-requires : tie.Need-fill-requires
+fill-requires c κs = search needs
 
-add-i : tie.Need-add-i Inv-loop μ-loop
-add-i c = search needs
+same-length : tie.Need-same-length
+same-length c = search needs
 
-loop-less : tie.Need-loop-less Inv-loop μ-loop
-loop-less c = search needs
-
-loop-again : tie.Need-loop-again Inv-loop μ-loop
-loop-again c =
-    let t = c .before .before .loop in
-    let a = c .before .before .before .before .before .args in
-    copied-one (a .at) (a .words .now) (a .area .now) (t .i) (t .area) 0 (omega arith) (t .inv)
-
-same-length : tie.Need-same-length Inv-loop μ-loop
-same-length c =
-    let t = c .before .loop in
-    let a = c .before .before .before .before .args in
-    copied-length (a .at) (a .words .now) (a .area .now) (t .i) (t .area) (t .inv)
-
-returns-3 : tie.Need-returns-3 Inv-loop μ-loop
+returns-3 : tie.Need-returns-3
 returns-3 c =
-    let t = c .before .loop in
-    let a = c .before .before .before .before .args in
-    copied-all (a .at) (a .words .now) (a .area .now) (t .i) (t .area) (omega arith) (t .inv)
+    let a = c .before .before .before .before .before .before .before .before .args in
+    copied-back (a .at) (a .words .now) (a .area .now) (c .before .before .fill .last .0) (omega arith) (c .before .before .fill .ensures)
 
 pub copy-in-spec : {M : Type 1} → statement M
 copy-in-spec =
     tie.close
     (tie.spec
-    Inv-loop
-    μ-loop
     returns
     sub-if2
     returns-2
-    loop-holds
-    mul-area
-    shared-slice-read-area
-    add-area
-    mul-area-2
-    slice-write-area
-    add-i
-    loop-less
-    loop-again
+    add-end
+    mul-fill
+    sub-fill
+    part-fill-start
+    part-fill-end
+    fill-requires
     same-length
     returns-3)

@@ -15,8 +15,8 @@ use Rattle.area.specs.Lists.{allOf}
 use Rattle.area.specs.Parts.{isWord}
 use Rattle.area.proofs.Walks.{by-test, and-both, or-left, or-right, or-first, or-second, all-append}
 use Rattle.word.specs.Sums.{logicalSum, firstHalf, folded}
-use Rattle.word.specs.CheckWords.{address, chosen, checkWord}
-use Rattle.block.specs.Blocks.{extra, sealRefusal, sealed, dataWords, errorOf, judged}
+use Rattle.word.specs.CheckWords.{address, chosen, checkWord, extra}
+use Rattle.block.specs.Blocks.{sealRefusal, sealed, dataWords, errorOf, judged}
 use Rattle.word.proofs.Laws.CheckWord.{address-small, check-word-lt, check-word-first, check-word-address}
 use Rattle.block.proofs.Laws.Block.{seal-number, seal-room, seal-place, seal-writes, seal-leaves, judge-error}
 

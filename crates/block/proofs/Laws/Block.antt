@@ -13,8 +13,8 @@ use Rattle.area.proofs.Walks.{by-test, or-left, or-right, or-first, or-second, 
 use Rattle.area.proofs.Pastes.{part-all}
 use Rattle.area.proofs.Lowest.{lowest-here, lowest-past, lowest-none, lowest-end}
 use Rattle.word.specs.Sums.{logicalSum}
-use Rattle.word.specs.CheckWords.{chosen, checkWord}
-use Rattle.block.specs.Blocks.{extra, isNumber, sealRefusal, withCheckWord, sealed, dataWords, judgeRefusal, errorOf, judged}
+use Rattle.word.specs.CheckWords.{chosen, checkWord, extra}
+use Rattle.block.specs.Blocks.{isNumber, sealRefusal, withCheckWord, sealed, dataWords, judgeRefusal, errorOf, judged}
 use Rattle.word.proofs.Laws.CheckWord.{check-word-unsummed}
 
 -- ---- sealing

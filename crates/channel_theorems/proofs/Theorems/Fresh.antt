@@ -9,10 +9,9 @@ use Rattle.channel.specs.declared.Turn.{Turn}
 use Rattle.channel.specs.declared.Turn.the-variants.{Idle}
 use Rattle.channel.specs.declared.Unit.{Unit}
 use Rattle.channel.specs.declared.Channel.{Channel}
-use Rattle.channel.specs.Units.{size, idleUnit, unitAt, declaredAt, withTurn, isIdle, freshWith}
+use Rattle.channel.specs.Units.{size, idleUnit, unitAt, declaredAt, withTurn, isIdle, freshWith, isWorking}
 use Rattle.channel_turns.specs.Starts.{startOf}
 use Rattle.channel_theorems.specs.History.{Station, Event, Step, step, fresh, run}
-use Rattle.channel.specs.Units.{isWorking}
 use Rattle.channel_theorems.proofs.Theorems.Turning.{held, size-with, at-set, busy-inside, declared-inside}
 use Rattle.channel_theorems.proofs.Theorems.Starts.{Started, isFrozen, isBusy, isQuiet, begins, started}
 use Rattle.channel_theorems.proofs.Theorems.Calls.{endedAt, Took, refuses, asks, repeats, ends, freezes, thaws, took}

@@ -6,9 +6,8 @@ use Prim.Native.Nat.{ℕ}
 use Rattle.channel.specs.declared.Request.{Request}
 use Rattle.channel.specs.declared.Turn.the-variants.{Idle, Waiting, Working}
 use Rattle.channel.specs.declared.Channel.{Channel}
-use Rattle.channel.specs.Units.{turnAt, isIdle, withTurn}
+use Rattle.channel.specs.Units.{turnAt, isIdle, withTurn, isWorking}
 use Rattle.channel_turns.specs.Starts.{startOf, newRequest}
-use Rattle.channel.specs.Units.{isWorking}
 use Rattle.channel_theorems.proofs.Theorems.Turning.{at-set, declared-inside}
 use Rattle.channel_theorems.proofs.Theorems.Sound.{OneWorks}
 use Rattle.area.proofs.Walks.{true-not-false}

@@ -17,10 +17,9 @@ use Rattle.channel.specs.declared.Turn.the-variants.{Idle, Working}
 use Rattle.channel.specs.declared.Channel.{Channel}
 use Rattle.channel_outcomes.specs.declared.Verdict.the-variants.{Refused, Repeats, Ends}
 use Rattle.channel_outcomes.specs.Rules.{mostAttempts, incompleteWord, rowOf, isAllowed, isFailure, isPermanent, nextAttempt, endingOf, verdictOf}
-use Rattle.channel.specs.Units.{size, declaredAt, turnAt, withTurn, isIdle}
+use Rattle.channel.specs.Units.{size, declaredAt, turnAt, withTurn, isIdle, isWorking}
 use Rattle.channel_turns.specs.Starts.{newRequest}
 use Rattle.channel_theorems.specs.History.{Station, Event, Step, step, run}
-use Rattle.channel.specs.Units.{isWorking}
 use Rattle.channel_theorems.proofs.Theorems.Turning.{held, at-set, busy-inside, declared-inside}
 use Rattle.channel_theorems.proofs.Theorems.Starts.{Started, isFrozen, isBusy, isQuiet, begins, started}
 use Rattle.channel_theorems.proofs.Theorems.Calls.{Took, refuses, asks, repeats, ends, freezes, thaws, took, incomplete-held}

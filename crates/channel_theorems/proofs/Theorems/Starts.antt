@@ -9,13 +9,12 @@ use Rattle.channel.specs.declared.Turn.{Turn}
 use Rattle.channel.specs.declared.Turn.the-variants.{Idle, Waiting, Displaced, Working}
 use Rattle.channel.specs.declared.Unit.{Unit}
 use Rattle.channel.specs.declared.Channel.{Channel}
-use Rattle.channel.specs.Units.{size, turnAt, withTurn, isIdle}
+use Rattle.channel.specs.Units.{size, turnAt, withTurn, isIdle, isWorking}
 use Rattle.channel_turns.specs.Scans.{priority, beginOf, workingIn, priorityIn, ordinaryIn, orElse, nextTurn, Before, Scanned, finds, misses}
 use Rattle.area.specs.Lists.{isFound}
 use Rattle.channel_turns.specs.Turns.{isOrdinary}
 use Rattle.channel_turns.specs.Starts.{begunTurn, begunAt, startOf}
 use Rattle.channel_theorems.proofs.Theorems.Order.{Compared, same, first, later, compare-before}
-use Rattle.channel.specs.Units.{isWorking}
 use Rattle.channel_theorems.proofs.Theorems.Turning.{wantsPriority, wantsTurn, worksTurn, held, beginIn, working-scan, priority-scan, ordinary-scan, at-set, everywhere, busy-inside}
 
 -- ---- a start

@@ -15,8 +15,7 @@ use Rattle.channel.specs.declared.Turn.{Turn}
 use Rattle.channel.specs.declared.Turn.the-variants.{Idle, Waiting, Displaced, Working}
 use Rattle.channel.specs.declared.Unit.{Unit}
 use Rattle.channel.specs.declared.Channel.{Channel}
-use Rattle.channel.specs.Units.{isWorking}
-use Rattle.channel.specs.Units.{size, idleUnit, unitAt, declaredAt, turnAt, withTurn, isIdle}
+use Rattle.channel.specs.Units.{isWorking, size, idleUnit, unitAt, declaredAt, turnAt, withTurn, isIdle}
 use Rattle.channel_turns.specs.Scans.{waitingAs, standingOf, working, priority, ordinary, beginOf, workingIn, priorityIn, ordinaryIn, Scanned, finds, misses, upward}
 use Rattle.channel.proofs.Laws.Units.{unit-beyond}
 use Rattle.channel_turns.proofs.Laws.Scans.{begin-here}

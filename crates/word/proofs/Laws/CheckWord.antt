@@ -69,9 +69,7 @@ check-word-unsummed sequence s t number = refl
 -- ---- the next block number: "go up by one .. and pass from 32,767 to 0"
 
 pub next-number-up : (n : ℕ) → n < 32767 → nextNumber n ≡ n + 1
-unfolding nextNumber address
 next-number-up n h = mod-eq-of-lt (omega arith)
 
 pub next-number-wraps : nextNumber 32767 ≡ 0
-unfolding nextNumber address
 next-number-wraps = refl

@@ -22,8 +22,11 @@ returns c =
     let a = c .before .before .args in
     judge-bad-number (a .block .now) (a .sequence) (a .check) (a .number) (omega arith)
 
-extra-words-requires : tie.Need-extra-words-requires
-extra-words-requires c κs = search needs
+extra-requires : tie.Need-extra-requires
+extra-requires c κs = search needs
+
+cast-e : tie.Need-cast-e
+cast-e c = search needs
 
 data-words-requires : tie.Need-data-words-requires
 data-words-requires c κs = search needs
@@ -65,7 +68,7 @@ returns-3 c =
     let n = c .before .before .before .before .before .before .before .data-words .result in
     let fits = summed-fits (take n block) (c .before .before .before .before .before .logical-sum .result) (c .before .before .before .before .before .logical-sum .ensures) in
     let all : allOf isWord block ≡ true = sym (block-words block n) ∙ ap₂ _&&_ (sym fits) (sym (c .before .before .before .are-words .ensures)) ∙ not-false _ (c .before .if2 .left) in
-    judge-short block (a .sequence) (a .check) (a .number) (omega arith) all (omega (arith, c .before .before .before .before .before .before .before .data-words .ensures .0, c .before .before .before .before .before .before .before .before .extra-words .ensures .0))
+    judge-short block (a .sequence) (a .check) (a .number) (omega arith) all (omega (arith, c .before .before .before .before .before .before .before .data-words .ensures .0, c .before .before .before .before .before .before .before .before .extra .ensures .0))
 
 word-at-requires : tie.Need-word-at-requires
 word-at-requires c κs = search needs
@@ -81,10 +84,10 @@ returns-4 c =
     let fits = summed-fits (take n block) (c .before .before .before .before .before .before .before .logical-sum .result) (c .before .before .before .before .before .before .before .logical-sum .ensures) in
     let both = not-false _ (c .before .before .before .if2 .left) in
     let all : allOf isWord block ≡ true = sym (block-words block n) ∙ ap₂ _&&_ (sym fits) (sym (c .before .before .before .before .before .are-words .ensures)) ∙ both in
-    let at : n ≡ dataWords block (a .sequence) (a .check) = c .before .before .before .before .before .before .before .before .before .data-words .ensures .0 ∙ ap (λ (e : ℕ). length block - e) (c .before .before .before .before .before .before .before .before .before .before .extra-words .ensures .0) in
+    let at : n ≡ dataWords block (a .sequence) (a .check) = c .before .before .before .before .before .before .before .before .before .data-words .ensures .0 ∙ ap (λ (e : ℕ). length block - e) (c .before .before .before .before .before .before .before .before .before .before .extra .ensures .0) in
     ap (λ (e : ℕ). record { refusal = 0; error = e }) (c .error-of .ensures)
     ∙ judge-error block (a .sequence) (a .check) (a .number) (omega arith) all (c .before .before .before .before .before .before .before .logical-sum .result .sum) (c .before .word-at .result)
-    (omega (arith, at, c .before .before .before .before .before .before .before .before .before .before .extra-words .ensures .1))
+    (omega (arith, at, c .before .before .before .before .before .before .before .before .before .before .extra .ensures .1))
     (summed-sum (take n block) (c .before .before .before .before .before .before .before .logical-sum .result) (c .before .before .before .before .before .before .before .logical-sum .ensures) (sym fits ∙ and-left _ _ both) ∙ ap (λ (k : ℕ). logicalSum (take k block)) at)
     (c .before .word-at .ensures ∙ ap (λ (k : ℕ). getD block k 0) at)
 
@@ -93,8 +96,8 @@ judge-spec =
     tie.close
     (tie.spec
     returns
-    extra-words-requires
-    data-words-requires
+    extra-requires
+    cast-e data-words-requires
     slice-aggregate-logical-sum
     logical-sum-requires
     mul-are-words

@@ -11,15 +11,17 @@ use lib.ListN.{length, take}
 use Rattle.area.specs.Lists.{allOf}
 use Rattle.area.specs.Parts.{isWord}
 use Rattle.word.specs.Sums.{logicalSum}
-use Rattle.word.specs.CheckWords.{checkWord}
-use Rattle.block.specs.Blocks.{extra}
+use Rattle.word.specs.CheckWords.{checkWord, extra}
 use Rattle.block.proofs.Laws.Block.{seal-bad-number, seal-no-room, seal-spoilt, seal-accepted, seal-summed, seal-word}
 use Rattle.word.proofs.Laws.Sum.{summed-fits, summed-sum}
 use Rattle.block.proofs.blocks.sealed_word.Statement.{statement}
 use Rattle.block.proofs.blocks.sealed_word.Tie as tie
 
-extra-words-requires : tie.Need-extra-words-requires
-extra-words-requires c κs = search needs
+extra-requires : tie.Need-extra-requires
+extra-requires c κs = search needs
+
+cast-e : tie.Need-cast-e
+cast-e c = search needs
 
 returns : tie.Need-returns
 returns c =
@@ -37,7 +39,7 @@ sub-if3 c = search needs
 returns-3 : tie.Need-returns-3
 returns-3 c =
     let a = c .before .before .before .before .before .args in
-    (sym (seal-no-room (a .block .now) (a .n) (a .sequence) (a .check) (a .number) (omega (arith, c .before .before .before .extra-words .ensures .0))), λ z. absurd (omega arith))
+    (sym (seal-no-room (a .block .now) (a .n) (a .sequence) (a .check) (a .number) (omega (arith, c .before .before .before .extra .ensures .0))), λ z. absurd (omega arith))
 
 summed-words-requires : tie.Need-summed-words-requires
 summed-words-requires c κs = search needs
@@ -60,7 +62,7 @@ returns-4 c =
     let all : allOf isWord (take k (a .block .now)) ≡ true = sym (summed-fits (take k (a .block .now)) (c .before .before .logical-sum .result) (c .before .before .logical-sum .ensures)) ∙ c .before .if4 .taken in
     let fine : not (a .check && not (allOf isWord (take (a .n) (a .block .now)))) ≡ true =
     sym (seal-summed (a .block .now) (a .n) (a .sequence) (a .check) (a .number)) ∙ ap (allOf isWord) (sym at) ∙ all in
-    let room : a .n + extra (a .sequence) (a .check) ≤ length (a .block .now) = omega (arith, c .before .before .before .before .before .before .before .before .extra-words .ensures .0) in (
+    let room : a .n + extra (a .sequence) (a .check) ≤ length (a .block .now) = omega (arith, c .before .before .before .before .before .before .before .before .extra .ensures .0) in (
       sym (seal-accepted (a .block .now) (a .n) (a .sequence) (a .check) (a .number) (omega arith) room (not-true _ fine)),
       λ z.
           c .check-word .ensures .0
@@ -76,7 +78,7 @@ returns-5 c =
     let tall : allOf isWord (take k (a .block .now)) ≡ false = sym (summed-fits (take k (a .block .now)) (c .before .logical-sum .result) (c .before .logical-sum .ensures)) ∙ c .if4 .left in
     let spoilt : not (a .check && not (allOf isWord (take (a .n) (a .block .now)))) ≡ false =
     sym (seal-summed (a .block .now) (a .n) (a .sequence) (a .check) (a .number)) ∙ ap (allOf isWord) (sym at) ∙ tall in
-    let room : a .n + extra (a .sequence) (a .check) ≤ length (a .block .now) = omega (arith, c .before .before .before .before .before .before .before .extra-words .ensures .0) in (
+    let room : a .n + extra (a .sequence) (a .check) ≤ length (a .block .now) = omega (arith, c .before .before .before .before .before .before .before .extra .ensures .0) in (
       sym (seal-spoilt (a .block .now) (a .n) (a .sequence) (a .check) (a .number) (omega arith) room (not-false _ spoilt)),
       λ z. absurd (omega arith),
     )
@@ -85,8 +87,8 @@ pub sealed-word-spec : {M : Type 1} → statement M
 sealed-word-spec =
     tie.close
     (tie.spec
-    extra-words-requires
-    returns
+    extra-requires
+    cast-e returns
     returns-2
     sub-if3
     returns-3

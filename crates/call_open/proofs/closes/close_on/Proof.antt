@@ -1,6 +1,6 @@
 -- `call_open::close_on` meets its contract, from the contracts of `close_refusal` and `closed_file`. Assumes nothing.
 use Rattle.call_open.specs.Close.{closeOn}
-use Rattle.state.proofs.Answered.{changes-refused, changes-accepted}
+use Rattle.file.proofs.Changed.{changes-accepted, changes-refused}
 use borrow.Author.Needs.{needs}
 use Rattle.call_open.proofs.closes.close_on.Statement.{statement}
 use Rattle.call_open.proofs.closes.close_on.Tie as tie

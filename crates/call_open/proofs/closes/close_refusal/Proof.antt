@@ -1,4 +1,4 @@
--- `call_open::close_refusal` meets its contract, from the contracts of `has_request`, `has_unsent` and `lowest_of`. Assumes nothing.
+-- `call_open::close_refusal` meets its contract, from the contracts of `has_request`, `has_unsent` and `row`. Assumes nothing.
 use mathlib.Core.Path.{_∙_}
 use Rattle.area.specs.Refusals.{lowest}
 use Rattle.call_open.specs.Close.{closeRows}
@@ -15,14 +15,23 @@ has-request-requires c κs = search needs
 has-unsent-requires : tie.Need-has-unsent-requires
 has-unsent-requires c κs = search needs
 
-lowest-of-requires : tie.Need-lowest-of-requires
-lowest-of-requires c κs = search needs
+row-requires : tie.Need-row-requires
+row-requires c κs = search needs
+
+row-requires-2 : tie.Need-row-requires-2
+row-requires-2 c κs = search needs
+
+row-requires-3 : tie.Need-row-requires-3
+row-requires-3 c κs = search needs
+
+row-requires-4 : tie.Need-row-requires-4
+row-requires-4 c κs = search needs
 
 returns : tie.Need-returns
 unfolding lowest closeRows
-returns c = c .lowest-of .ensures ∙ simp (c .before .before .has-unsent .ensures, c .before .before .before .has-request .ensures)
+returns c = simp (c .row4 .ensures, c .before .row3 .ensures, c .before .before .row2 .ensures, c .before .before .before .row .ensures, c .before .before .before .before .has-unsent .ensures, c .before .before .before .before .before .has-request .ensures)
 
 pub close-refusal-spec : {M : Type 1} → statement M
 close-refusal-spec =
     tie.close
-    (tie.spec cast-has-request has-request-requires has-unsent-requires lowest-of-requires returns)
+    (tie.spec cast-has-request has-request-requires has-unsent-requires row-requires row-requires-2 row-requires-3 row-requires-4 returns)

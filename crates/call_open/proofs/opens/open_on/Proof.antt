@@ -1,6 +1,6 @@
 -- `call_open::open_on` meets its contract, from the contracts of `open_refusal` and `opened_file`. Assumes nothing.
 use Rattle.call_open.specs.Open.{openOn}
-use Rattle.state.proofs.Answered.{changes-refused, changes-accepted}
+use Rattle.file.proofs.Changed.{changes-accepted, changes-refused}
 use borrow.Author.Needs.{needs}
 use Rattle.call_open.proofs.opens.open_on.Statement.{statement}
 use Rattle.call_open.proofs.opens.open_on.Tie as tie

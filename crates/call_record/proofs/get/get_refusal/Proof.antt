@@ -1,6 +1,6 @@
--- `call_record::get_refusal` meets its contract: the rows that get does not have are false. Assumes nothing.
-use mathlib.Core.Path.{_∙_}
-use Rattle.call_record.proofs.GetSteps.{get-rows}
+use Rattle.area.specs.Refusals.{lowest}
+use Rattle.call_record.specs.Get.{getRows, getRefusal}
+-- `call_record::get_refusal` meets its contract, from the contracts of its callees, a row at a time. Assumes nothing.
 use borrow.Author.Needs.{needs}
 use Rattle.call_record.proofs.get.get_refusal.Statement.{statement}
 use Rattle.call_record.proofs.get.get_refusal.Tie as tie
@@ -11,14 +11,22 @@ got-words-requires c κs = search needs
 are-words-requires : tie.Need-are-words-requires
 are-words-requires c κs = search needs
 
-job-refusal-requires : tie.Need-job-refusal-requires
-job-refusal-requires c κs = search needs
+row-requires : tie.Need-row-requires
+row-requires c κs = search needs
+
+row-requires-2 : tie.Need-row-requires-2
+row-requires-2 c κs = search needs
+
+row-requires-3 : tie.Need-row-requires-3
+row-requires-3 c κs = search needs
+
+row-requires-4 : tie.Need-row-requires-4
+row-requires-4 c κs = search needs
 
 returns : tie.Need-returns
-returns c =
-    let a = c .before .before .before .before .before .before .before .args in
-    c .job-refusal .ensures ∙ get-rows (a .c1) (c .before .before .before .before .are-words .result) (a .f) (a .g) (a .area .now) _ (c .before .before .before .before .before .got-words .ensures) (c .before .before .before .before .are-words .ensures)
+unfolding lowest getRows getRefusal
+returns c = simp (c .row4 .ensures, c .before .row3 .ensures, c .before .before .row2 .ensures, c .before .before .before .row .ensures, c .before .before .before .before .before .before .before .are-words .ensures, c .before .before .before .before .before .before .before .before .got-words .ensures)
 
 pub get-refusal-spec : {M : Type 1} → statement M
 get-refusal-spec =
-    tie.close (tie.spec got-words-requires are-words-requires job-refusal-requires returns)
+    tie.close (tie.spec got-words-requires are-words-requires row-requires row-requires-2 row-requires-3 row-requires-4 returns)

@@ -1,6 +1,6 @@
--- `call_record::put_refusal` meets its contract: the rows that put does not have are false. Assumes nothing.
-use mathlib.Core.Path.{_∙_}
-use Rattle.call_record.proofs.PutSteps.{put-rows}
+use Rattle.area.specs.Refusals.{lowest}
+use Rattle.call_record.specs.Put.{putRows, putRefusal}
+-- `call_record::put_refusal` meets its contract, from the contracts of its callees, a row at a time. Assumes nothing.
 use borrow.Author.Needs.{needs}
 use Rattle.call_record.proofs.put.put_refusal.Statement.{statement}
 use Rattle.call_record.proofs.put.put_refusal.Tie as tie
@@ -20,13 +20,27 @@ has-room-requires c κs = search needs
 cast-fits : tie.Need-cast-fits
 cast-fits c = search needs
 
-job-refusal-requires : tie.Need-job-refusal-requires
-job-refusal-requires c κs = search needs
+row-requires : tie.Need-row-requires
+row-requires c κs = search needs
+
+row-requires-2 : tie.Need-row-requires-2
+row-requires-2 c κs = search needs
+
+row-requires-3 : tie.Need-row-requires-3
+row-requires-3 c κs = search needs
+
+row-requires-4 : tie.Need-row-requires-4
+row-requires-4 c κs = search needs
+
+row-requires-5 : tie.Need-row-requires-5
+row-requires-5 c κs = search needs
+
+row-requires-6 : tie.Need-row-requires-6
+row-requires-6 c κs = search needs
 
 returns : tie.Need-returns
-returns c =
-    let a = c .before .before .before .before .before .before .before .before .before .before .args in
-    c .job-refusal .ensures ∙ put-rows (a .c1) (c .before .before .before .before .before .before .before .are-words .result) (c .before .before .before .before .before .before .is-summed .result) (c .before .before .before .before .before .sums-spoilt .result) (c .before .before .before .before .has-room .result) (a .f) (a .w) (a .area .now) (a .words .now) (c .before .before .before .before .before .before .before .are-words .ensures) (c .before .before .before .before .before .before .is-summed .ensures) (c .before .before .before .before .before .sums-spoilt .ensures) (c .before .before .before .before .has-room .ensures)
+unfolding lowest putRows putRefusal
+returns c = simp (c .row6 .ensures, c .before .row5 .ensures, c .before .before .row4 .ensures, c .before .before .before .row3 .ensures, c .before .before .before .before .row2 .ensures, c .before .before .before .before .before .row .ensures, c .before .before .before .before .before .before .before .before .before .before .before .before .are-words .ensures, c .before .before .before .before .before .before .before .before .before .before .sums-spoilt .ensures, c .before .before .before .before .before .before .before .before .before .before .before .is-summed .ensures, c .before .before .before .before .before .before .before .before .before .has-room .ensures)
 
 pub put-refusal-spec : {M : Type 1} → statement M
 put-refusal-spec =
@@ -37,5 +51,10 @@ put-refusal-spec =
     sums-spoilt-requires
     has-room-requires
     cast-fits
-    job-refusal-requires
+    row-requires
+    row-requires-2
+    row-requires-3
+    row-requires-4
+    row-requires-5
+    row-requires-6
     returns)

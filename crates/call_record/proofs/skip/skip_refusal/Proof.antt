@@ -1,6 +1,6 @@
--- `call_record::skip_refusal` meets its contract: the rows that skip does not have are false. Assumes nothing.
-use mathlib.Core.Path.{_∙_}
-use Rattle.call_record.proofs.GetSteps.{skip-rows}
+use Rattle.area.specs.Refusals.{lowest}
+use Rattle.call_record.specs.Skip.{skipRows, skipRefusal}
+-- `call_record::skip_refusal` meets its contract, from the contracts of its callees, a row at a time. Assumes nothing.
 use borrow.Author.Needs.{needs}
 use Rattle.call_record.proofs.skip.skip_refusal.Statement.{statement}
 use Rattle.call_record.proofs.skip.skip_refusal.Tie as tie
@@ -8,13 +8,21 @@ use Rattle.call_record.proofs.skip.skip_refusal.Tie as tie
 has-full-requires : tie.Need-has-full-requires
 has-full-requires c κs = search needs
 
-job-refusal-requires : tie.Need-job-refusal-requires
-job-refusal-requires c κs = search needs
+row-requires : tie.Need-row-requires
+row-requires c κs = search needs
+
+row-requires-2 : tie.Need-row-requires-2
+row-requires-2 c κs = search needs
+
+row-requires-3 : tie.Need-row-requires-3
+row-requires-3 c κs = search needs
+
+row-requires-4 : tie.Need-row-requires-4
+row-requires-4 c κs = search needs
 
 returns : tie.Need-returns
-returns c =
-    let a = c .before .before .before .args in
-    c .job-refusal .ensures ∙ skip-rows (a .c1) (c .before .before .has-full .result) (a .f) (c .before .before .has-full .ensures)
+unfolding lowest skipRows skipRefusal
+returns c = simp (c .row4 .ensures, c .before .row3 .ensures, c .before .before .row2 .ensures, c .before .before .before .row .ensures, c .before .before .before .before .before .has-full .ensures)
 
 pub skip-refusal-spec : {M : Type 1} → statement M
-skip-refusal-spec = tie.close (tie.spec has-full-requires job-refusal-requires returns)
+skip-refusal-spec = tie.close (tie.spec has-full-requires row-requires row-requires-2 row-requires-3 row-requires-4 returns)

@@ -1,6 +1,6 @@
--- `call_request::asks::ask_refusal` meets its contract: the rows that `lowest_of` is given are those of ask, the others being false. Assumes nothing.
-use mathlib.Core.Path.{_∙_}
-use Rattle.call_request.proofs.AskFound.{ask-found}
+use Rattle.area.specs.Refusals.{lowest}
+use Rattle.call_request.specs.Ask.{askRefusal}
+-- `call_request::asks::ask_refusal` meets its contract, from the contracts of its callees, a row at a time. Assumes nothing.
 use borrow.Author.Needs.{needs}
 use Rattle.call_request.proofs.asks.ask_refusal.Statement.{statement}
 use Rattle.call_request.proofs.asks.ask_refusal.Tie as tie
@@ -20,12 +20,30 @@ has-full-requires c κs = search needs
 has-unsent-requires : tie.Need-has-unsent-requires
 has-unsent-requires c κs = search needs
 
-lowest-of-requires : tie.Need-lowest-of-requires
-lowest-of-requires c κs = search needs
+row-requires : tie.Need-row-requires
+row-requires c κs = search needs
+
+row-requires-2 : tie.Need-row-requires-2
+row-requires-2 c κs = search needs
+
+row-requires-3 : tie.Need-row-requires-3
+row-requires-3 c κs = search needs
+
+row-requires-4 : tie.Need-row-requires-4
+row-requires-4 c κs = search needs
+
+row-requires-5 : tie.Need-row-requires-5
+row-requires-5 c κs = search needs
+
+row-requires-6 : tie.Need-row-requires-6
+row-requires-6 c κs = search needs
+
+row-requires-7 : tie.Need-row-requires-7
+row-requires-7 c κs = search needs
 
 returns : tie.Need-returns
-returns c =
-    c .lowest-of .ensures ∙ ask-found (c .before .before .before .before .before .before .before .before .before .before .args .wrong) (c .before .before .before .before .before .before .before .before .before .before .args .f) (c .before .before .before .before .before .before .before .before .before .before .args .c) (c .before .before .before .before .before .before .before .before .before .before .args .op) (c .before .before .before .before .before .before .before .before .before .before .args .priority) _ _ _ _ (c .before .before .before .before .before .before .before .before .has-request .ensures) (c .before .before .before .before .before .before .before .has-empty .ensures) (c .before .before .before .before .before .before .has-full .ensures) (c .before .before .before .before .before .has-unsent .ensures)
+unfolding lowest askRefusal
+returns c = simp (c .row7 .ensures, c .before .row6 .ensures, c .before .before .row5 .ensures, c .before .before .before .row4 .ensures, c .before .before .before .before .row3 .ensures, c .before .before .before .before .before .row2 .ensures, c .before .before .before .before .before .before .row .ensures, c .before .before .before .before .before .before .before .before .before .before .before .before .before .before .has-request .ensures, c .before .before .before .before .before .before .before .before .before .before .before .before .before .has-empty .ensures, c .before .before .before .before .before .before .before .before .before .before .before .before .has-full .ensures, c .before .before .before .before .before .before .before .before .before .before .before .has-unsent .ensures)
 
 pub ask-refusal-spec : {M : Type 1} → statement M
 ask-refusal-spec =
@@ -36,5 +54,11 @@ ask-refusal-spec =
     has-empty-requires
     has-full-requires
     has-unsent-requires
-    lowest-of-requires
+    row-requires
+    row-requires-2
+    row-requires-3
+    row-requires-4
+    row-requires-5
+    row-requires-6
+    row-requires-7
     returns)

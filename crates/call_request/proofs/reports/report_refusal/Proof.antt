@@ -1,6 +1,5 @@
--- `call_request::reports::report_refusal` meets its contract: the rows that `lowest_of` is given are those of report, the others being false. Assumes nothing.
-use mathlib.Core.Path.{_∙_}
-use Rattle.call_request.proofs.Found.{rows-found}
+use Rattle.area.specs.Refusals.{lowest}
+-- `call_request::reports::report_refusal` meets its contract, from the contracts of its callees, a row at a time. Assumes nothing.
 use borrow.Author.Needs.{needs}
 use Rattle.call_request.proofs.reports.report_refusal.Statement.{statement}
 use Rattle.call_request.proofs.reports.report_refusal.Tie as tie
@@ -14,12 +13,24 @@ refusal-number-requires c κs = search needs
 is-delivery-requires : tie.Need-is-delivery-requires
 is-delivery-requires c κs = search needs
 
-lowest-of-requires : tie.Need-lowest-of-requires
-lowest-of-requires c κs = search needs
+row-requires : tie.Need-row-requires
+row-requires c κs = search needs
+
+row-requires-2 : tie.Need-row-requires-2
+row-requires-2 c κs = search needs
+
+row-requires-3 : tie.Need-row-requires-3
+row-requires-3 c κs = search needs
+
+row-requires-4 : tie.Need-row-requires-4
+row-requires-4 c κs = search needs
+
+row-requires-5 : tie.Need-row-requires-5
+row-requires-5 c κs = search needs
 
 returns : tie.Need-returns
-returns c =
-    c .lowest-of .ensures ∙ rows-found (c .before .before .before .before .args .wrong) (c .before .before .before .before .args .unit) (c .before .before .before .before .args .outcome) (c .before .before .before .before .args .x) (c .before .before .before .before .args .v) (c .before .before .before .before .args .e) (c .before .before .before .before .args .fits) (c .before .before .before .before .args .clean) (c .before .before .before .before .args .room) (c .before .before .before .before .args .n) _ _ _ (c .before .before .before .takes-no-words .ensures) (c .before .before .refusal-number .ensures) (c .before .is-delivery .ensures)
+unfolding lowest
+returns c = simp (c .row5 .ensures, c .before .row4 .ensures, c .before .before .row3 .ensures, c .before .before .before .row2 .ensures, c .before .before .before .before .row .ensures, c .before .before .before .before .before .before .before .takes-no-words .ensures, c .before .before .before .before .before .before .refusal-number .ensures, c .before .before .before .before .before .is-delivery .ensures)
 
 pub report-refusal-spec : {M : Type 1} → statement M
 report-refusal-spec =
@@ -28,5 +39,9 @@ report-refusal-spec =
     takes-no-words-requires
     refusal-number-requires
     is-delivery-requires
-    lowest-of-requires
+    row-requires
+    row-requires-2
+    row-requires-3
+    row-requires-4
+    row-requires-5
     returns)

@@ -1,5 +1,4 @@
--- `pack_start::fresh_refusal` meets its contract, from the contracts of `pool_fits`, `are_masks` and `lowest_of`. Assumes nothing.
-use mathlib.Core.Path.{_∙_}
+-- `pack_start::fresh_refusal` meets its contract, from the contracts of `pool_fits`, `are_masks` and `row`. Assumes nothing.
 use native.Mathlib.Omega.{arith}
 use native.Mathlib.Nat.{lt-of-le-of-lt, mul-le-mul}
 use lib.Dec.{lit<}
@@ -18,14 +17,14 @@ are-masks-requires c κs = search needs
 mul-short : tie.Need-mul-short
 mul-short c = record { fits = lt-of-le-of-lt (mul-le-mul {n₂ = 255} {m₂ = 65535} (omega arith) (omega arith)) (lit< tt) }
 
-lowest-of-requires : tie.Need-lowest-of-requires
-lowest-of-requires c κs = search needs
+row-requires : tie.Need-row-requires
+row-requires c κs = search needs
 
 returns : tie.Need-returns
 unfolding lowest freshRows
-returns c = c .lowest-of .ensures ∙ simp (c .before .are-masks .ensures, c .before .before .pool-fits .ensures)
+returns c = simp (c .row .ensures, c .before .are-masks .ensures, c .before .before .pool-fits .ensures)
 
 pub fresh-refusal-spec : {M : Type 1} → statement M
 fresh-refusal-spec =
     tie.close
-    (tie.spec pool-fits-requires are-masks-requires mul-short lowest-of-requires returns)
+    (tie.spec pool-fits-requires are-masks-requires mul-short row-requires returns)

@@ -1,5 +1,6 @@
 -- `session_line::grow::copy_in` meets its contract. After i turns the first i bytes are in their places (`Copied`). Assumes nothing.
 use borrow.Author.Needs.{needs}
+use mathlib.Core.Path.{refl}
 use Prim.Native.Nat.{_+_, _-_, _≤_, _<_}
 use native.Mathlib.Omega.{arith}
 use lib.ListN.{length}
@@ -55,7 +56,7 @@ loop-again : tie.Need-loop-again Inv-loop μ-loop
 loop-again c =
     let t = c .before .before .loop in
     let a = c .before .before .before .before .before .args in
-    copied-one (a .at) (a .bytes .now) (a .area .now) (t .i) (t .area) 0 (omega arith) (t .inv)
+    copied-one (a .at) (a .bytes .now) (a .area .now) (t .i) (a .at + t .i) (t .area) 0 refl (omega arith) (t .inv)
 
 same-length : tie.Need-same-length Inv-loop μ-loop
 same-length c =

@@ -8,8 +8,7 @@ use native.Mathlib.Omega.{arith}
 use lib.ListN.{length, drop}
 use Rattle.area.specs.Lists.{countOf}
 use Rattle.area.proofs.Walks.{count-hit, count-miss, count-done}
-use Rattle.channel.specs.Units.{unitCount, idleUnit}
-use Rattle.channel.specs.Units.{unitWorks}
+use Rattle.channel.specs.Units.{unitCount, idleUnit, unitWorks}
 use Rattle.state_sound.proofs.channels.work_count.Statement.{statement}
 use Rattle.state_sound.proofs.channels.work_count.Tie as tie
 

@@ -1,7 +1,7 @@
--- `file::extra` meets its contract, branch by branch. Assumes nothing.
+-- `word::fields::extra` meets its contract, branch by branch. Assumes nothing.
 use native.Mathlib.Omega.{arith}
-use Rattle.file.proofs.sizes.extra.Statement.{statement}
-use Rattle.file.proofs.sizes.extra.Tie as tie
+use Rattle.word.proofs.fields.extra.Statement.{statement}
+use Rattle.word.proofs.fields.extra.Tie as tie
 
 returns : tie.Need-returns
 returns c = (rw (c .if1 .taken), omega arith)
