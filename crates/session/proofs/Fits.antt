@@ -144,15 +144,15 @@ module _ (s : State) (area : List ℕ) (channel unit outcome : ℕ) (words : Lis
 reply-words : (s : State) (area words : List ℕ) (frame : Frame) → Counts s → length (replyTo s area words frame .words) ≤ 1024
 unfolding replyTo
 reply-words s area words Malformed k = omega arith
-reply-words s area words (Fresh m w masks) k = omega arith
-reply-words s area words (Open file channel unit flags size rlen) k = omega arith
+reply-words s area words (Fresh q) k = omega arith
+reply-words s area words (Open q) k = omega arith
 reply-words s area words (Close file) k = omega arith
-reply-words s area words (Ask file op priority) k = omega arith
-reply-words s area words (Report channel unit outcome n) k =
-    let x = reportBy s area channel unit outcome words in
-    omega (arith, part-most (x .start) (x .count) (reportByArea s area channel unit outcome words), report-shows s area channel unit outcome words k)
+reply-words s area words (Ask q) k = omega arith
+reply-words s area words (Report q) k =
+    let x = reportBy s area (q .channel) (q .unit) (q .outcome) words in
+    omega (arith, part-most (x .start) (x .count) (reportByArea s area (q .channel) (q .unit) (q .outcome) words), report-shows s area (q .channel) (q .unit) (q .outcome) words k)
 reply-words s area words (Get file) k = get-shows s area file
-reply-words s area words (Put file n) k = omega arith
+reply-words s area words (Put q) k = omega arith
 reply-words s area words (Seal file) k = omega arith
 reply-words s area words (Skip file) k = omega arith
 reply-words s area words Freeze k = omega arith

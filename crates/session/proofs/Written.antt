@@ -32,13 +32,13 @@ taken-most n ws = omega (arith, length-take n ws)
 
 pub given-within : (f : Frame) (line : List ℕ) (n : ℕ) → length (givenIn f line n) ≤ n
 unfolding givenIn wordsFrom
-given-within (Report channel unit outcome k) line n = taken-most n (wordsOf (drop 4 (bytesOf line)))
-given-within (Put file k) line n = taken-most n (wordsOf (drop 2 (bytesOf line)))
+given-within (Report q) line n = taken-most n (wordsOf (drop 4 (bytesOf line)))
+given-within (Put q) line n = taken-most n (wordsOf (drop 2 (bytesOf line)))
 given-within Malformed line n = omega arith
-given-within (Fresh m w masks) line n = omega arith
-given-within (Open file channel unit flags size rlen) line n = omega arith
+given-within (Fresh q) line n = omega arith
+given-within (Open q) line n = omega arith
 given-within (Close file) line n = omega arith
-given-within (Ask file op priority) line n = omega arith
+given-within (Ask q) line n = omega arith
 given-within (Get file) line n = omega arith
 given-within (Seal file) line n = omega arith
 given-within (Skip file) line n = omega arith
@@ -52,13 +52,13 @@ all-taken line head k n a h = take-all n (wordsOf (drop head (bytesOf line))) (o
 -- a room of 1,024 words takes them all
 pub given-all : (f : Frame) (line : List ℕ) (n : ℕ) → f ≡ frameOf line → mostWords ≤ n → givenIn f line n ≡ givenWords f line
 unfolding givenIn givenWords
-given-all (Report channel unit outcome k) line n e h = all-taken line 4 k n (report-words line channel unit outcome k (sym e)) h
-given-all (Put file k) line n e h = all-taken line 2 k n (put-words line file k (sym e)) h
+given-all (Report q) line n e h = all-taken line 4 (q .words) n (report-words line q (sym e)) h
+given-all (Put q) line n e h = all-taken line 2 (q .words) n (put-words line q (sym e)) h
 given-all Malformed line n e h = refl
-given-all (Fresh m w masks) line n e h = refl
-given-all (Open file channel unit flags size rlen) line n e h = refl
+given-all (Fresh q) line n e h = refl
+given-all (Open q) line n e h = refl
 given-all (Close file) line n e h = refl
-given-all (Ask file op priority) line n e h = refl
+given-all (Ask q) line n e h = refl
 given-all (Get file) line n e h = refl
 given-all (Seal file) line n e h = refl
 given-all (Skip file) line n e h = refl

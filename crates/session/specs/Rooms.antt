@@ -24,13 +24,13 @@ lacksRooms words out = ltb (length words) mostWords || ltb (length out) mostText
 
 -- the words of a line that a room of n words takes
 unfoldable pub givenIn : Frame → List ℕ → ℕ → List ℕ
-givenIn (Report channel unit outcome k) line n = wordsFrom line 4 n
-givenIn (Put file k) line n = wordsFrom line 2 n
+givenIn (Report q) line n = wordsFrom line 4 n
+givenIn (Put q) line n = wordsFrom line 2 n
 givenIn Malformed line n = []
-givenIn (Fresh m w masks) line n = []
-givenIn (Open file channel unit flags size rlen) line n = []
+givenIn (Fresh q) line n = []
+givenIn (Open q) line n = []
 givenIn (Close file) line n = []
-givenIn (Ask file op priority) line n = []
+givenIn (Ask q) line n = []
 givenIn (Get file) line n = []
 givenIn (Seal file) line n = []
 givenIn (Skip file) line n = []

@@ -1,20 +1,11 @@
 -- Answer lines (document 01, "The session program"). Assumes nothing.
-use mathlib.Core.Bool.{cond}
 use mathlib.Core.List.{List, [], _∷_, _++_}
 use Prim.Native.Nat.{ℕ, _-_}
-use lib.Dec.{ltb}
 use lib.ListN.{length, take}
-use Rattle.area.specs.declared.Found.{Found}
-use Rattle.area.specs.declared.Found.the-variants as found
 use Rattle.session_frame.specs.Digits.{byteDigits, concatMap}
 use Rattle.session_frame.specs.Fields.{wordBytes}
 use Rattle.session_frame.specs.declared.Answer.{Answer}
-use Rattle.session_frame.specs.declared.Answer.the-variants.{Refused, Done, Asked, Reported, Record, Nothing, End, Error, Leftover}
-
--- "ask adds the channel's working unit, FF for none": a unit's number is below 255
-unfoldable pub workingOf : Found → ℕ
-workingOf (found.At u) = cond (ltb u 255) u 255
-workingOf found.Nothing = 255
+use Rattle.session_frame.specs.declared.Answer.the-variants.{Refused, Done, Asked, Reported, Got, GotError}
 
 -- The bytes of each answer; ws are the words that are shown.
 unfoldable pub answerBytes : Answer → List ℕ → List ℕ
@@ -26,12 +17,9 @@ answerBytes Done ws = 0 ∷ []
 answerBytes (Asked working) ws = 0 ∷ working ∷ []
 -- "Report adds result, check error, working unit and, if it ends a write with 01 or 04, the block's words"
 answerBytes (Reported result error working) ws = 0 ∷ result ∷ error ∷ working ∷ concatMap wordBytes ws
--- "Get adds 00 and words, 01 nothing yet, 02 end, 03 and the check error, 04 and a leftover."
-answerBytes Record ws = 0 ∷ 0 ∷ concatMap wordBytes ws
-answerBytes Nothing ws = 0 ∷ 1 ∷ []
-answerBytes End ws = 0 ∷ 2 ∷ []
-answerBytes (Error error) ws = 0 ∷ 3 ∷ error ∷ []
-answerBytes Leftover ws = 0 ∷ 4 ∷ concatMap wordBytes ws
+-- "Get adds 00 and words, 01 nothing yet, 02 end, 03 and the check error, 04 and a leftover.": which number is `file_input`'s to say
+answerBytes (Got number) ws = 0 ∷ number ∷ concatMap wordBytes ws
+answerBytes (GotError number error) ws = 0 ∷ number ∷ error ∷ []
 
 -- "pairs of upper-case hexadecimal digits, line feed"
 unfoldable pub answerText : Answer → List ℕ → List ℕ

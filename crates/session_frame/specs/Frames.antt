@@ -35,24 +35,29 @@ wordsAfter n head = (n - head) / 5
 unfoldable pub freshOf : ℕ → List ℕ → Frame
 freshOf n b =
     sized n 14
-    (Fresh (byteAt b 1) (sizeAt b 2)
-    (record { a = sizeAt b 4; b = sizeAt b 6; c = sizeAt b 8; d = sizeAt b 10; e = sizeAt b 12 }))
+    (Fresh (record {
+      m = byteAt b 1;
+      w = sizeAt b 2;
+      masks = record { a = sizeAt b 4; b = sizeAt b 6; c = sizeAt b 8; d = sizeAt b 10; e = sizeAt b 12 };
+    }))
 
 -- "01 file channel unit flags B r"
 unfoldable pub openOf : ℕ → List ℕ → Frame
-openOf n b = sized n 9 (Open (byteAt b 1) (byteAt b 2) (byteAt b 3) (byteAt b 4) (sizeAt b 5) (sizeAt b 7))
+openOf n b =
+    sized n 9
+    (Open (record { file = byteAt b 1; channel = byteAt b 2; unit = byteAt b 3; flags = byteAt b 4; size = sizeAt b 5; rlen = sizeAt b 7 }))
 
 -- "03 file operation(0 read, 1 write, 2 mark) priority(0/1)"
 unfoldable pub askOf : ℕ → List ℕ → Frame
-askOf n b = sized n 4 (Ask (byteAt b 1) (byteAt b 2) (byteAt b 3))
+askOf n b = sized n 4 (Ask (record { file = byteAt b 1; op = byteAt b 2; priority = byteAt b 3 }))
 
 -- "04 channel unit outcome words"
 unfoldable pub reportOf : ℕ → List ℕ → Frame
-reportOf n b = worded n 4 (Report (byteAt b 1) (byteAt b 2) (byteAt b 3) (wordsAfter n 4))
+reportOf n b = worded n 4 (Report (record { channel = byteAt b 1; unit = byteAt b 2; outcome = byteAt b 3; words = wordsAfter n 4 }))
 
 -- "06 put file words"
 unfoldable pub putOf : ℕ → List ℕ → Frame
-putOf n b = worded n 2 (Put (byteAt b 1) (wordsAfter n 2))
+putOf n b = worded n 2 (Put (record { file = byteAt b 1; words = wordsAfter n 2 }))
 
 -- "00 .. · 01 .. · 02 close file · 03 .. · 04 .. · 05 get file · 06 .. · 07 seal file · 08 skip file · 09 freeze · 0A thaw."
 unfoldable pub kindBy : ℕ → ℕ → List ℕ → Frame

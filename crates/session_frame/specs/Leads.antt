@@ -4,7 +4,7 @@ use mathlib.Core.List.{List, [], _∷_}
 use Prim.Native.Nat.{ℕ}
 use lib.ListN.{take}
 use Rattle.session_frame.specs.declared.Answer.{Answer}
-use Rattle.session_frame.specs.declared.Answer.the-variants.{Refused, Done, Asked, Reported, Record, Nothing, End, Error, Leftover}
+use Rattle.session_frame.specs.declared.Answer.the-variants.{Refused, Done, Asked, Reported, Got, GotError}
 use Rattle.session_frame.specs.declared.Lead.{Lead}
 
 abbrev pub leadIs : ℕ → ℕ → ℕ → ℕ → ℕ → Bool → Lead
@@ -16,11 +16,8 @@ leadOf (Refused n) = leadIs 1 n 0 0 0 false
 leadOf Done = leadIs 1 0 0 0 0 false
 leadOf (Asked working) = leadIs 2 0 working 0 0 false
 leadOf (Reported result error working) = leadIs 4 0 result error working true
-leadOf Record = leadIs 2 0 0 0 0 true
-leadOf Nothing = leadIs 2 0 1 0 0 false
-leadOf End = leadIs 2 0 2 0 0 false
-leadOf (Error error) = leadIs 3 0 3 error 0 false
-leadOf Leftover = leadIs 2 0 4 0 0 true
+leadOf (Got number) = leadIs 2 0 number 0 0 true
+leadOf (GotError number error) = leadIs 3 0 number error 0 false
 
 -- the bytes that count
 unfoldable pub leadBytes : Lead → List ℕ

@@ -5,30 +5,10 @@ ghost use Prim.Native.Nat.{_*_, _≤_, _<_};
 ghost use lib.ListN.{length};
 ghost use Rattle.area.specs.Parts.{paste};
 ghost use Rattle.session_frame.specs.Digits.{byteDigits, concatMap};
-ghost use Rattle.session_frame.specs.Answers.{workingOf};
 ghost use Rattle.session_frame.specs.Leads.{leadIs, leadOf, leadBytes};
 use crate::Answer;
 use crate::Lead;
 use crate::write::put_byte;
-use area::Found;
-
-// The byte that names no unit.
-const NO_UNIT: u8 = 0xff;
-
-// The byte that names the unit that a channel works for.
-pub fn working_byte(unit: Found) -> u8
-    ensures { λ r. ⌜ r ≡ workingOf unit ⌝ }
-{
-    match unit {
-        Found::At(u) => {
-            if u < 255 {
-                return u as u8;
-            }
-            NO_UNIT
-        }
-        Found::Nothing => NO_UNIT,
-    }
-}
 
 // A lead of two bytes, 00 and one more.
 fn pair(second: u8, worded: bool) -> Lead
@@ -78,18 +58,15 @@ pub fn lead_of(a: Answer) -> Lead
             fourth: working,
             worded: true,
         },
-        Answer::Record => pair(0, true),
-        Answer::Nothing => pair(1, false),
-        Answer::End => pair(2, false),
-        Answer::Error(error) => Lead {
+        Answer::Got(number) => pair(number, true),
+        Answer::GotError { number, error } => Lead {
             count: 3,
             first: 0,
-            second: 3,
+            second: number,
             third: error,
             fourth: 0,
             worded: false,
         },
-        Answer::Leftover => pair(4, true),
     }
 }
 

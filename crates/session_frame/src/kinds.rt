@@ -2,8 +2,13 @@
 ghost use mathlib.Core.Path.{_≡_};
 ghost use Rattle.session_frame.specs.Digits.{bytesOf};
 ghost use Rattle.session_frame.specs.Frames.{sized, worded, wordsAfter, freshOf, openOf, askOf, reportOf, putOf};
+use crate::AskFrame;
 use crate::Frame;
+use crate::FreshFrame;
 use crate::Masks;
+use crate::OpenFrame;
+use crate::PutFrame;
+use crate::ReportFrame;
 use crate::read::byte_at;
 use crate::read::size_at;
 
@@ -53,7 +58,8 @@ pub fn fresh(line: &[u8], n: usize) -> Frame
     };
     let m = byte_at(line, 1);
     let w = size_at(line, 2);
-    if_sized(n, 14, Frame::Fresh { m, w, masks })
+    let f = FreshFrame { m, w, masks };
+    if_sized(n, 14, Frame::Fresh(f))
 }
 
 // The open of a file.
@@ -66,18 +72,15 @@ pub fn opening(line: &[u8], n: usize) -> Frame
     let flags = byte_at(line, 4);
     let size = size_at(line, 5);
     let rlen = size_at(line, 7);
-    if_sized(
-        n,
-        9,
-        Frame::Open {
-            file,
-            channel,
-            unit,
-            flags,
-            size,
-            rlen,
-        },
-    )
+    let f = OpenFrame {
+        file,
+        channel,
+        unit,
+        flags,
+        size,
+        rlen,
+    };
+    if_sized(n, 9, Frame::Open(f))
 }
 
 // A request.
@@ -87,7 +90,8 @@ pub fn ask(line: &[u8], n: usize) -> Frame
     let file = byte_at(line, 1);
     let op = byte_at(line, 2);
     let priority = byte_at(line, 3);
-    if_sized(n, 4, Frame::Ask { file, op, priority })
+    let f = AskFrame { file, op, priority };
+    if_sized(n, 4, Frame::Ask(f))
 }
 
 // A report, with its words.
@@ -98,16 +102,13 @@ pub fn report(line: &[u8], n: usize) -> Frame
     let unit = byte_at(line, 2);
     let outcome = byte_at(line, 3);
     let words = words_after(n, 4);
-    if_worded(
-        n,
-        4,
-        Frame::Report {
-            channel,
-            unit,
-            outcome,
-            words,
-        },
-    )
+    let f = ReportFrame {
+        channel,
+        unit,
+        outcome,
+        words,
+    };
+    if_worded(n, 4, Frame::Report(f))
 }
 
 // A put, with its words.
@@ -116,5 +117,6 @@ pub fn put(line: &[u8], n: usize) -> Frame
 {
     let file = byte_at(line, 1);
     let words = words_after(n, 2);
-    if_worded(n, 2, Frame::Put { file, words })
+    let f = PutFrame { file, words };
+    if_worded(n, 2, Frame::Put(f))
 }

@@ -1,12 +1,6 @@
-// Upper-case hexadecimal digits in lent byte areas: bytes, sizes of two bytes and words of five, read, highest first.
-// Every function answers any bytes at any place. It knows nothing of frames and answers.
-// Upper-case hexadecimal digits in lent byte areas: bytes and words of five, written, highest first.
-// Every function answers any bytes at any place. It knows nothing of frames and answers.
-// A line of a session to a call: which kind it is and its numbers, as they stand in the line. Whether a number is in its range
-// is judged by the pack. Words stay in the line until `words_into` brings them to a lent room.
-// It knows nothing of files, channels or how lines are cut.
-// An answer to its line: the bytes of the answer and its words as digits, and a line feed, into a lent area.
-// Which answer a call has is the pack's to say; this crate knows nothing of calls.
+// A line of a session to a frame: which call it names and its numbers, as they stand in the line; and an answer to its line: its bytes and
+// words as upper-case hexadecimal digits, and a line feed, into a lent area. Words stay in the line until `words_into` brings them to a room.
+// Whether a number is in its range, and which answer a call has, is the pack's to say. It knows nothing of how lines are cut.
 mod ahead;
 mod decode;
 mod kinds;
@@ -27,49 +21,56 @@ pub struct Masks {
     pub e: u16,
 }
 
-// A call as its line has it. `words` is how many words come with it.
+// A fresh start: m buffers of w words, and the units.
+pub struct FreshFrame {
+    pub m: u8,
+    pub w: u16,
+    pub masks: Masks,
+}
+
+// An open; `size` is B and `rlen` is r.
+pub struct OpenFrame {
+    pub file: u8,
+    pub channel: u8,
+    pub unit: u8,
+    pub flags: u8,
+    pub size: u16,
+    pub rlen: u16,
+}
+
+// An ask.
+pub struct AskFrame {
+    pub file: u8,
+    pub op: u8,
+    pub priority: u8,
+}
+
+// A report; `words` is how many words come with it.
+pub struct ReportFrame {
+    pub channel: u8,
+    pub unit: u8,
+    pub outcome: u8,
+    pub words: usize,
+}
+
+// A put; `words` is how many words come with it.
+pub struct PutFrame {
+    pub file: u8,
+    pub words: usize,
+}
+
+// A call as its line has it. One that names a file alone holds that file's number.
 pub enum Frame {
     Malformed,
-    Fresh {
-        m: u8,
-        w: u16,
-        masks: Masks,
-    },
-    Open {
-        file: u8,
-        channel: u8,
-        unit: u8,
-        flags: u8,
-        size: u16,
-        rlen: u16,
-    },
-    Close {
-        file: u8,
-    },
-    Ask {
-        file: u8,
-        op: u8,
-        priority: u8,
-    },
-    Report {
-        channel: u8,
-        unit: u8,
-        outcome: u8,
-        words: usize,
-    },
-    Get {
-        file: u8,
-    },
-    Put {
-        file: u8,
-        words: usize,
-    },
-    Seal {
-        file: u8,
-    },
-    Skip {
-        file: u8,
-    },
+    Fresh(FreshFrame),
+    Open(OpenFrame),
+    Close(u8),
+    Ask(AskFrame),
+    Report(ReportFrame),
+    Get(u8),
+    Put(PutFrame),
+    Seal(u8),
+    Skip(u8),
     Freeze,
     Thaw,
 }
@@ -84,12 +85,10 @@ pub enum Answer {
     Asked { working: u8 },
     // report: its result, the check error, the unit that the channel works for; words if it ends a write
     Reported { result: u8, error: u8, working: u8 },
-    // get: a record and its words; nothing yet; the end; a block's check error; a leftover and its words
-    Record,
-    Nothing,
-    End,
-    Error(u8),
-    Leftover,
+    // get: the number of what it found, and its words
+    Got(u8),
+    // get: the number of a check error, and that error
+    GotError { number: u8, error: u8 },
 }
 
 // The bytes of an answer ahead of its words, `count` of the four, and whether words follow.

@@ -20,6 +20,11 @@ use Rattle.file.specs.declared.File.{File}
 use Rattle.file.specs.Sizes.{closedFile}
 use Rattle.session_frame.specs.declared.Masks as frame
 use Rattle.session_frame.specs.declared.Frame.{Frame}
+use Rattle.session_frame.specs.declared.FreshFrame.{FreshFrame}
+use Rattle.session_frame.specs.declared.OpenFrame.{OpenFrame}
+use Rattle.session_frame.specs.declared.AskFrame.{AskFrame}
+use Rattle.session_frame.specs.declared.ReportFrame.{ReportFrame}
+use Rattle.session_frame.specs.declared.PutFrame.{PutFrame}
 use Rattle.session_frame.specs.declared.Frame.the-variants.{Malformed, Fresh, Open, Close, Ask, Report, Get, Put, Seal, Skip, Freeze, Thaw}
 use Rattle.session_frame.specs.Frames.{frameOf}
 use Rattle.pool.specs.Free.{fileCount}
@@ -143,18 +148,18 @@ module _ (s : State) (area words : List ℕ) where
   unfolding Right replyOn turnedFrom areaFrom wholeOf changeOf areaOf replyTo
   malformed-right = ap (λ (u : State). quietly 1 u area) (same-both s fileCount (fileAt s fileCount .channel))
 
-  fresh-right : (m w : ℕ) (masks : frame.Masks) → Right (Fresh m w masks)
+  fresh-right : (q : FreshFrame) → Right (Fresh q)
   unfolding Right replyOn turnedFrom areaFrom wholeOf changeOf areaOf replyTo freshBy
-  fresh-right m w masks =
-      let n = freshRefusal m w (masksOf masks) (length area) in
-      let t = cond (eqb (freshRefusal m w (masksOf masks) (length area)) 0) (freshState m w (masksOf masks)) s in
-      ap (λ (u : State). quietly (freshRefusal m w (masksOf masks) (length area)) u area) (same-both t fileCount (fileAt t fileCount .channel))
+  fresh-right q =
+      let n = freshRefusal (not (sound s)) (q .m) (q .w) (masksOf (q .masks)) (length area) in
+      let t = cond (eqb (freshRefusal (not (sound s)) (q .m) (q .w) (masksOf (q .masks)) (length area)) 0) (freshState (q .m) (q .w) (masksOf (q .masks))) s in
+      ap (λ (u : State). quietly (freshRefusal (not (sound s)) (q .m) (q .w) (masksOf (q .masks)) (length area)) u area) (same-both t fileCount (fileAt t fileCount .channel))
 
-  open-right : (file channel unit flags size rlen : ℕ) → Right (Open file channel unit flags size rlen)
+  open-right : (q : OpenFrame) → Right (Open q)
   unfolding Right replyOn turnedFrom areaFrom wholeOf changeOf areaOf replyTo openBy openChangeOn openOn
-  open-right file channel unit flags size rlen =
-      let x = openChange s file channel unit flags size rlen in
-      ap (λ (u : State). quietly (x .refusal) u area) (stored-file s file channel (x .refusal) (x .file) (refused-file (x .refusal) (fileAt s file) _))
+  open-right q =
+      let x = openChange s (q .file) (q .channel) (q .unit) (q .flags) (q .size) (q .rlen) in
+      ap (λ (u : State). quietly (x .refusal) u area) (stored-file s (q .file) (q .channel) (x .refusal) (x .file) (refused-file (x .refusal) (fileAt s (q .file)) _))
 
   close-right : (file : ℕ) → Right (Close file)
   unfolding Right replyOn turnedFrom areaFrom wholeOf changeOf areaOf replyTo closeBy closeChangeOn closeOn
@@ -162,23 +167,23 @@ module _ (s : State) (area words : List ℕ) where
       let x = closeChange s file in
       ap (λ (u : State). quietly (x .refusal) u area) (stored-file s file (fileAt s file .channel) (x .refusal) (x .file) (refused-file (x .refusal) (fileAt s file) _))
 
-  ask-right : (file op priority : ℕ) → Right (Ask file op priority)
+  ask-right : (q : AskFrame) → Right (Ask q)
   unfolding Right replyOn turnedFrom areaFrom wholeOf changeOf areaOf replyTo askBy askChangeOn
-  ask-right file op priority =
-      let x = askChange s file op priority in
+  ask-right q =
+      let x = askChange s (q .file) (q .op) (q .priority) in
       ap (λ (u : State). record { state = u; area = area; answer = answerOr (x .refusal) (answer.Asked (x .working)); words = [] })
-      (stored-both s file (fileAt s file .channel) (x .refusal) (x .file) (x .channel) (ask-alone _ _ _ _ _ _))
+      (stored-both s (q .file) (fileAt s (q .file) .channel) (x .refusal) (x .file) (x .channel) (ask-alone _ _ _ _ _ _))
 
-  report-right : (channel unit outcome n : ℕ) → Right (Report channel unit outcome n)
+  report-right : (q : ReportFrame) → Right (Report q)
   unfolding Right replyOn turnedFrom areaFrom wholeOf changeOf areaOf replyTo reportBy reportByArea reportChangeOn reportAreaOn
-  report-right channel unit outcome n =
-      let x = reportChange s area channel unit outcome words in
+  report-right q =
+      let x = reportChange s area (q .channel) (q .unit) (q .outcome) words in
       ap (λ (u : State). record {
         state = u;
-        area = reportByArea s area channel unit outcome words;
+        area = reportByArea s area (q .channel) (q .unit) (q .outcome) words;
         answer = answerOr (x .refusal) (answer.Reported (x .result) (x .error) (x .working));
-        words = partOf (x .start) (x .count) (reportByArea s area channel unit outcome words);
-      }) (stored-both s (fileOf s channel unit) channel (x .refusal) (x .file) (x .channel) (report-alone _ _ _ _ _ _ _ _ _))
+        words = partOf (x .start) (x .count) (reportByArea s area (q .channel) (q .unit) (q .outcome) words);
+      }) (stored-both s (fileOf s (q .channel) (q .unit)) (q .channel) (x .refusal) (x .file) (x .channel) (report-alone _ _ _ _ _ _ _ _ _))
 
   get-right : (file : ℕ) → Right (Get file)
   unfolding Right replyOn turnedFrom areaFrom wholeOf changeOf areaOf replyTo getBy getWords getChangeOn getOn
@@ -187,12 +192,12 @@ module _ (s : State) (area words : List ℕ) where
       ap (λ (u : State). record { state = u; area = area; answer = answerOr (x .refusal) (gotAnswer (x .got)); words = shown area (x .got) })
       (stored-file s file (fileAt s file .channel) (x .refusal) (x .file) (refused-file (x .refusal) (fileAt s file) _))
 
-  put-right : (file n : ℕ) → Right (Put file n)
+  put-right : (q : PutFrame) → Right (Put q)
   unfolding Right replyOn turnedFrom areaFrom wholeOf changeOf areaOf replyTo putBy putByArea putChangeOn putAreaOn putOn
-  put-right file n =
-      let x = putChange s area file words in
-      ap (λ (u : State). quietly (x .refusal) u (putByArea s area file words))
-      (stored-file s file (fileAt s file .channel) (x .refusal) (x .file) (refused-file (x .refusal) (fileAt s file) _))
+  put-right q =
+      let x = putChange s area (q .file) words in
+      ap (λ (u : State). quietly (x .refusal) u (putByArea s area (q .file) words))
+      (stored-file s (q .file) (fileAt s (q .file) .channel) (x .refusal) (x .file) (refused-file (x .refusal) (fileAt s (q .file)) _))
 
   seal-right : (file : ℕ) → Right (Seal file)
   unfolding Right replyOn turnedFrom areaFrom wholeOf changeOf areaOf replyTo sealBy sealByArea sealChangeOn sealAreaOn sealOn
@@ -225,13 +230,13 @@ module _ (s : State) (area words : List ℕ) where
   pub turned-right : (frame : Frame) → replyOn (not (sound s)) s area words frame ≡ replyTo s area words frame
   unfolding Right
   turned-right Malformed = malformed-right
-  turned-right (Fresh m w masks) = fresh-right m w masks
-  turned-right (Open file channel unit flags size rlen) = open-right file channel unit flags size rlen
+  turned-right (Fresh q) = fresh-right q
+  turned-right (Open q) = open-right q
   turned-right (Close file) = close-right file
-  turned-right (Ask file op priority) = ask-right file op priority
-  turned-right (Report channel unit outcome n) = report-right channel unit outcome n
+  turned-right (Ask q) = ask-right q
+  turned-right (Report q) = report-right q
   turned-right (Get file) = get-right file
-  turned-right (Put file n) = put-right file n
+  turned-right (Put q) = put-right q
   turned-right (Seal file) = seal-right file
   turned-right (Skip file) = skip-right file
   turned-right Freeze = freeze-right

@@ -4,7 +4,7 @@ use mathlib.Core.Bool.{Bool, _||_}
 use mathlib.Core.List.{List}
 use Prim.Native.Nat.{ℕ, _*_}
 use borrow.Author.Tests.{eq-eqb, ne-eqb}
-use lib.Dec.{ltb}
+use lib.Dec.{leb, ltb}
 use lib.ListN.{length}
 use Rattle.area.proofs.Marks.{cond-true, cond-false}
 use Rattle.session_frame.specs.declared.Answer.{Answer}
@@ -12,10 +12,11 @@ use Rattle.session_frame.specs.declared.Answer.the-variants as answer
 use Rattle.channel.specs.declared.Channel.{Channel}
 use Rattle.file.specs.declared.File.{File}
 use Rattle.file.specs.declared.Wish.{Wish}
-use Rattle.session_frame.specs.declared.Masks as frame
 use Rattle.file_input.specs.Gets.{gotStart, gotWords}
+use Rattle.pool.specs.Free.{fileCount}
 use Rattle.pool.specs.Serving.{isBound}
 use Rattle.state.specs.declared.State.{State}
+use Rattle.state.specs.Places.{channelCount}
 use Rattle.file.specs.declared.FileChange.{FileChange}
 use Rattle.call_open.specs.declared.Free.{Free}
 use Rattle.pack_start.specs.declared.Masks.{Masks}
@@ -29,37 +30,42 @@ use Rattle.call_record.specs.declared.GetChange.{GetChange}
 use Rattle.call_record.specs.Get.{getOn}
 use Rattle.call_record.specs.Put.{putOn, putOnArea}
 use Rattle.call_record.specs.Seal.{sealOn, sealOnArea}
+use Rattle.session_frame.specs.declared.FreshFrame.{FreshFrame}
+use Rattle.session_frame.specs.declared.OpenFrame.{OpenFrame}
+use Rattle.session_frame.specs.declared.AskFrame.{AskFrame}
+use Rattle.session_frame.specs.declared.ReportFrame.{ReportFrame}
 use Rattle.session_frame.specs.declared.Frame.the-variants.{Fresh}
 use Rattle.session_reply.specs.declared.Change.{Change}
 use Rattle.session_reply.specs.Replies.{answerOr, gotAnswer, masksOf}
 use Rattle.session_reply.specs.Changes.{quietChange, openWrong, openChangeOn, askChangeOn, reportChangeOn, reportAreaOn, getChangeOn, putChangeOn, putAreaOn, sealChangeOn, sealAreaOn}
 use Rattle.session_reply.specs.Turns.{wholeOf}
 
-pub opened-as : (unsound : Bool) (m w : ℕ) (files : List File) (f : File) (c : Channel) (file channel unit flags size rlen : ℕ)
-    (bound : Bool) (free : Free) (q : Wish) (x : FileChange) (r : Change)
-    → bound ≡ isBound files channel unit → free ≡ freeOf m files → q ≡ wishOf channel unit flags size rlen
-    → x ≡ openOn (openWrong unsound file channel unit flags) bound f c free w q → r ≡ quietChange (x .refusal) (x .file) c
-    → r ≡ openChangeOn unsound m w files f c file channel unit flags size rlen
+pub opened-as : (unsound : Bool) (m w : ℕ) (files : List File) (f : File) (c : Channel) (q : OpenFrame)
+    (bound : Bool) (free : Free) (wish : Wish) (x : FileChange) (r : Change)
+    → bound ≡ isBound files (q .channel) (q .unit) → free ≡ freeOf m files → wish ≡ wishOf (q .channel) (q .unit) (q .flags) (q .size) (q .rlen)
+    → x ≡ openOn (openWrong unsound (q .file) (q .channel) (q .unit) (q .flags)) bound f c free w wish → r ≡ quietChange (x .refusal) (x .file) c
+    → r ≡ openChangeOn unsound m w files f c q
 unfolding openChangeOn
-opened-as unsound m w files f c file channel unit flags size rlen bound free q x r eb ef eq ex er =
-    let e : x ≡ openOn (openWrong unsound file channel unit flags) (isBound files channel unit) f c (freeOf m files) w (wishOf channel unit flags size rlen) =
+opened-as unsound m w files f c q bound free wish x r eb ef eq ex er =
+    let e : x ≡ openOn (openWrong unsound (q .file) (q .channel) (q .unit) (q .flags)) (isBound files (q .channel) (q .unit)) f c (freeOf m files) w
+    (wishOf (q .channel) (q .unit) (q .flags) (q .size) (q .rlen)) =
     ex ∙ rw (eb, ef, eq) in
     er ∙ ap (λ (y : FileChange). quietChange (y .refusal) (y .file) c) e
 
-pub asked-as : (unsound frozen : Bool) (f : File) (c : Channel) (file op priority : ℕ) (x : AskChange) (a : Answer)
-    → x ≡ askOn (unsound || ltb 15 file) f c op priority frozen → a ≡ answerOr (x .refusal) (answer.Asked (x .working))
-    → record { answer = a; start = 0; count = 0; file = x .file; channel = x .channel } ≡ askChangeOn unsound frozen f c file op priority
+pub asked-as : (unsound frozen : Bool) (f : File) (c : Channel) (q : AskFrame) (x : AskChange) (a : Answer)
+    → x ≡ askOn (unsound || leb fileCount (q .file)) f c (q .op) (q .priority) frozen → a ≡ answerOr (x .refusal) (answer.Asked (x .working))
+    → record { answer = a; start = 0; count = 0; file = x .file; channel = x .channel } ≡ askChangeOn unsound frozen f c q
 unfolding askChangeOn
-asked-as unsound frozen f c file op priority x a ex ea =
+asked-as unsound frozen f c q x a ex ea =
     ap (λ (b : Answer). record { answer = b; start = 0; count = 0; file = x .file; channel = x .channel }) ea
     ∙ ap (λ (y : AskChange). record { answer = answerOr (y .refusal) (answer.Asked (y .working)); start = 0; count = 0; file = y .file; channel = y .channel }) ex
 
-module _ (unsound : Bool) (m w : ℕ) (frozen : Bool) (f : File) (c : Channel) (channel unit outcome : ℕ) (area words : List ℕ) where
+module _ (unsound : Bool) (m w : ℕ) (frozen : Bool) (f : File) (c : Channel) (q : ReportFrame) (area words : List ℕ) where
   pub reported-as : (short : Bool) (x : ReportChange) (a : Answer) → short ≡ ltb (length area) (m * w)
-      → x ≡ reportOn (unsound || (short || ltb 4 channel)) f c unit outcome w frozen area words
+      → x ≡ reportOn (unsound || (short || leb channelCount (q .channel))) f c (q .unit) (q .outcome) w frozen area words
       → a ≡ answerOr (x .refusal) (answer.Reported (x .result) (x .error) (x .working))
       → record { answer = a; start = x .start; count = x .count; file = x .file; channel = x .channel }
-      ≡ reportChangeOn unsound m w frozen f c channel unit outcome area words
+      ≡ reportChangeOn unsound m w frozen f c q area words
   unfolding reportChangeOn
   reported-as short x a es ex ea =
       ap (λ (b : Answer). record { answer = b; start = x .start; count = x .count; file = x .file; channel = x .channel }) ea
@@ -69,68 +75,68 @@ module _ (unsound : Bool) (m w : ℕ) (frozen : Bool) (f : File) (c : Channel) (
         count = y .count;
         file = y .file;
         channel = y .channel;
-      }) (ex ∙ ap (λ (t : Bool). reportOn (unsound || (t || ltb 4 channel)) f c unit outcome w frozen area words) es)
+      }) (ex ∙ ap (λ (t : Bool). reportOn (unsound || (t || leb channelCount (q .channel))) f c (q .unit) (q .outcome) w frozen area words) es)
 
-pub reported-area : (unsound : Bool) (m w : ℕ) (f : File) (c : Channel) (channel unit outcome : ℕ) (area words : List ℕ) (short : Bool) (after : List ℕ)
-    → short ≡ ltb (length area) (m * w) → after ≡ reportOnArea (unsound || (short || ltb 4 channel)) f c unit outcome w area words
-    → after ≡ reportAreaOn unsound m w f c channel unit outcome area words
+pub reported-area : (unsound : Bool) (m w : ℕ) (f : File) (c : Channel) (q : ReportFrame) (area words : List ℕ) (short : Bool) (after : List ℕ)
+    → short ≡ ltb (length area) (m * w) → after ≡ reportOnArea (unsound || (short || leb channelCount (q .channel))) f c (q .unit) (q .outcome) w area words
+    → after ≡ reportAreaOn unsound m w f c q area words
 unfolding reportAreaOn
-reported-area unsound m w f c channel unit outcome area words short after es e =
-    e ∙ ap (λ (t : Bool). reportOnArea (unsound || (t || ltb 4 channel)) f c unit outcome w area words) es
+reported-area unsound m w f c q area words short after es e =
+    e ∙ ap (λ (t : Bool). reportOnArea (unsound || (t || leb channelCount (q .channel))) f c (q .unit) (q .outcome) w area words) es
 
 module _ (unsound : Bool) (m w : ℕ) (f : File) (c : Channel) (file : ℕ) (area : List ℕ) where
   pub got-as : (short : Bool) (x : GetChange) (told a : Answer) (start count : ℕ) → short ≡ ltb (length area) (m * w)
-      → x ≡ getOn (ltb 15 file || (short || unsound)) f w area → told ≡ gotAnswer (x .got) → a ≡ answerOr (x .refusal) told
+      → x ≡ getOn (leb fileCount file || (short || unsound)) f w area → told ≡ gotAnswer (x .got) → a ≡ answerOr (x .refusal) told
       → start ≡ gotStart (x .got) → count ≡ gotWords (x .got)
       → record { answer = a; start = start; count = count; file = x .file; channel = c } ≡ getChangeOn unsound m w f c file area
   unfolding getChangeOn
   got-as short x told a start count es ex et ea e1 e2 =
       rw (ea, et, e1, e2)
       (ap (λ (y : GetChange). record { answer = answerOr (y .refusal) (gotAnswer (y .got)); start = gotStart (y .got); count = gotWords (y .got); file = y .file; channel = c })
-      (ex ∙ ap (λ (t : Bool). getOn (ltb 15 file || (t || unsound)) f w area) es))
+      (ex ∙ ap (λ (t : Bool). getOn (leb fileCount file || (t || unsound)) f w area) es))
 
 module _ (unsound : Bool) (m w : ℕ) (f : File) (c : Channel) (file : ℕ) (area words : List ℕ) where
   pub filled-as : (short : Bool) (x : FileChange) (r : Change) → short ≡ ltb (length area) (m * w)
-      → x ≡ putOn (ltb 15 file || (short || unsound)) f w area words → r ≡ quietChange (x .refusal) (x .file) c
+      → x ≡ putOn (leb fileCount file || (short || unsound)) f w area words → r ≡ quietChange (x .refusal) (x .file) c
       → r ≡ putChangeOn unsound m w f c file area words
   unfolding putChangeOn
   filled-as short x r es ex er =
       er ∙ ap (λ (y : FileChange). quietChange (y .refusal) (y .file) c)
-      (ex ∙ ap (λ (t : Bool). putOn (ltb 15 file || (t || unsound)) f w area words) es)
+      (ex ∙ ap (λ (t : Bool). putOn (leb fileCount file || (t || unsound)) f w area words) es)
 
 pub filled-area : (unsound : Bool) (m w : ℕ) (f : File) (file : ℕ) (area words : List ℕ) (short : Bool) (after : List ℕ)
-    → short ≡ ltb (length area) (m * w) → after ≡ putOnArea (ltb 15 file || (short || unsound)) f w area words
+    → short ≡ ltb (length area) (m * w) → after ≡ putOnArea (leb fileCount file || (short || unsound)) f w area words
     → after ≡ putAreaOn unsound m w f file area words
 unfolding putAreaOn
 filled-area unsound m w f file area words short after es e =
-    e ∙ ap (λ (t : Bool). putOnArea (ltb 15 file || (t || unsound)) f w area words) es
+    e ∙ ap (λ (t : Bool). putOnArea (leb fileCount file || (t || unsound)) f w area words) es
 
 module _ (unsound : Bool) (m w : ℕ) (f : File) (c : Channel) (file : ℕ) (area : List ℕ) where
   pub sealed-as : (short : Bool) (x : FileChange) (r : Change) → short ≡ ltb (length area) (m * w)
-      → x ≡ sealOn (ltb 15 file || (short || unsound)) f w area → r ≡ quietChange (x .refusal) (x .file) c
+      → x ≡ sealOn (leb fileCount file || (short || unsound)) f w area → r ≡ quietChange (x .refusal) (x .file) c
       → r ≡ sealChangeOn unsound m w f c file area
   unfolding sealChangeOn
   sealed-as short x r es ex er =
       er ∙ ap (λ (y : FileChange). quietChange (y .refusal) (y .file) c)
-      (ex ∙ ap (λ (t : Bool). sealOn (ltb 15 file || (t || unsound)) f w area) es)
+      (ex ∙ ap (λ (t : Bool). sealOn (leb fileCount file || (t || unsound)) f w area) es)
 
 pub sealed-area : (unsound : Bool) (m w : ℕ) (f : File) (file : ℕ) (area : List ℕ) (short : Bool) (after : List ℕ)
-    → short ≡ ltb (length area) (m * w) → after ≡ sealOnArea (ltb 15 file || (short || unsound)) f w area
+    → short ≡ ltb (length area) (m * w) → after ≡ sealOnArea (leb fileCount file || (short || unsound)) f w area
     → after ≡ sealAreaOn unsound m w f file area
 unfolding sealAreaOn
 sealed-area unsound m w f file area short after es e =
-    e ∙ ap (λ (t : Bool). sealOnArea (ltb 15 file || (t || unsound)) f w area) es
+    e ∙ ap (λ (t : Bool). sealOnArea (leb fileCount file || (t || unsound)) f w area) es
 
 -- ---- a fresh start
 
-module _ (s : State) (n m w : ℕ) (masks : frame.Masks) (k : Masks) (no : ℕ) (ek : k ≡ masksOf masks) (en : no ≡ freshRefusal m w k n) where
-  number-is : no ≡ freshRefusal m w (masksOf masks) n
-  number-is = en ∙ ap (λ (x : Masks). freshRefusal m w x n) ek
+module _ (unsound : Bool) (s : State) (n : ℕ) (q : FreshFrame) (k : Masks) (no : ℕ) (ek : k ≡ masksOf (q .masks)) (en : no ≡ freshRefusal unsound (q .m) (q .w) k n) where
+  number-is : no ≡ freshRefusal unsound (q .m) (q .w) (masksOf (q .masks)) n
+  number-is = en ∙ ap (λ (x : Masks). freshRefusal unsound (q .m) (q .w) x n) ek
 
-  pub fresh-refused : (no ≡ 0 → ⊥) → (unsound : Bool) → s ≡ wholeOf unsound s n (Fresh m w masks)
+  pub fresh-refused : (no ≡ 0 → ⊥) → s ≡ wholeOf unsound s n (Fresh q)
   unfolding wholeOf
-  fresh-refused h unsound = sym (cond-false _ _ (ne-eqb _ 0 (λ z. h (number-is ∙ z))))
+  fresh-refused h = sym (cond-false _ _ (ne-eqb _ 0 (λ z. h (number-is ∙ z))))
 
-  pub fresh-taken : no ≡ 0 → (t : State) → t ≡ freshState m w k → (unsound : Bool) → t ≡ wholeOf unsound s n (Fresh m w masks)
+  pub fresh-taken : no ≡ 0 → (t : State) → t ≡ freshState (q .m) (q .w) k → t ≡ wholeOf unsound s n (Fresh q)
   unfolding wholeOf
-  fresh-taken z t e unsound = e ∙ ap (λ (x : Masks). freshState m w x) ek ∙ sym (cond-true _ _ (eq-eqb _ 0 (sym number-is ∙ z)))
+  fresh-taken z t e = e ∙ ap (λ (x : Masks). freshState (q .m) (q .w) x) ek ∙ sym (cond-true _ _ (eq-eqb _ 0 (sym number-is ∙ z)))

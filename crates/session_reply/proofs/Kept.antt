@@ -44,13 +44,13 @@ fresh-sound s n m w masks h = go (eqb (freshBy s n m w masks .refusal) 0) refl
 reply-kept : (s : State) (area words : List ℕ) (frame : Frame) → Counts s → sound s ≡ true → sound (replyTo s area words frame .state) ≡ true
 unfolding replyTo
 reply-kept s area words Malformed k h = h
-reply-kept s area words (Fresh m w masks) k h = fresh-sound s (length area) m w (masksOf masks) h
-reply-kept s area words (Open file channel unit flags size rlen) k h = open-kept s file channel unit flags size rlen (k .files) h
+reply-kept s area words (Fresh q) k h = fresh-sound s (length area) (q .m) (q .w) (masksOf (q .masks)) h
+reply-kept s area words (Open q) k h = open-kept s (q .file) (q .channel) (q .unit) (q .flags) (q .size) (q .rlen) (k .files) h
 reply-kept s area words (Close file) k h = close-kept s file h
-reply-kept s area words (Ask file op priority) k h = ask-kept s file op priority h
-reply-kept s area words (Report channel unit outcome n) k h = report-kept s area channel unit outcome words (k .files) h
+reply-kept s area words (Ask q) k h = ask-kept s (q .file) (q .op) (q .priority) h
+reply-kept s area words (Report q) k h = report-kept s area (q .channel) (q .unit) (q .outcome) words (k .files) h
 reply-kept s area words (Get file) k h = get-kept s area file h
-reply-kept s area words (Put file n) k h = put-kept s area file words h
+reply-kept s area words (Put q) k h = put-kept s area (q .file) words h
 reply-kept s area words (Seal file) k h = seal-kept s area file h
 reply-kept s area words (Skip file) k h = skip-kept s file h
 reply-kept s area words Freeze k h = freeze-kept s h
@@ -81,13 +81,13 @@ answer-counts s area line k =
 reply-area : (s : State) (area words : List ℕ) (frame : Frame) → Counts s → length (replyTo s area words frame .area) ≡ length area
 unfolding replyTo
 reply-area s area words Malformed k = refl
-reply-area s area words (Fresh m w masks) k = refl
-reply-area s area words (Open file channel unit flags size rlen) k = refl
+reply-area s area words (Fresh q) k = refl
+reply-area s area words (Open q) k = refl
 reply-area s area words (Close file) k = refl
-reply-area s area words (Ask file op priority) k = refl
-reply-area s area words (Report channel unit outcome n) k = report-area-length s area channel unit outcome words (k .files)
+reply-area s area words (Ask q) k = refl
+reply-area s area words (Report q) k = report-area-length s area (q .channel) (q .unit) (q .outcome) words (k .files)
 reply-area s area words (Get file) k = refl
-reply-area s area words (Put file n) k = put-area-frame s area file words .long
+reply-area s area words (Put q) k = put-area-frame s area (q .file) words .long
 reply-area s area words (Seal file) k = seal-area-frame s area file .long
 reply-area s area words (Skip file) k = refl
 reply-area s area words Freeze k = refl

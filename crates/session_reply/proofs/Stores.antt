@@ -62,32 +62,32 @@ counts-if false s u p q = q
 
 pub whole-counts : (unsound : Bool) (s : State) (n : ℕ) (frame : Frame) → Counts s → Counts (wholeOf unsound s n frame)
 unfolding wholeOf freshState frozenState thawedState
-whole-counts unsound s n (Fresh m w masks) k = counts-if (eqb (freshRefusal m w (masksOf masks) n) 0) _ s (record { files = refl; channels = refl }) k
+whole-counts unsound s n (Fresh q) k = counts-if (eqb (freshRefusal unsound (q .m) (q .w) (masksOf (q .masks)) n) 0) _ s (record { files = refl; channels = refl }) k
 whole-counts unsound s n Freeze k = counts-if unsound s _ k (record { files = k .files; channels = k .channels })
 whole-counts unsound s n Thaw k = counts-if unsound s _ k (record { files = k .files; channels = length-map (s .channels) thawOf ∙ k .channels })
 whole-counts unsound s n Malformed k = k
-whole-counts unsound s n (Open file channel unit flags size rlen) k = k
+whole-counts unsound s n (Open q) k = k
 whole-counts unsound s n (Close file) k = k
-whole-counts unsound s n (Ask file op priority) k = k
-whole-counts unsound s n (Report channel unit outcome words) k = k
+whole-counts unsound s n (Ask q) k = k
+whole-counts unsound s n (Report q) k = k
 whole-counts unsound s n (Get file) k = k
-whole-counts unsound s n (Put file words) k = k
+whole-counts unsound s n (Put q) k = k
 whole-counts unsound s n (Seal file) k = k
 whole-counts unsound s n (Skip file) k = k
 
 -- a frame that does not concern the whole leaves it
 pub not-whole : (unsound : Bool) (s : State) (n : ℕ) (frame : Frame) → isWhole frame ≡ false → wholeOf unsound s n frame ≡ s
 unfolding wholeOf
-not-whole unsound s n (Fresh m w masks) e = absurd (let z : _≡_ {A = ℕ} 0 1 = cc in omega arith)
+not-whole unsound s n (Fresh q) e = absurd (let z : _≡_ {A = ℕ} 0 1 = cc in omega arith)
 not-whole unsound s n Freeze e = absurd (let z : _≡_ {A = ℕ} 0 1 = cc in omega arith)
 not-whole unsound s n Thaw e = absurd (let z : _≡_ {A = ℕ} 0 1 = cc in omega arith)
 not-whole unsound s n Malformed e = refl
-not-whole unsound s n (Open file channel unit flags size rlen) e = refl
+not-whole unsound s n (Open q) e = refl
 not-whole unsound s n (Close file) e = refl
-not-whole unsound s n (Ask file op priority) e = refl
-not-whole unsound s n (Report channel unit outcome words) e = refl
+not-whole unsound s n (Ask q) e = refl
+not-whole unsound s n (Report q) e = refl
 not-whole unsound s n (Get file) e = refl
-not-whole unsound s n (Put file words) e = refl
+not-whole unsound s n (Put q) e = refl
 not-whole unsound s n (Seal file) e = refl
 not-whole unsound s n (Skip file) e = refl
 

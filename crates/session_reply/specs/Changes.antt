@@ -5,6 +5,9 @@ use mathlib.Core.Bool.{Bool, _||_}
 use mathlib.Core.List.{List}
 use lib.Dec.{leb, ltb}
 use lib.ListN.{length}
+use Rattle.session_frame.specs.declared.OpenFrame.{OpenFrame}
+use Rattle.session_frame.specs.declared.AskFrame.{AskFrame}
+use Rattle.session_frame.specs.declared.ReportFrame.{ReportFrame}
 use Rattle.session_frame.specs.declared.Answer.the-variants as answer
 use Rattle.channel.specs.declared.Channel.{Channel}
 use Rattle.channel.specs.Units.{unitCount}
@@ -41,17 +44,20 @@ reportWrongBy unsound m w n channel = unsound || (ltb n (m * w) || leb channelCo
 
 -- ---- the calls that move no words
 
-unfoldable pub openChangeOn : Bool → ℕ → ℕ → List File → File → Channel → ℕ → ℕ → ℕ → ℕ → ℕ → ℕ → Change
-openChangeOn unsound m w files f c file channel unit flags size rlen =
-    let x = openOn (openWrong unsound file channel unit flags) (isBound files channel unit) f c (freeOf m files) w (wishOf channel unit flags size rlen) in
+unfoldable pub openChangeOn : Bool → ℕ → ℕ → List File → File → Channel → OpenFrame → Change
+openChangeOn unsound m w files f c q =
+    let x =
+    openOn (openWrong unsound (q .file) (q .channel) (q .unit) (q .flags)) (isBound files (q .channel) (q .unit)) f c (freeOf m files) w
+    (wishOf (q .channel) (q .unit) (q .flags) (q .size) (q .rlen))
+    in
     quietChange (x .refusal) (x .file) c
 
 unfoldable pub closeChangeOn : Bool → File → Channel → ℕ → Change
 closeChangeOn unsound f c file = let x = closeOn (leb fileCount file || unsound) f c in quietChange (x .refusal) (x .file) c
 
-unfoldable pub askChangeOn : Bool → Bool → File → Channel → ℕ → ℕ → ℕ → Change
-askChangeOn unsound frozen f c file op priority =
-    let x = askOn (unsound || leb fileCount file) f c op priority frozen in
+unfoldable pub askChangeOn : Bool → Bool → File → Channel → AskFrame → Change
+askChangeOn unsound frozen f c q =
+    let x = askOn (unsound || leb fileCount (q .file)) f c (q .op) (q .priority) frozen in
     record { answer = answerOr (x .refusal) (answer.Asked (x .working)); start = 0; count = 0; file = x .file; channel = x .channel }
 
 unfoldable pub skipChangeOn : Bool → File → Channel → ℕ → Change
@@ -59,9 +65,9 @@ skipChangeOn unsound f c file = let x = skipOn (leb fileCount file || unsound) f
 
 -- ---- the calls that move or show words
 
-unfoldable pub reportChangeOn : Bool → ℕ → ℕ → Bool → File → Channel → ℕ → ℕ → ℕ → List ℕ → List ℕ → Change
-reportChangeOn unsound m w frozen f c channel unit outcome area words =
-    let x = reportOn (reportWrongBy unsound m w (length area) channel) f c unit outcome w frozen area words in
+unfoldable pub reportChangeOn : Bool → ℕ → ℕ → Bool → File → Channel → ReportFrame → List ℕ → List ℕ → Change
+reportChangeOn unsound m w frozen f c q area words =
+    let x = reportOn (reportWrongBy unsound m w (length area) (q .channel)) f c (q .unit) (q .outcome) w frozen area words in
     record {
       answer = answerOr (x .refusal) (answer.Reported (x .result) (x .error) (x .working));
       start = x .start;
@@ -70,9 +76,9 @@ reportChangeOn unsound m w frozen f c channel unit outcome area words =
       channel = x .channel;
     }
 
-unfoldable pub reportAreaOn : Bool → ℕ → ℕ → File → Channel → ℕ → ℕ → ℕ → List ℕ → List ℕ → List ℕ
-reportAreaOn unsound m w f c channel unit outcome area words =
-    reportOnArea (reportWrongBy unsound m w (length area) channel) f c unit outcome w area words
+unfoldable pub reportAreaOn : Bool → ℕ → ℕ → File → Channel → ReportFrame → List ℕ → List ℕ → List ℕ
+reportAreaOn unsound m w f c q area words =
+    reportOnArea (reportWrongBy unsound m w (length area) (q .channel)) f c (q .unit) (q .outcome) w area words
 
 unfoldable pub getChangeOn : Bool → ℕ → ℕ → File → Channel → ℕ → List ℕ → Change
 getChangeOn unsound m w f c file area =

@@ -16,6 +16,7 @@ use Rattle.session_frame.specs.declared.Answer.the-variants as answer
 use Rattle.session_frame.specs.Answers.{answerText}
 use Rattle.file_input.specs.declared.Got.{Got}
 use Rattle.file_input.specs.declared.Got.the-variants as got
+use Rattle.file_input.specs.Gets.{gotNumber}
 use Rattle.state.specs.declared.State.{State}
 use Rattle.pack_start.specs.declared.Masks.{Masks}
 use Rattle.pack_start.specs.Fresh.{freshBy}
@@ -49,21 +50,21 @@ masksOf k = record { a = k .a; b = k .b; c = k .c; d = k .d; e = k .e }
 
 -- "Get adds 00 and words, 01 nothing yet, 02 end, 03 and the check error, 04 and a leftover."
 abbrev pub gotAnswer : Got → Answer
-gotAnswer (got.Record start n) = answer.Record
-gotAnswer (got.Leftover start n) = answer.Leftover
-gotAnswer (got.Error e) = answer.Error e
-gotAnswer got.End = answer.End
-gotAnswer got.Nothing = answer.Nothing
+gotAnswer (got.Record start n) = answer.Got (gotNumber (got.Record start n))
+gotAnswer (got.Leftover start n) = answer.Got (gotNumber (got.Leftover start n))
+gotAnswer (got.Error e) = answer.GotError (gotNumber (got.Error e)) e
+gotAnswer got.End = answer.Got (gotNumber got.End)
+gotAnswer got.Nothing = answer.Got (gotNumber got.Nothing)
 
 -- the words that come with a line: "04 channel unit outcome words", "06 put file words"
 unfoldable pub givenWords : Frame → List ℕ → List ℕ
-givenWords (Report channel unit outcome n) line = wordsOf (drop 4 (bytesOf line))
-givenWords (Put file n) line = wordsOf (drop 2 (bytesOf line))
+givenWords (Report q) line = wordsOf (drop 4 (bytesOf line))
+givenWords (Put q) line = wordsOf (drop 2 (bytesOf line))
 givenWords Malformed line = []
-givenWords (Fresh m w masks) line = []
-givenWords (Open file channel unit flags size rlen) line = []
+givenWords (Fresh q) line = []
+givenWords (Open q) line = []
 givenWords (Close file) line = []
-givenWords (Ask file op priority) line = []
+givenWords (Ask q) line = []
 givenWords (Get file) line = []
 givenWords (Seal file) line = []
 givenWords (Skip file) line = []
@@ -74,19 +75,19 @@ givenWords Thaw line = []
 unfoldable pub replyTo : State → List ℕ → List ℕ → Frame → Reply
 -- "1 | .. or a frame is malformed"
 replyTo s area words Malformed = quietly 1 s area
-replyTo s area words (Fresh m w masks) =
-    let x = freshBy s (length area) m w (masksOf masks) in quietly (x .refusal) (x .state) area
-replyTo s area words (Open file channel unit flags size rlen) =
-    let x = openBy s file channel unit flags size rlen in quietly (x .refusal) (x .state) area
+replyTo s area words (Fresh q) =
+    let x = freshBy s (length area) (q .m) (q .w) (masksOf (q .masks)) in quietly (x .refusal) (x .state) area
+replyTo s area words (Open q) =
+    let x = openBy s (q .file) (q .channel) (q .unit) (q .flags) (q .size) (q .rlen) in quietly (x .refusal) (x .state) area
 replyTo s area words (Close file) = let x = closeBy s file in quietly (x .refusal) (x .state) area
 -- "After 00: ask adds the channel's working unit, FF for none."
-replyTo s area words (Ask file op priority) =
-    let x = askBy s file op priority in
+replyTo s area words (Ask q) =
+    let x = askBy s (q .file) (q .op) (q .priority) in
     record { state = x .state; area = area; answer = answerOr (x .refusal) (answer.Asked (x .working)); words = [] }
 -- "Report adds result, check error, working unit and, if it ends a write with 01 or 04, the block's words"
-replyTo s area words (Report channel unit outcome n) =
-    let x = reportBy s area channel unit outcome words in
-    let after = reportByArea s area channel unit outcome words in
+replyTo s area words (Report q) =
+    let x = reportBy s area (q .channel) (q .unit) (q .outcome) words in
+    let after = reportByArea s area (q .channel) (q .unit) (q .outcome) words in
     record {
       state = x .state;
       area = after;
@@ -96,7 +97,7 @@ replyTo s area words (Report channel unit outcome n) =
 replyTo s area words (Get file) =
     let x = getBy s area file in
     record { state = x .state; area = area; answer = answerOr (x .refusal) (gotAnswer (x .got)); words = getWords s area file }
-replyTo s area words (Put file n) = let x = putBy s area file words in quietly (x .refusal) (x .state) (putByArea s area file words)
+replyTo s area words (Put q) = let x = putBy s area (q .file) words in quietly (x .refusal) (x .state) (putByArea s area (q .file) words)
 replyTo s area words (Seal file) = let x = sealBy s area file in quietly (x .refusal) (x .state) (sealByArea s area file)
 replyTo s area words (Skip file) = let x = skipBy s file in quietly (x .refusal) (x .state) area
 replyTo s area words Freeze = let x = freezeBy s in quietly (x .refusal) (x .state) area

@@ -26,16 +26,16 @@ use Rattle.session_reply.specs.Changes.{quietChange, openChangeOn, close
 -- ---- the whole state: fresh start, freeze, thaw
 
 abbrev pub isWhole : Frame → Bool
-isWhole (Fresh m w masks) = true
+isWhole (Fresh q) = true
 isWhole Freeze = true
 isWhole Thaw = true
 isWhole Malformed = false
-isWhole (Open file channel unit flags size rlen) = false
+isWhole (Open q) = false
 isWhole (Close file) = false
-isWhole (Ask file op priority) = false
-isWhole (Report channel unit outcome n) = false
+isWhole (Ask q) = false
+isWhole (Report q) = false
 isWhole (Get file) = false
-isWhole (Put file n) = false
+isWhole (Put q) = false
 isWhole (Seal file) = false
 isWhole (Skip file) = false
 
@@ -43,16 +43,16 @@ abbrev pub stateNumber : Bool → ℕ
 stateNumber unsound = cond unsound 1 0
 
 unfoldable pub wholeOf : Bool → State → ℕ → Frame → State
-wholeOf unsound s n (Fresh m w masks) = cond (eqb (freshRefusal m w (masksOf masks) n) 0) (freshState m w (masksOf masks)) s
+wholeOf unsound s n (Fresh q) = cond (eqb (freshRefusal unsound (q .m) (q .w) (masksOf (q .masks)) n) 0) (freshState (q .m) (q .w) (masksOf (q .masks))) s
 wholeOf unsound s n Freeze = cond unsound s (frozenState s)
 wholeOf unsound s n Thaw = cond unsound s (thawedState s)
 wholeOf unsound s n Malformed = s
-wholeOf unsound s n (Open file channel unit flags size rlen) = s
+wholeOf unsound s n (Open q) = s
 wholeOf unsound s n (Close file) = s
-wholeOf unsound s n (Ask file op priority) = s
-wholeOf unsound s n (Report channel unit outcome words) = s
+wholeOf unsound s n (Ask q) = s
+wholeOf unsound s n (Report q) = s
 wholeOf unsound s n (Get file) = s
-wholeOf unsound s n (Put file words) = s
+wholeOf unsound s n (Put q) = s
 wholeOf unsound s n (Seal file) = s
 wholeOf unsound s n (Skip file) = s
 
@@ -60,29 +60,29 @@ wholeOf unsound s n (Skip file) = s
 
 -- past the last file for a frame that concerns none
 abbrev pub fileNumber : Frame → List File → ℕ
-fileNumber (Open file channel unit flags size rlen) files = file
+fileNumber (Open q) files = q .file
 fileNumber (Close file) files = file
-fileNumber (Ask file op priority) files = file
-fileNumber (Report channel unit outcome n) files = fileServing files channel unit
+fileNumber (Ask q) files = q .file
+fileNumber (Report q) files = fileServing files (q .channel) (q .unit)
 fileNumber (Get file) files = file
-fileNumber (Put file n) files = file
+fileNumber (Put q) files = q .file
 fileNumber (Seal file) files = file
 fileNumber (Skip file) files = file
 fileNumber Malformed files = fileCount
-fileNumber (Fresh m w masks) files = fileCount
+fileNumber (Fresh q) files = fileCount
 fileNumber Freeze files = fileCount
 fileNumber Thaw files = fileCount
 
 -- the frame's own channel, or that of its file
 abbrev pub channelNumber : Frame → ℕ → ℕ
-channelNumber (Open file channel unit flags size rlen) own = channel
-channelNumber (Report channel unit outcome n) own = channel
+channelNumber (Open q) own = q .channel
+channelNumber (Report q) own = q .channel
 channelNumber Malformed own = own
-channelNumber (Fresh m w masks) own = own
+channelNumber (Fresh q) own = own
 channelNumber (Close file) own = own
-channelNumber (Ask file op priority) own = own
+channelNumber (Ask q) own = own
 channelNumber (Get file) own = own
-channelNumber (Put file n) own = own
+channelNumber (Put q) own = own
 channelNumber (Seal file) own = own
 channelNumber (Skip file) own = own
 channelNumber Freeze own = own
@@ -92,29 +92,29 @@ channelNumber Thaw own = own
 
 unfoldable pub changeOf : Bool → ℕ → ℕ → Bool → List File → Frame → File → Channel → List ℕ → List ℕ → Change
 changeOf unsound m w frozen files Malformed f c area words = quietChange 1 f c
-changeOf unsound m w frozen files (Fresh m₁ w₁ masks) f c area words = quietChange (freshRefusal m₁ w₁ (masksOf masks) (length area)) f c
-changeOf unsound m w frozen files (Open file channel unit flags size rlen) f c area words =
-    openChangeOn unsound m w files f c file channel unit flags size rlen
+changeOf unsound m w frozen files (Fresh q) f c area words = quietChange (freshRefusal unsound (q .m) (q .w) (masksOf (q .masks)) (length area)) f c
+changeOf unsound m w frozen files (Open q) f c area words =
+    openChangeOn unsound m w files f c q
 changeOf unsound m w frozen files (Close file) f c area words = closeChangeOn unsound f c file
-changeOf unsound m w frozen files (Ask file op priority) f c area words = askChangeOn unsound frozen f c file op priority
-changeOf unsound m w frozen files (Report channel unit outcome n) f c area words =
-    reportChangeOn unsound m w frozen f c channel unit outcome area words
+changeOf unsound m w frozen files (Ask q) f c area words = askChangeOn unsound frozen f c q
+changeOf unsound m w frozen files (Report q) f c area words =
+    reportChangeOn unsound m w frozen f c q area words
 changeOf unsound m w frozen files (Get file) f c area words = getChangeOn unsound m w f c file area
-changeOf unsound m w frozen files (Put file n) f c area words = putChangeOn unsound m w f c file area words
+changeOf unsound m w frozen files (Put q) f c area words = putChangeOn unsound m w f c (q .file) area words
 changeOf unsound m w frozen files (Seal file) f c area words = sealChangeOn unsound m w f c file area
 changeOf unsound m w frozen files (Skip file) f c area words = skipChangeOn unsound f c file
 changeOf unsound m w frozen files Freeze f c area words = quietChange (stateNumber unsound) f c
 changeOf unsound m w frozen files Thaw f c area words = quietChange (stateNumber unsound) f c
 
 unfoldable pub areaOf : Bool → ℕ → ℕ → Frame → File → Channel → List ℕ → List ℕ → List ℕ
-areaOf unsound m w (Report channel unit outcome n) f c area words = reportAreaOn unsound m w f c channel unit outcome area words
-areaOf unsound m w (Put file n) f c area words = putAreaOn unsound m w f file area words
+areaOf unsound m w (Report q) f c area words = reportAreaOn unsound m w f c q area words
+areaOf unsound m w (Put q) f c area words = putAreaOn unsound m w f (q .file) area words
 areaOf unsound m w (Seal file) f c area words = sealAreaOn unsound m w f file area
 areaOf unsound m w Malformed f c area words = area
-areaOf unsound m w (Fresh m₁ w₁ masks) f c area words = area
-areaOf unsound m w (Open file channel unit flags size rlen) f c area words = area
+areaOf unsound m w (Fresh q) f c area words = area
+areaOf unsound m w (Open q) f c area words = area
 areaOf unsound m w (Close file) f c area words = area
-areaOf unsound m w (Ask file op priority) f c area words = area
+areaOf unsound m w (Ask q) f c area words = area
 areaOf unsound m w (Get file) f c area words = area
 areaOf unsound m w (Skip file) f c area words = area
 areaOf unsound m w Freeze f c area words = area

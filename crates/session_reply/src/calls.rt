@@ -14,6 +14,8 @@ use file::File;
 use pool::FILES;
 use pool::is_bound;
 use session_frame::Answer;
+use session_frame::AskFrame;
+use session_frame::OpenFrame;
 use state::CHANNELS;
 ghost use mathlib.Core.Path.{_≡_};
 ghost use Rattle.session_reply.specs.Replies.{answerOr};
@@ -50,23 +52,18 @@ pub fn opened(
     files: [File; FILES],
     f: File,
     c: Channel,
-    file: u8,
-    channel: u8,
-    unit: u8,
-    flags: u8,
-    size: u16,
-    rlen: u16,
+    q: OpenFrame,
 ) -> Change
-    ensures { λ r. ⌜ r ≡ openChangeOn unsound m w files f c file channel unit flags size rlen ⌝ }
+    ensures { λ r. ⌜ r ≡ openChangeOn unsound m w files f c q ⌝ }
 {
-    let i = file as usize;
-    let j = channel as usize;
-    let u = unit as usize;
-    let c1 = (FILES <= i) | ((CHANNELS <= j) | ((UNITS <= u) | ((FLAGS < flags) | unsound)));
-    let bound = is_bound(files, channel, unit);
+    let i = q.file as usize;
+    let j = q.channel as usize;
+    let u = q.unit as usize;
+    let c1 = (FILES <= i) | ((CHANNELS <= j) | ((UNITS <= u) | ((FLAGS < q.flags) | unsound)));
+    let bound = is_bound(files, q.channel, q.unit);
     let free = free_of(m, files);
-    let q = wish_of(channel, unit, flags, size, rlen);
-    let x = open_on(c1, bound, f, c, free, w, q);
+    let wish = wish_of(q.channel, q.unit, q.flags, q.size, q.rlen);
+    let x = open_on(c1, bound, f, c, free, w, wish);
     let g = x.file;
     quiet(x.refusal, g, c)
 }
@@ -80,25 +77,11 @@ pub fn closed(unsound: bool, f: File, c: Channel, file: u8) -> Change
     quiet(x.refusal, g, c)
 }
 
-pub fn asked(
-    unsound: bool,
-    frozen: bool,
-    f: File,
-    c: Channel,
-    file: u8,
-    op: u8,
-    priority: u8,
-) -> Change
-    ensures { λ r. ⌜ r ≡ askChangeOn unsound frozen f c file op priority ⌝ }
+pub fn asked(unsound: bool, frozen: bool, f: File, c: Channel, q: AskFrame) -> Change
+    ensures { λ r. ⌜ r ≡ askChangeOn unsound frozen f c q ⌝ }
 {
-    let x = ask_on(
-        unsound | (FILES <= file as usize),
-        f,
-        c,
-        op,
-        priority,
-        frozen,
-    );
+    let i = q.file as usize;
+    let x = ask_on(unsound | (FILES <= i), f, c, q.op, q.priority, frozen);
     let g = x.file;
     let d = x.channel;
     let working = x.working;

@@ -10,9 +10,11 @@ use call_request::report_on;
 use channel::Channel;
 use file::File;
 use file_input::Got;
+use file_input::got_number;
 use file_input::got_start;
 use pool::FILES;
 use session_frame::Answer;
+use session_frame::ReportFrame;
 use state::CHANNELS;
 ghost use mathlib.Core.Path.{_≡_};
 ghost use Prim.Native.Nat.{_*_};
@@ -34,18 +36,17 @@ pub fn reported(
     frozen: bool,
     f: File,
     c: Channel,
-    channel: u8,
-    unit: u8,
-    outcome: u8,
+    q: ReportFrame,
     area: &mut [u64],
     words: &[u64],
 ) -> Change
-    ensures { λ r. ⌜ r ≡ reportChangeOn unsound m w frozen f c channel unit outcome (now (area .entry)) (now (words .entry)) ⌝ }
-    ensures { λ _. ⌜ now (area .exit) ≡ reportAreaOn unsound m w f c channel unit outcome (now (area .entry)) (now (words .entry)) ⌝ }
+    ensures { λ r. ⌜ r ≡ reportChangeOn unsound m w frozen f c q (now (area .entry)) (now (words .entry)) ⌝ }
+    ensures { λ _. ⌜ now (area .exit) ≡ reportAreaOn unsound m w f c q (now (area .entry)) (now (words .entry)) ⌝ }
 {
     let short = is_short(m, w, area.len());
-    let wrong = unsound | (short | (CHANNELS <= channel as usize));
-    let x = report_on(wrong, f, c, unit, outcome, w, frozen, area, words);
+    let j = q.channel as usize;
+    let wrong = unsound | (short | (CHANNELS <= j));
+    let x = report_on(wrong, f, c, q.unit, q.outcome, w, frozen, area, words);
     let g = x.file;
     let d = x.channel;
     let result = x.result;
@@ -72,12 +73,13 @@ pub fn reported(
 fn got_answer(g: Got) -> Answer
     ensures { λ r. ⌜ r ≡ gotAnswer g ⌝ }
 {
+    let number = got_number(g);
     match g {
-        Got::Record { start: _, words: _ } => Answer::Record,
-        Got::Leftover { start: _, words: _ } => Answer::Leftover,
-        Got::Error(e) => Answer::Error(e),
-        Got::End => Answer::End,
-        Got::Nothing => Answer::Nothing,
+        Got::Record { start: _, words: _ } => Answer::Got(number),
+        Got::Leftover { start: _, words: _ } => Answer::Got(number),
+        Got::Error(error) => Answer::GotError { number, error },
+        Got::End => Answer::Got(number),
+        Got::Nothing => Answer::Got(number),
     }
 }
 

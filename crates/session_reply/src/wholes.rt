@@ -5,6 +5,7 @@ use pack_start::fresh_state;
 use pack_start::frozen_state;
 use pack_start::thawed_state;
 use session_frame::Frame;
+use session_frame::FreshFrame;
 use state::State;
 ghost use mathlib.Core.Path.{_≡_};
 ghost use mathlib.Core.Bool.{false, cond};
@@ -19,35 +20,15 @@ pub fn is_whole(f: Frame) -> bool
 {
     match f {
         Frame::Malformed => false,
-        Frame::Fresh {
-            m: _,
-            w: _,
-            masks: _,
-        } => true,
-        Frame::Open {
-            file: _,
-            channel: _,
-            unit: _,
-            flags: _,
-            size: _,
-            rlen: _,
-        } => false,
-        Frame::Close { file: _ } => false,
-        Frame::Ask {
-            file: _,
-            op: _,
-            priority: _,
-        } => false,
-        Frame::Report {
-            channel: _,
-            unit: _,
-            outcome: _,
-            words: _,
-        } => false,
-        Frame::Get { file: _ } => false,
-        Frame::Put { file: _, words: _ } => false,
-        Frame::Seal { file: _ } => false,
-        Frame::Skip { file: _ } => false,
+        Frame::Fresh(_) => true,
+        Frame::Open(_) => false,
+        Frame::Close(_) => false,
+        Frame::Ask(_) => false,
+        Frame::Report(_) => false,
+        Frame::Get(_) => false,
+        Frame::Put(_) => false,
+        Frame::Seal(_) => false,
+        Frame::Skip(_) => false,
         Frame::Freeze => true,
         Frame::Thaw => true,
     }
@@ -67,11 +48,12 @@ fn masks_of(masks: session_frame::Masks) -> Masks
 }
 
 // The refusal of a fresh start with an area of n words.
-pub fn fresh_number(m: u8, w: u16, masks: session_frame::Masks, n: usize) -> u8
-    ensures { λ r. ⌜ r ≡ freshRefusal m w (masksOf masks) n ⌝ }
+pub fn fresh_number(unsound: bool, q: FreshFrame, n: usize) -> u8
+    ensures { λ r. ⌜ r ≡ freshRefusal unsound (q .m) (q .w) (masksOf (q .masks)) n ⌝ }
 {
+    let masks = q.masks;
     let units = masks_of(masks);
-    fresh_refusal(m, w, units, n)
+    fresh_refusal(unsound, q.m, q.w, units, n)
 }
 
 // The refusal of a call that judges the state alone.
@@ -85,15 +67,16 @@ pub fn state_number(unsound: bool) -> u8
 }
 
 // The state after a fresh start with an area of n words.
-fn fresh(s: State, n: usize, m: u8, w: u16, masks: session_frame::Masks) -> State
-    ensures { λ r. ⌜ r ≡ wholeOf false s n (Frame.Fresh m w masks) ⌝ }
+fn fresh(unsound: bool, s: State, n: usize, q: FreshFrame) -> State
+    ensures { λ r. ⌜ r ≡ wholeOf unsound s n (Frame.Fresh q) ⌝ }
 {
+    let masks = q.masks;
     let units = masks_of(masks);
-    let no = fresh_refusal(m, w, units, n);
+    let no = fresh_refusal(unsound, q.m, q.w, units, n);
     if no != 0 {
         return s;
     }
-    fresh_state(m, w, units)
+    fresh_state(q.m, q.w, units)
 }
 
 // A freeze, unless the state is unsound.
@@ -122,31 +105,15 @@ pub fn whole(unsound: bool, s: State, n: usize, f: Frame) -> State
 {
     match f {
         Frame::Malformed => s,
-        Frame::Fresh { m, w, masks } => fresh(s, n, m, w, masks),
-        Frame::Open {
-            file: _,
-            channel: _,
-            unit: _,
-            flags: _,
-            size: _,
-            rlen: _,
-        } => s,
-        Frame::Close { file: _ } => s,
-        Frame::Ask {
-            file: _,
-            op: _,
-            priority: _,
-        } => s,
-        Frame::Report {
-            channel: _,
-            unit: _,
-            outcome: _,
-            words: _,
-        } => s,
-        Frame::Get { file: _ } => s,
-        Frame::Put { file: _, words: _ } => s,
-        Frame::Seal { file: _ } => s,
-        Frame::Skip { file: _ } => s,
+        Frame::Fresh(q) => fresh(unsound, s, n, q),
+        Frame::Open(_) => s,
+        Frame::Close(_) => s,
+        Frame::Ask(_) => s,
+        Frame::Report(_) => s,
+        Frame::Get(_) => s,
+        Frame::Put(_) => s,
+        Frame::Seal(_) => s,
+        Frame::Skip(_) => s,
         Frame::Freeze => frozen(unsound, s),
         Frame::Thaw => thawed(unsound, s),
     }

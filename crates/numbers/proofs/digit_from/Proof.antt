@@ -8,9 +8,6 @@ use Rattle.numbers.specs.Decimal.{gap}
 use Rattle.numbers.proofs.Laws.{gap-stop, gap-go, gap-end}
 use Rattle.numbers.proofs.digit_from.Statement.{statement}
 use Rattle.numbers.proofs.digit_from.Tie as tie
-use Rattle.numbers.proofs.digit_from.Reads as reads
-use Rattle.numbers.proofs.digit_from.Lts as lts
-use Rattle.numbers.proofs.is_digit.Reads as is-digit-reads
 
 abbrev Inv-loop : tie.InvT-loop
 Inv-loop text at i₀ i = (at ≤ i) × (i ≤ max at (length text)) × (i + gap (drop i text) ≡ at + gap (drop at text))
@@ -18,19 +15,15 @@ Inv-loop text at i₀ i = (at ≤ i) × (i ≤ max at (length text)) × (i + gap
 abbrev μ-loop : tie.MeasureT-loop
 μ-loop text at i₀ i = length text - i
 
--- src/lib.rt:38:5
 loop-holds : tie.Need-loop-holds Inv-loop μ-loop
 loop-holds c = (search needs, search needs, refl)
 
--- src/lib.rt:39:21
 shared-slice-read-is-digit : tie.Need-shared-slice-read-is-digit Inv-loop μ-loop
 shared-slice-read-is-digit c = search needs
 
--- src/lib.rt:39:12
 is-digit-requires : tie.Need-is-digit-requires Inv-loop μ-loop
 is-digit-requires c κs = search needs
 
--- src/lib.rt:40:13
 returns : tie.Need-returns Inv-loop μ-loop
 returns c =
     let ws = c .before .before .before .before .before .before .args .text .now in
@@ -38,15 +31,12 @@ returns c =
     let e : gap (drop i ws) ≡ 0 = gap-stop ws i (omega arith) (sym (c .before .is-digit .ensures) ∙ c .if1 .taken) in
     (omega (arith, c .before .before .before .before .loop .inv .2), c .before .before .before .before .loop .inv .0, c .before .before .before .before .loop .inv .1)
 
--- src/lib.rt:42:9
 add-i : tie.Need-add-i Inv-loop μ-loop
 add-i c = search needs
 
--- src/lib.rt:38:5
 loop-less : tie.Need-loop-less Inv-loop μ-loop
 loop-less c = search needs
 
--- src/lib.rt:38:5
 loop-again : tie.Need-loop-again Inv-loop μ-loop
 loop-again c =
     let ws = c .before .before .before .before .before .before .args .text .now in
@@ -54,7 +44,6 @@ loop-again c =
     let e : gap (drop i ws) ≡ 1 + gap (drop (i + 1) ws) = gap-go ws i (omega arith) (sym (c .before .is-digit .ensures) ∙ c .if1 .left) in
     (omega arith, omega arith, omega (arith, c .before .before .before .before .loop .inv .2))
 
--- src/lib.rt:34:1
 returns-2 : tie.Need-returns-2 Inv-loop μ-loop
 returns-2 c =
     let ws = c .before .before .before .args .text .now in

@@ -12,11 +12,6 @@ use Rattle.numbers.specs.Decimal.{isDigit, digits, valueFrom}
 use Rattle.numbers.proofs.Laws.{digits-stop, digits-go, digits-end, value-stop, value-go, value-end, next-read, next-later}
 use Rattle.numbers.proofs.next.Statement.{statement}
 use Rattle.numbers.proofs.next.Tie as tie
-use Rattle.numbers.proofs.next.Reads as reads
-use Rattle.numbers.proofs.next.Lts as lts
-use Rattle.numbers.proofs.digit_from.Reads as digit-from-reads
-use Rattle.numbers.proofs.is_digit.Reads as is-digit-reads
-use Rattle.numbers.proofs.with_digit.Reads as with-digit-reads
 
 abbrev Inv-loop : tie.InvT-loop
 Inv-loop text at i₀ v₀ i v =
@@ -26,23 +21,18 @@ Inv-loop text at i₀ v₀ i v =
 abbrev μ-loop : tie.MeasureT-loop
 μ-loop text at i₀ v₀ i v = length text - i
 
--- src/lib.rt:52:9
 digit-from-requires : tie.Need-digit-from-requires Inv-loop μ-loop
 digit-from-requires c κs = search needs
 
--- src/lib.rt:54:5
 loop-holds : tie.Need-loop-holds Inv-loop μ-loop
 loop-holds c = (search needs, search needs, refl, refl)
 
--- src/lib.rt:55:17
 shared-slice-read-c : tie.Need-shared-slice-read-c Inv-loop μ-loop
 shared-slice-read-c c = search needs
 
--- src/lib.rt:56:13
 is-digit-requires : tie.Need-is-digit-requires Inv-loop μ-loop
 is-digit-requires c κs = search needs
 
--- src/lib.rt:57:13
 returns : tie.Need-returns Inv-loop μ-loop
 returns c =
     let text = c .before .before .before .before .before .before .before .args .text .now in
@@ -57,7 +47,6 @@ returns c =
       (omega (arith, c .before .before .before .before .before .digit-from .ensures .1, c .before .before .before .before .loop .inv .0), next-later text at s (c .before .before .before .before .loop .v) i (c .before .before .before .before .before .digit-from .ensures .0) ends, omega arith),
     )
 
--- src/lib.rt:59:9
 with-digit-requires : tie.Need-with-digit-requires Inv-loop μ-loop
 with-digit-requires c κs =
     let text = c .before .before .before .before .before .before .before .args .text .now in
@@ -65,15 +54,12 @@ with-digit-requires c κs =
     let d = getD text (c .before .before .before .before .loop .i) 0 in
     (leb-true 48 d (and-left (leb 48 d) (leb d 57) some), leb-true d 57 (and-right (leb 48 d) (leb d 57) some))
 
--- src/lib.rt:60:9
 add-i : tie.Need-add-i Inv-loop μ-loop
 add-i c = search needs
 
--- src/lib.rt:54:5
 loop-less : tie.Need-loop-less Inv-loop μ-loop
 loop-less c = search needs
 
--- src/lib.rt:54:5
 loop-again : tie.Need-loop-again Inv-loop μ-loop
 loop-again c =
     let text = c .before .before .before .before .before .before .before .before .args .text .now in
@@ -86,7 +72,6 @@ loop-again c =
       omega (arith, digits-go text i h some, c .before .before .before .before .before .loop .inv .3),
     )
 
--- src/lib.rt:48:1
 returns-2 : tie.Need-returns-2 Inv-loop μ-loop
 returns-2 c =
     let text = c .before .before .before .before .args .text .now in

@@ -4,35 +4,26 @@ use native.Mathlib.Omega.{arith}
 use Rattle.numbers.specs.Decimal.{tenfold}
 use Rattle.numbers.proofs.with_digit.Statement.{statement}
 use Rattle.numbers.proofs.with_digit.Tie as tie
-use Rattle.numbers.proofs.with_digit.Reads as reads
-use Rattle.numbers.proofs.with_digit.Lts as lts
 
--- src/lib.rt:29:14
 sub-d : tie.Need-sub-d
 sub-d c = search needs
 
--- src/lib.rt:29:13
 cast-d : tie.Need-cast-d
 cast-d c = search needs
 
--- src/lib.rt:30:14
 sub-if1 : tie.Need-sub-if1
 sub-if1 c = search needs
 
--- src/lib.rt:30:31
 mul-result : tie.Need-mul-result
 mul-result c = search needs
 
--- src/lib.rt:30:31
 add-result : tie.Need-add-result
 add-result c = search needs
 
--- src/lib.rt:25:1
 returns : tie.Need-returns
 unfolding tenfold
 returns c = omega arith
 
--- src/lib.rt:25:1
 returns-2 : tie.Need-returns-2
 unfolding tenfold
 returns-2 c = omega arith

@@ -75,11 +75,11 @@ kind-accepted k n b opens e = let z : _≡_ {A = ℕ} 0 1 = cc in omega arith
 kind-accepted k n b close e = let z : _≡_ {A = ℕ} 0 1 = cc in omega arith
 kind-accepted k n b ask e = let z : _≡_ {A = ℕ} 0 1 = cc in omega arith
 kind-accepted k n b (report words) e =
-    let g = sym (worded-whole (4 + 5 * words) 4 words (Report (byteAt b 1) (byteAt b 2) (byteAt b 3) (wordsAfter (4 + 5 * words) 4)) refl) ∙ e in
+    let g = sym (worded-whole (4 + 5 * words) 4 words (Report (record { channel = byteAt b 1; unit = byteAt b 2; outcome = byteAt b 3; words = wordsAfter (4 + 5 * words) 4 })) refl) ∙ e in
     let z : _≡_ {A = ℕ} 0 1 = cc in omega arith
 kind-accepted k n b get e = let z : _≡_ {A = ℕ} 0 1 = cc in omega arith
 kind-accepted k n b (put words) e =
-    let g = sym (worded-whole (2 + 5 * words) 2 words (Put (byteAt b 1) (wordsAfter (2 + 5 * words) 2)) refl) ∙ e in
+    let g = sym (worded-whole (2 + 5 * words) 2 words (Put (record { file = byteAt b 1; words = wordsAfter (2 + 5 * words) 2 })) refl) ∙ e in
     let z : _≡_ {A = ℕ} 0 1 = cc in omega arith
 kind-accepted k n b seal e = let z : _≡_ {A = ℕ} 0 1 = cc in omega arith
 kind-accepted k n b skip e = let z : _≡_ {A = ℕ} 0 1 = cc in omega arith

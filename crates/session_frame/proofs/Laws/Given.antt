@@ -13,19 +13,21 @@ use Rattle.session_frame.specs.Digits.{bytesOf}
 use Rattle.session_frame.specs.Fields.{byteAt, wordsOf}
 use Rattle.session_frame.proofs.Laws.Bytes.{length-bytes, length-words}
 use Rattle.session_frame.specs.declared.Frame.{Frame}
+use Rattle.session_frame.specs.declared.ReportFrame.{ReportFrame}
+use Rattle.session_frame.specs.declared.PutFrame.{PutFrame}
 use Rattle.session_frame.specs.declared.Frame.the-variants.{Malformed, Fresh, Open, Close, Ask, Report, Get, Put, Seal, Skip, Freeze, Thaw}
 use Rattle.session_frame.specs.Frames.{longest, isText, sized, worded, wordsAfter, freshOf, openOf, askOf, reportOf, putOf, kindBy, kindOf, frameOf, wordsFrom}
 use Rattle.session_frame.proofs.Laws.Sizes.{frame-text, frame-other}
 
 -- the count of words that a frame holds is exact, in a line of n bytes
 Exact : Frame → ℕ → Type 0
-Exact (Report c u o words) n = n ≡ 4 + 5 * words
-Exact (Put f words) n = n ≡ 2 + 5 * words
+Exact (Report q) n = n ≡ 4 + 5 * q .words
+Exact (Put q) n = n ≡ 2 + 5 * q .words
 Exact Malformed n = Unit {0}
-Exact (Fresh m w x) n = Unit {0}
-Exact (Open f c u g s r) n = Unit {0}
+Exact (Fresh q) n = Unit {0}
+Exact (Open q) n = Unit {0}
 Exact (Close f) n = Unit {0}
-Exact (Ask f o p) n = Unit {0}
+Exact (Ask q) n = Unit {0}
 Exact (Get f) n = Unit {0}
 Exact (Seal f) n = Unit {0}
 Exact (Skip f) n = Unit {0}
@@ -53,9 +55,9 @@ exact-kind k n b =
     (either (eqb k 1) _ _ n (either (eqb n 9) _ _ n tt tt)
     (either (eqb k 2) _ _ n (either (eqb n 2) _ _ n tt tt)
     (either (eqb k 3) _ _ n (either (eqb n 4) _ _ n tt tt)
-    (either (eqb k 4) _ _ n (exact-worded n 4 (Report (byteAt b 1) (byteAt b 2) (byteAt b 3) (wordsAfter n 4)) (λ x. x))
+    (either (eqb k 4) _ _ n (exact-worded n 4 (Report (record { channel = byteAt b 1; unit = byteAt b 2; outcome = byteAt b 3; words = wordsAfter n 4 })) (λ x. x))
     (either (eqb k 5) _ _ n (either (eqb n 2) _ _ n tt tt)
-    (either (eqb k 6) _ _ n (exact-worded n 2 (Put (byteAt b 1) (wordsAfter n 2)) (λ x. x))
+    (either (eqb k 6) _ _ n (exact-worded n 2 (Put (record { file = byteAt b 1; words = wordsAfter n 2 })) (λ x. x))
     (either (eqb k 7) _ _ n (either (eqb n 2) _ _ n tt tt)
     (either (eqb k 8) _ _ n (either (eqb n 2) _ _ n tt tt)
     (either (eqb k 9) _ _ n (either (eqb n 1) _ _ n tt tt)
@@ -86,16 +88,16 @@ all-of line head words h e short =
     omega (arith, length-words (drop head (bytesOf line)), length-drop head (bytesOf line), length-bytes line) in
     record { most = omega arith; counts = counts; all = take-all 1024 (wordsOf (drop head (bytesOf line))) (omega arith) }
 
-pub report-words : (line : List ℕ) (c u o words : ℕ) → frameOf line ≡ Report c u o words → All line 4 words
+pub report-words : (line : List ℕ) (q : ReportFrame) → frameOf line ≡ Report q → All line 4 (q .words)
 unfolding Exact
-report-words line c u o words e =
+report-words line q e =
     let x = exact-frame line in
-    let n : length line / 2 ≡ 4 + 5 * words = subst (λ (f : Frame). Exact f (length line / 2)) e (x .0) in
-    all-of line 4 words (omega arith) n (x .1 (λ m. let z : _≡_ {A = ℕ} 0 1 = cc in omega arith))
+    let n : length line / 2 ≡ 4 + 5 * q .words = subst (λ (f : Frame). Exact f (length line / 2)) e (x .0) in
+    all-of line 4 (q .words) (omega arith) n (x .1 (λ m. let z : _≡_ {A = ℕ} 0 1 = cc in omega arith))
 
-pub put-words : (line : List ℕ) (f words : ℕ) → frameOf line ≡ Put f words → All line 2 words
+pub put-words : (line : List ℕ) (q : PutFrame) → frameOf line ≡ Put q → All line 2 (q .words)
 unfolding Exact
-put-words line f words e =
+put-words line q e =
     let x = exact-frame line in
-    let n : length line / 2 ≡ 2 + 5 * words = subst (λ (g : Frame). Exact g (length line / 2)) e (x .0) in
-    all-of line 2 words (omega arith) n (x .1 (λ m. let z : _≡_ {A = ℕ} 0 1 = cc in omega arith))
+    let n : length line / 2 ≡ 2 + 5 * q .words = subst (λ (g : Frame). Exact g (length line / 2)) e (x .0) in
+    all-of line 2 (q .words) (omega arith) n (x .1 (λ m. let z : _≡_ {A = ℕ} 0 1 = cc in omega arith))

@@ -16,7 +16,7 @@ use Rattle.session_frame.specs.Writes.{placeAfter}
 use Rattle.session_frame.proofs.Laws.Writes.{length-byte, length-word, length-concat, written, unwritten, paste-more, words-left}
 use Rattle.session_frame.proofs.Laws.Trips.{concat-append, words-by-bytes}
 use Rattle.session_frame.specs.declared.Answer.{Answer}
-use Rattle.session_frame.specs.declared.Answer.the-variants.{Refused, Done, Asked, Reported, Record, Nothing, End, Error, Leftover}
+use Rattle.session_frame.specs.declared.Answer.the-variants.{Refused, Done, Asked, Reported, Got, GotError}
 use Rattle.session_frame.specs.declared.Lead.{Lead}
 use Rattle.session_frame.specs.Answers.{answerBytes, answerText}
 use Rattle.session_frame.specs.Leads.{leadOf, leadBytes, shownOf}
@@ -34,11 +34,8 @@ leads-is (Refused n) = record { some = omega arith; most = omega arith; counts =
 leads-is Done = record { some = omega arith; most = omega arith; counts = refl; whole = λ ws. refl }
 leads-is (Asked u) = record { some = omega arith; most = omega arith; counts = refl; whole = λ ws. refl }
 leads-is (Reported r e u) = record { some = omega arith; most = omega arith; counts = refl; whole = λ ws. refl }
-leads-is Record = record { some = omega arith; most = omega arith; counts = refl; whole = λ ws. refl }
-leads-is Nothing = record { some = omega arith; most = omega arith; counts = refl; whole = λ ws. refl }
-leads-is End = record { some = omega arith; most = omega arith; counts = refl; whole = λ ws. refl }
-leads-is (Error e) = record { some = omega arith; most = omega arith; counts = refl; whole = λ ws. refl }
-leads-is Leftover = record { some = omega arith; most = omega arith; counts = refl; whole = λ ws. refl }
+leads-is (Got n) = record { some = omega arith; most = omega arith; counts = refl; whole = λ ws. refl }
+leads-is (GotError n e) = record { some = omega arith; most = omega arith; counts = refl; whole = λ ws. refl }
 
 pub leads : (a : Answer) (l : Lead) → l ≡ leadOf a → Leads a l
 leads a l e = subst (λ (x : Lead). Leads a x) (sym e) (leads-is a)

@@ -5,82 +5,58 @@ use native.Mathlib.Omega.{arith}
 use lib.Seq.{length-take-le}
 use Rattle.word_cases.proofs.answer.Statement.{statement}
 use Rattle.word_cases.proofs.answer.Tie as tie
-use Rattle.word_cases.proofs.answer.Reads as reads
-use Rattle.word_cases.proofs.answer.Lts as lts
-use Rattle.word_cases.proofs.play_check_word.Reads as play-check-word-reads
-use Rattle.word_cases.proofs.play_judge.Reads as play-judge-reads
-use Rattle.word_cases.proofs.play_seal.Reads as play-seal-reads
-use Rattle.word_cases.proofs.play_sum.Reads as play-sum-reads
 
--- src/main.rt:130:9
 returns : tie.Need-returns
 returns c = search needs
 
--- src/main.rt:133:25
 slice-reshare-prefix-play-sum : tie.Need-slice-reshare-prefix-play-sum
 slice-reshare-prefix-play-sum c = search needs
 
--- src/main.rt:133:25
 slice-aggregate-play-sum : tie.Need-slice-aggregate-play-sum
 slice-aggregate-play-sum c = sym (length-take-le _ (c .before .before .before .before .before .args .room .now) (omega arith))
 
--- src/main.rt:133:9
 play-sum-requires : tie.Need-play-sum-requires
 play-sum-requires c κs = search needs
 
--- src/main.rt:133:9
 same-length : tie.Need-same-length
 same-length c = search needs
 
--- src/main.rt:133:9
 returns-2 : tie.Need-returns-2
 returns-2 c = search needs
 
--- src/main.rt:136:9
 play-check-word-requires : tie.Need-play-check-word-requires
 play-check-word-requires c κs = search needs
 
--- src/main.rt:136:9
 returns-3 : tie.Need-returns-3
 returns-3 c = search needs
 
--- src/main.rt:139:32
 slice-relend-prefix-play-seal : tie.Need-slice-relend-prefix-play-seal
 slice-relend-prefix-play-seal c = search needs
 
--- src/main.rt:139:32
 slice-aggregate-play-seal : tie.Need-slice-aggregate-play-seal
 slice-aggregate-play-seal c = sym (length-take-le _ (c .before .before .before .before .before .before .before .args .room .now) (omega arith))
 
--- src/main.rt:139:9
 play-seal-requires : tie.Need-play-seal-requires
 play-seal-requires c κs = search needs
 
--- src/main.rt:139:9
 same-length-2 : tie.Need-same-length-2
 same-length-2 c = search needs
 
--- src/main.rt:139:9
 returns-4 : tie.Need-returns-4
 returns-4 c = search needs
 
--- src/main.rt:141:22
 slice-reshare-prefix-play-judge : tie.Need-slice-reshare-prefix-play-judge
 slice-reshare-prefix-play-judge c = search needs
 
--- src/main.rt:141:22
 slice-aggregate-play-judge : tie.Need-slice-aggregate-play-judge
 slice-aggregate-play-judge c = sym (length-take-le _ (c .before .before .before .before .before .before .before .args .room .now) (omega arith))
 
--- src/main.rt:141:5
 play-judge-requires : tie.Need-play-judge-requires
 play-judge-requires c κs = search needs
 
--- src/main.rt:128:1
 same-length-3 : tie.Need-same-length-3
 same-length-3 c = search needs
 
--- src/main.rt:128:1
 returns-5 : tie.Need-returns-5
 returns-5 c = search needs
 

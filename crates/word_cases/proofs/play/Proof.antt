@@ -5,9 +5,6 @@ use Prim.Native.Nat.{_-_, _≤_}
 use lib.ListN.{length}
 use Rattle.word_cases.proofs.play.Statement.{statement}
 use Rattle.word_cases.proofs.play.Tie as tie
-use Rattle.word_cases.proofs.play.Reads as reads
-use Rattle.word_cases.proofs.play.Lts as lts
-use Rattle.word_cases.proofs.play_case.Reads as play-case-reads
 
 abbrev Inv-loop : tie.InvT-loop
 Inv-loop text head₀ room₀ at₀ head room at = (at ≤ length text) × (length head ≡ length head₀) × (length room ≡ length room₀)
@@ -15,31 +12,24 @@ Inv-loop text head₀ room₀ at₀ head room at = (at ≤ length text) × (leng
 abbrev μ-loop : tie.MeasureT-loop
 μ-loop text head₀ room₀ at₀ head room at = length text - at
 
--- src/main.rt:159:5
 loop-holds : tie.Need-loop-holds Inv-loop μ-loop
 loop-holds c = search needs
 
--- src/main.rt:160:9
 play-case-requires : tie.Need-play-case-requires Inv-loop μ-loop
 play-case-requires c κs = search needs
 
--- src/main.rt:159:5
 loop-less : tie.Need-loop-less Inv-loop μ-loop
 loop-less c = search needs
 
--- src/main.rt:159:5
 loop-again : tie.Need-loop-again Inv-loop μ-loop
 loop-again c = search needs
 
--- src/main.rt:157:1
 same-length : tie.Need-same-length Inv-loop μ-loop
 same-length c = search needs
 
--- src/main.rt:157:1
 same-length-2 : tie.Need-same-length-2 Inv-loop μ-loop
 same-length-2 c = search needs
 
--- src/main.rt:157:1
 returns : tie.Need-returns Inv-loop μ-loop
 returns c = search needs
 

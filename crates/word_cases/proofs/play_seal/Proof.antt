@@ -2,16 +2,8 @@
 use borrow.Author.Needs.{needs}
 use Prim.Native.Nat.{_-_, _≤_}
 use lib.ListN.{length}
-use Rattle.block.proofs.seal.Reads as seal-reads
 use Rattle.word_cases.proofs.play_seal.Statement.{statement}
 use Rattle.word_cases.proofs.play_seal.Tie as tie
-use Rattle.word_cases.proofs.play_seal.Reads as reads
-use Rattle.word_cases.proofs.play_seal.Lts as lts
-use Rattle.word_cases.proofs.also.Reads as also-reads
-use Rattle.word_cases.proofs.block_number.Reads as block-number-reads
-use Rattle.word_cases.proofs.chosen.Reads as chosen-reads
-use Rattle.word_cases.proofs.count.Reads as count-reads
-use Rattle.word_cases.proofs.say.Reads as say-reads
 
 abbrev Inv-loop : tie.InvT-loop
 Inv-loop head block n refusal i₀ i = i ≤ length block
@@ -19,67 +11,51 @@ Inv-loop head block n refusal i₀ i = i ≤ length block
 abbrev μ-loop : tie.MeasureT-loop
 μ-loop head block n refusal i₀ i = length block - i
 
--- src/main.rt:99:9
 count-requires : tie.Need-count-requires Inv-loop μ-loop
 count-requires c κs = search needs
 
--- src/main.rt:103:9
 chosen-requires : tie.Need-chosen-requires Inv-loop μ-loop
 chosen-requires c κs = search needs
 
--- src/main.rt:104:9
 chosen-requires-2 : tie.Need-chosen-requires-2 Inv-loop μ-loop
 chosen-requires-2 c κs = search needs
 
--- src/main.rt:105:9
 block-number-requires : tie.Need-block-number-requires Inv-loop μ-loop
 block-number-requires c κs = search needs
 
--- src/main.rt:100:9
 seal-requires : tie.Need-seal-requires Inv-loop μ-loop
 seal-requires c κs = search needs
 
--- src/main.rt:107:9
 cast-say : tie.Need-cast-say Inv-loop μ-loop
 cast-say c = search needs
 
--- src/main.rt:107:5
 say-requires : tie.Need-say-requires Inv-loop μ-loop
 say-requires c κs = search needs
 
--- src/main.rt:109:5
 loop-holds : tie.Need-loop-holds Inv-loop μ-loop
 loop-holds c = search needs
 
--- src/main.rt:110:14
 mul-also : tie.Need-mul-also Inv-loop μ-loop
 mul-also c = search needs
 
--- src/main.rt:110:14
 slice-read-also : tie.Need-slice-read-also Inv-loop μ-loop
 slice-read-also c = search needs
 
--- src/main.rt:110:9
 also-requires : tie.Need-also-requires Inv-loop μ-loop
 also-requires c κs = search needs
 
--- src/main.rt:111:9
 add-i : tie.Need-add-i Inv-loop μ-loop
 add-i c = search needs
 
--- src/main.rt:109:5
 loop-less : tie.Need-loop-less Inv-loop μ-loop
 loop-less c = search needs
 
--- src/main.rt:109:5
 loop-again : tie.Need-loop-again Inv-loop μ-loop
 loop-again c = search needs
 
--- src/main.rt:98:1
 same-length : tie.Need-same-length Inv-loop μ-loop
 same-length c = search needs
 
--- src/main.rt:98:1
 returns : tie.Need-returns Inv-loop μ-loop
 returns c = search needs
 

@@ -3,11 +3,8 @@ use borrow.Author.Needs.{needs}
 use mathlib.Core.Path.{_≡_}
 use Prim.Native.Nat.{_-_, _≤_}
 use lib.ListN.{length}
-use Rattle.numbers.proofs.next.Reads as next-reads
 use Rattle.word_cases.proofs.read_numbers.Statement.{statement}
 use Rattle.word_cases.proofs.read_numbers.Tie as tie
-use Rattle.word_cases.proofs.read_numbers.Reads as reads
-use Rattle.word_cases.proofs.read_numbers.Lts as lts
 
 abbrev Inv-loop : tie.InvT-loop
 Inv-loop text at room₀ n i₀ next₀ room i next = (at ≤ next) × (next ≤ length text) × (length room ≡ length room₀)
@@ -15,47 +12,36 @@ Inv-loop text at room₀ n i₀ next₀ room i next = (at ≤ next) × (next ≤
 abbrev μ-loop : tie.MeasureT-loop
 μ-loop text at room₀ n i₀ next₀ room i next = n - i
 
--- src/main.rt:18:5
 loop-holds : tie.Need-loop-holds Inv-loop μ-loop
 loop-holds c = search needs
 
--- src/main.rt:20:13
 same-length : tie.Need-same-length Inv-loop μ-loop
 same-length c = search needs
 
--- src/main.rt:20:13
 returns : tie.Need-returns Inv-loop μ-loop
 returns c = search needs
 
--- src/main.rt:22:13
 next-requires : tie.Need-next-requires Inv-loop μ-loop
 next-requires c κs = search needs
 
--- src/main.rt:23:9
 mul-room : tie.Need-mul-room Inv-loop μ-loop
 mul-room c = search needs
 
--- src/main.rt:23:9
 slice-write-room : tie.Need-slice-write-room Inv-loop μ-loop
 slice-write-room c = search needs
 
--- src/main.rt:25:9
 add-i : tie.Need-add-i Inv-loop μ-loop
 add-i c = search needs
 
--- src/main.rt:18:5
 loop-less : tie.Need-loop-less Inv-loop μ-loop
 loop-less c = search needs
 
--- src/main.rt:18:5
 loop-again : tie.Need-loop-again Inv-loop μ-loop
 loop-again c = search needs
 
--- src/main.rt:12:1
 same-length-2 : tie.Need-same-length-2 Inv-loop μ-loop
 same-length-2 c = search needs
 
--- src/main.rt:12:1
 returns-2 : tie.Need-returns-2 Inv-loop μ-loop
 returns-2 c = search needs
 

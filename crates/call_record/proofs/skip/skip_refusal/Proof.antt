@@ -1,6 +1,6 @@
+-- `call_record::skip_refusal` meets its contract, from the contracts of its callees, a row at a time. Assumes nothing.
 use Rattle.area.specs.Refusals.{lowest}
 use Rattle.call_record.specs.Skip.{skipRows, skipRefusal}
--- `call_record::skip_refusal` meets its contract, from the contracts of its callees, a row at a time. Assumes nothing.
 use borrow.Author.Needs.{needs}
 use Rattle.call_record.proofs.skip.skip_refusal.Statement.{statement}
 use Rattle.call_record.proofs.skip.skip_refusal.Tie as tie

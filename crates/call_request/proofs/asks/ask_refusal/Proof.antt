@@ -1,6 +1,6 @@
+-- `call_request::asks::ask_refusal` meets its contract, from the contracts of its callees, a row at a time. Assumes nothing.
 use Rattle.area.specs.Refusals.{lowest}
 use Rattle.call_request.specs.Ask.{askRefusal}
--- `call_request::asks::ask_refusal` meets its contract, from the contracts of its callees, a row at a time. Assumes nothing.
 use borrow.Author.Needs.{needs}
 use Rattle.call_request.proofs.asks.ask_refusal.Statement.{statement}
 use Rattle.call_request.proofs.asks.ask_refusal.Tie as tie

@@ -1,5 +1,5 @@
-use Rattle.area.specs.Refusals.{lowest}
 -- `call_request::reports::report_refusal` meets its contract, from the contracts of its callees, a row at a time. Assumes nothing.
+use Rattle.area.specs.Refusals.{lowest}
 use borrow.Author.Needs.{needs}
 use Rattle.call_request.proofs.reports.report_refusal.Statement.{statement}
 use Rattle.call_request.proofs.reports.report_refusal.Tie as tie

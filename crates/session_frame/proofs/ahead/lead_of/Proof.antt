@@ -1,7 +1,7 @@
--- `session_frame::ahead::lead_of` meets its contract, answer by answer. Assumes nothing.
-use borrow.Author.Needs.{needs}
+-- `session_frame::ahead::lead_of` meets its contract, case by case. Assumes nothing.
 use mathlib.Core.Path.{sym, ap, _∙_}
 use Rattle.session_frame.specs.Leads.{leadOf}
+use borrow.Author.Needs.{needs}
 use Rattle.session_frame.proofs.ahead.lead_of.Statement.{statement}
 use Rattle.session_frame.proofs.ahead.lead_of.Tie as tie
 
@@ -26,32 +26,14 @@ pair-requires c κs = search needs
 enum-known-a-3 : tie.Need-enum-known-a-3
 enum-known-a-3 c = search needs
 
-enum-told-2 : tie.Need-enum-told-2
-enum-told-2 c = search needs
+enum-known-a-4 : tie.Need-enum-known-a-4
+enum-known-a-4 c = search needs
 
 pair-requires-2 : tie.Need-pair-requires-2
 pair-requires-2 c κs = search needs
 
-enum-told-3 : tie.Need-enum-told-3
-enum-told-3 c = search needs
-
-pair-requires-3 : tie.Need-pair-requires-3
-pair-requires-3 c κs = search needs
-
-enum-told-4 : tie.Need-enum-told-4
-enum-told-4 c = search needs
-
-pair-requires-4 : tie.Need-pair-requires-4
-pair-requires-4 c κs = search needs
-
-enum-known-a-4 : tie.Need-enum-known-a-4
-enum-known-a-4 c = search needs
-
-enum-told-5 : tie.Need-enum-told-5
-enum-told-5 c = search needs
-
-pair-requires-5 : tie.Need-pair-requires-5
-pair-requires-5 c κs = search needs
+enum-known-a-5 : tie.Need-enum-known-a-5
+enum-known-a-5 c = search needs
 
 returns : tie.Need-returns
 returns c = c .single .ensures ∙ sym (ap leadOf (c .before .before .a .given .1))
@@ -66,19 +48,10 @@ returns-4 : tie.Need-returns-4
 returns-4 c = sym (ap leadOf (c .before .a3 .given .1))
 
 returns-5 : tie.Need-returns-5
-returns-5 c = c .pair2 .ensures ∙ sym (ap leadOf (c .before .enum-told2 .given .1))
+returns-5 c = c .pair2 .ensures ∙ sym (ap leadOf (c .before .before .a4 .given .1))
 
 returns-6 : tie.Need-returns-6
-returns-6 c = c .pair3 .ensures ∙ sym (ap leadOf (c .before .enum-told3 .given .1))
-
-returns-7 : tie.Need-returns-7
-returns-7 c = c .pair4 .ensures ∙ sym (ap leadOf (c .before .enum-told4 .given .1))
-
-returns-8 : tie.Need-returns-8
-returns-8 c = sym (ap leadOf (c .before .a4 .given .1))
-
-returns-9 : tie.Need-returns-9
-returns-9 c = c .pair5 .ensures ∙ sym (ap leadOf (c .before .enum-told5 .given .1))
+returns-6 c = sym (ap leadOf (c .before .a5 .given .1))
 
 pub lead-of-spec : {M : Type 1} → statement M
 lead-of-spec =
@@ -91,21 +64,12 @@ lead-of-spec =
     enum-known-a-2
     pair-requires
     enum-known-a-3
-    enum-told-2
-    pair-requires-2
-    enum-told-3
-    pair-requires-3
-    enum-told-4
-    pair-requires-4
     enum-known-a-4
-    enum-told-5
-    pair-requires-5
+    pair-requires-2
+    enum-known-a-5
     returns
     returns-2
     returns-3
     returns-4
     returns-5
-    returns-6
-    returns-7
-    returns-8
-    returns-9)
+    returns-6)

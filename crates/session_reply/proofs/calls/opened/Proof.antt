@@ -4,6 +4,15 @@ use borrow.Author.Needs.{needs}
 use Rattle.session_reply.proofs.calls.opened.Statement.{statement}
 use Rattle.session_reply.proofs.calls.opened.Tie as tie
 
+cast-i : tie.Need-cast-i
+cast-i c = search needs
+
+cast-j : tie.Need-cast-j
+cast-j c = search needs
+
+cast-u : tie.Need-cast-u
+cast-u c = search needs
+
 is-bound-requires : tie.Need-is-bound-requires
 is-bound-requires c κs = search needs
 
@@ -20,13 +29,13 @@ quiet-requires : tie.Need-quiet-requires
 quiet-requires c κs = search needs
 
 returns : tie.Need-returns
-returns c = opened-as (c .before .before .before .before .before .before .args .unsound) (c .before .before .before .before .before .before .args .m) (c .before .before .before .before .before .before .args .w) (c .before .before .before .before .before .before .args .files) (c .before .before .before .before .before .before .args .f) (c .before .before .before .before .before .before .args .c) (c .before .before .before .before .before .before .args .file) (c .before .before .before .before .before .before .args .channel) (c .before .before .before .before .before .before .args .unit) (c .before .before .before .before .before .before .args .flags) (c .before .before .before .before .before .before .args .size) (c .before .before .before .before .before .before .args .rlen) _ _ _ _ _ (c .before .before .before .before .before .is-bound .ensures) (c .before .before .before .before .free-of .ensures) (c .before .before .before .wish-of .ensures) (c .before .before .open-on .ensures) (c .quiet .ensures)
+returns c = opened-as (c .before .before .before .before .before .before .before .before .before .before .args .unsound) (c .before .before .before .before .before .before .before .before .before .before .args .m) (c .before .before .before .before .before .before .before .before .before .before .args .w) (c .before .before .before .before .before .before .before .before .before .before .args .files) (c .before .before .before .before .before .before .before .before .before .before .args .f) (c .before .before .before .before .before .before .before .before .before .before .args .c) (c .before .before .before .before .before .before .before .before .before .before .args .q) _ _ _ _ _ (c .before .before .before .before .before .is-bound .ensures) (c .before .before .before .before .free-of .ensures) (c .before .before .before .wish-of .ensures) (c .before .before .open-on .ensures) (c .quiet .ensures)
 
 pub opened-spec : {M : Type 1} → statement M
 opened-spec =
     tie.close
     (tie.spec
-    is-bound-requires
+    cast-i cast-j cast-u is-bound-requires
     free-of-requires
     wish-of-requires
     open-on-requires

@@ -52,7 +52,7 @@ returns-2 : tie.Need-returns-2
 returns-2 c = search needs
 
 returns-3 : tie.Need-returns-3
-returns-3 c = rw (c .before .f .given .1)
+returns-3 c = rw (c .before .before .f .given .1)
 
 returns-4 : tie.Need-returns-4
 returns-4 c = search needs
@@ -61,7 +61,7 @@ returns-5 : tie.Need-returns-5
 returns-5 c = search needs
 
 returns-6 : tie.Need-returns-6
-returns-6 c = rw (c .before .f2 .given .1)
+returns-6 c = rw (c .before .before .f2 .given .1)
 
 returns-7 : tie.Need-returns-7
 returns-7 c = search needs

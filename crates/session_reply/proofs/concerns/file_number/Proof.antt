@@ -70,13 +70,13 @@ returns-2 : tie.Need-returns-2
 returns-2 c = search needs
 
 returns-3 : tie.Need-returns-3
-returns-3 c = rw (c .before .f .given .1)
+returns-3 c = rw (c .before .before .f .given .1)
 
 returns-4 : tie.Need-returns-4
 returns-4 c = search needs
 
 returns-5 : tie.Need-returns-5
-returns-5 c = rw (c .before .f3 .given .1)
+returns-5 c = rw (c .before .before .f3 .given .1)
 
 returns-6 : tie.Need-returns-6
 returns-6 c = rw (c .before .before .f4 .given .1) (c .file-of .ensures)

@@ -11,13 +11,13 @@ fresh-refusal-requires : tie.Need-fresh-refusal-requires
 fresh-refusal-requires c κs = search needs
 
 returns : tie.Need-returns
-returns c = fresh-refused (c .before .before .before .args .s) (c .before .before .before .args .n) (c .before .before .before .args .m) (c .before .before .before .args .w) (c .before .before .before .args .masks) _ _ (c .before .before .masks-of .ensures) (c .before .fresh-refusal .ensures) (c .if1 .taken) _
+returns c = fresh-refused (c .before .before .before .before .args .unsound) (c .before .before .before .before .args .s) (c .before .before .before .before .args .n) (c .before .before .before .before .args .q) _ _ (c .before .before .masks-of .ensures) (c .before .fresh-refusal .ensures) (c .if1 .taken)
 
 fresh-state-requires : tie.Need-fresh-state-requires
 fresh-state-requires c κs = search needs
 
 returns-2 : tie.Need-returns-2
-returns-2 c = fresh-taken (c .before .before .before .before .args .s) (c .before .before .before .before .args .n) (c .before .before .before .before .args .m) (c .before .before .before .before .args .w) (c .before .before .before .before .args .masks) _ _ (c .before .before .before .masks-of .ensures) (c .before .before .fresh-refusal .ensures) (c .before .if1 .left) _ (c .fresh-state .ensures) _
+returns-2 c = fresh-taken (c .before .before .before .before .before .args .unsound) (c .before .before .before .before .before .args .s) (c .before .before .before .before .before .args .n) (c .before .before .before .before .before .args .q) _ _ (c .before .before .before .masks-of .ensures) (c .before .before .fresh-refusal .ensures) (c .before .if1 .left) _ (c .fresh-state .ensures)
 
 pub fresh-spec : {M : Type 1} → statement M
 fresh-spec =

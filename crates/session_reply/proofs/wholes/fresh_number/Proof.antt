@@ -13,7 +13,7 @@ fresh-refusal-requires : tie.Need-fresh-refusal-requires
 fresh-refusal-requires c κs = search needs
 
 returns : tie.Need-returns
-returns c = c .fresh-refusal .ensures ∙ ap (λ (k : Masks). freshRefusal (c .before .before .args .m) (c .before .before .args .w) k (c .before .before .args .n)) (c .before .masks-of .ensures)
+returns c = c .fresh-refusal .ensures ∙ ap (λ (k : Masks). freshRefusal (c .before .before .before .args .unsound) (c .before .before .before .args .q .m) (c .before .before .before .args .q .w) k (c .before .before .before .args .n)) (c .before .masks-of .ensures)
 
 pub fresh-number-spec : {M : Type 1} → statement M
 fresh-number-spec = tie.close (tie.spec masks-of-requires fresh-refusal-requires returns)
