@@ -44,3 +44,7 @@ countAlong next test (suc n) u = cond (test u) 1 0 + countAlong next test n (nex
 unfoldable pub along : (ℕ → ℕ) → ℕ → ℕ → ℕ
 along next zero u = u
 along next (suc j) u = along next j (next u)
+
+-- a truth as a number, for counts
+abbrev pub oneIf : Bool → ℕ
+oneIf b = cond b 1 0

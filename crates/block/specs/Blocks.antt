@@ -18,8 +18,8 @@ isNumber n = ltb n blockNumbers
 -- ---- sealing the n data words at the start of a slice
 
 -- 1: the number is outside its range, or the slice has no room for the block. 2: a word that the call sums is 2^36 or more; it sums if check sums are chosen.
-unfoldable pub sealRefusal : List ℕ → ℕ → Bool → Bool → ℕ → ℕ
-sealRefusal block n sequence check number =
+unfoldable pub blockSealRefusal : List ℕ → ℕ → Bool → Bool → ℕ → ℕ
+blockSealRefusal block n sequence check number =
     lowest
     ((1, not (isNumber number) || ltb (length block) (n + extra sequence check)) ∷
     (2, check && not (allOf isWord (take n block))) ∷
@@ -31,9 +31,9 @@ withCheckWord block n sequence check number =
     cond (sequence || check) (set block n (checkWord sequence check (logicalSum (take n block)) number)) block
 
 -- the slice afterwards: "A refusal returns the number alone and changes nothing."
-unfoldable pub sealed : List ℕ → ℕ → Bool → Bool → ℕ → List ℕ
-sealed block n sequence check number =
-    cond (eqb (sealRefusal block n sequence check number) 0) (withCheckWord block n sequence check number) block
+unfoldable pub sealedBlock : List ℕ → ℕ → Bool → Bool → ℕ → List ℕ
+sealedBlock block n sequence check number =
+    cond (eqb (blockSealRefusal block n sequence check number) 0) (withCheckWord block n sequence check number) block
 
 -- ---- judging a block as delivered, its check word last
 
@@ -56,8 +56,8 @@ errorOf sequence check sum number word =
     chosen sequence (cond (eqb (address word) number) 0 1) + chosen check (cond (eqb (firstHalf word) (folded sum)) 0 2)
 
 -- the answer; a refusal tells no error
-unfoldable pub judged : List ℕ → Bool → Bool → ℕ → Judged
-judged block sequence check number =
+unfoldable pub judgedBlock : List ℕ → Bool → Bool → ℕ → Judged
+judgedBlock block sequence check number =
     let n = dataWords block sequence check in
     let refusal = judgeRefusal block sequence check number in
     record {

@@ -6,7 +6,7 @@ ghost use lib.Dec.{eqb};
 ghost use lib.ListN.{take, getD};
 ghost use Rattle.word.specs.Sums.{logicalSum};
 ghost use Rattle.word.specs.CheckWords.{chosen, checkWord, extra};
-ghost use Rattle.block.specs.Blocks.{sealRefusal, sealed, errorOf, judged};
+ghost use Rattle.block.specs.Blocks.{blockSealRefusal, sealedBlock, errorOf, judgedBlock};
 use word::LAST_NUMBER;
 use word::check_word;
 use word::extra;
@@ -36,7 +36,7 @@ fn summed_words(check: bool, n: usize) -> usize
 
 // What sealing the n data words at the start of the slice would write, or its refusal.
 fn sealed_word(block: &[u64], n: usize, sequence: bool, check: bool, number: u16) -> Sealing
-    ensures { λ r. ⌜ r .refusal ≡ sealRefusal (now (block .entry)) n sequence check number ⌝ }
+    ensures { λ r. ⌜ r .refusal ≡ blockSealRefusal (now (block .entry)) n sequence check number ⌝ }
     ensures { λ r. ⌜ (r .refusal ≡ 0 → r .word ≡ checkWord sequence check (logicalSum (take n (now (block .entry)))) number) ⌝ }
 {
     let e = extra(sequence, check) as usize;
@@ -73,8 +73,8 @@ fn sealed_word(block: &[u64], n: usize, sequence: bool, check: bool, number: u16
 // Seals the block of n data words at the start of the slice: the check word, if one is chosen, is written after them.
 // No other word changes, and a refusal changes none.
 pub fn seal(block: &mut [u64], n: usize, sequence: bool, check: bool, number: u16) -> u8
-    ensures { λ r. ⌜ r ≡ sealRefusal (now (block .entry)) n sequence check number ⌝ }
-    ensures { λ _. ⌜ now (block .exit) ≡ sealed (now (block .entry)) n sequence check number ⌝ }
+    ensures { λ r. ⌜ r ≡ blockSealRefusal (now (block .entry)) n sequence check number ⌝ }
+    ensures { λ _. ⌜ now (block .exit) ≡ sealedBlock (now (block .entry)) n sequence check number ⌝ }
 {
     let s = sealed_word(&block[..], n, sequence, check, number);
     if s.refusal != 0 {
@@ -124,7 +124,7 @@ fn error_of(sequence: bool, check: bool, sum: u64, number: u16, word: u64) -> u8
 
 // Judges a block as delivered, its check word last if one is chosen, by the number it is due.
 pub fn judge(block: &[u64], sequence: bool, check: bool, number: u16) -> Judged
-    ensures { λ r. ⌜ r ≡ judged (now (block .entry)) sequence check number ⌝ }
+    ensures { λ r. ⌜ r ≡ judgedBlock (now (block .entry)) sequence check number ⌝ }
 {
     if LAST_NUMBER < number {
         return Judged {

@@ -17,12 +17,12 @@ use Rattle.call_record.specs.Blocks.{heldRight, sealedArea}
 -- ---- the refusal
 
 -- a put of n words that is taken: the file is an open output file, there is room, and the words are exactly r
-abbrev pub isTaken : File → ℕ → Bool
-isTaken f n = f .opened && (f .output && (hasRoom f && eqb n (f .rlen)))
+abbrev pub isPutTaken : File → ℕ → Bool
+isPutTaken f n = f .opened && (f .output && (hasRoom f && eqb n (f .rlen)))
 
 -- it sums the block's words: it seals the block, and "That folded sum fills the first 18 bits if check sums are chosen"
 abbrev pub sums : File → ℕ → Bool
-sums f n = isTaken f n && (isComplete (added f) && f .check)
+sums f n = isPutTaken f n && (isComplete (added f) && f .check)
 
 -- 2: "a given word, or a buffer word that the call sums .., is 2^36 or more"; 5: "file not open"; 6: "wrong direction: .. write, mark, put, seal on
 -- an input file"; 9: "Put: no part-filled or empty buffer"; 13: "a size does not fit: .. put" ("exactly r words (else 13)")

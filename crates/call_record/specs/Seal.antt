@@ -5,7 +5,7 @@ use mathlib.Core.List.{List, [], _∷_}
 use lib.Dec.{eqb}
 use Rattle.area.specs.Refusals.{Rows, lowest}
 use Rattle.file.specs.declared.File.{File}
-use Rattle.file_output.specs.Parts.{hasPart, sealed}
+use Rattle.file_output.specs.Parts.{hasPart, sealedFile}
 use Rattle.file.specs.Changes.{fileChange}
 use Rattle.file.specs.declared.FileChange.{FileChange}
 use Rattle.call_record.specs.Blocks.{heldRight, sealedArea}
@@ -34,7 +34,7 @@ sealRefusal wrong f w area = lowest (sealRows wrong f w area)
 
 -- on one file: "A refusal returns the number alone and changes nothing."
 unfoldable pub sealOn : Bool → File → ℕ → List ℕ → FileChange
-sealOn wrong f w area = fileChange (sealRefusal wrong f w area) f (sealed f)
+sealOn wrong f w area = fileChange (sealRefusal wrong f w area) f (sealedFile f)
 
 unfoldable pub sealOnArea : Bool → File → ℕ → List ℕ → List ℕ
 sealOnArea wrong f w area = cond (eqb (sealRefusal wrong f w area) 0) (sealedArea w f area) area

@@ -28,7 +28,7 @@ use Rattle.file.specs.declared.File.{File}
 use Rattle.word.specs.CheckWords.{extra}
 use Rattle.file_input.specs.Delivers.{blockFits}
 use Rattle.block.specs.declared.blocks.Judged.{Judged}
-use Rattle.block.specs.Blocks.{isNumber, judgeRefusal, judged}
+use Rattle.block.specs.Blocks.{isNumber, judgeRefusal, judgedBlock}
 use Rattle.call_request.specs.declared.Effect.{Effect}
 use Rattle.call_request.specs.declared.ReportChange.{ReportChange}
 use Rattle.call_request.specs.Effects.{effectOf, isDelivery}
@@ -138,9 +138,9 @@ two true false = refl
 two false b = refl
 
 module _ (x : Effect) (f : File) (words : List ℕ) where
-  pub look-judged : (brings : Bool) → brings ≡ isDelivery x → (brings && leb (f .block) 32767) ≡ true → (j : Judged) → j ≡ judged words (f .sequence) (f .check) (f .block)
+  pub look-judged : (brings : Bool) → brings ≡ isDelivery x → (brings && leb (f .block) 32767) ≡ true → (j : Judged) → j ≡ judgedBlock words (f .sequence) (f .check) (f .block)
       → (not (eqb (j .refusal) 2) ≡ allOf isWord words) × (j .error ≡ deliveryError x f words)
-  unfolding judged judgeRefusal
+  unfolding judgedBlock judgeRefusal
   look-judged brings isB h j isJ =
       let small : isNumber (f .block) ≡ true = lt-ltb (f .block) 32768 (omega (arith, leb-true (f .block) 32767 (and-right brings _ h))) in
       let right : not (isNumber (f .block)) ≡ false = ap not small in (
@@ -149,7 +149,7 @@ module _ (x : Effect) (f : File) (words : List ℕ) where
       )
 
   pub look-other : (brings : Bool) → brings ≡ isDelivery x → (brings && leb (f .block) 32767) ≡ false → 0 ≡ deliveryError x f words
-  unfolding judged judgeRefusal lowest
+  unfolding judgedBlock judgeRefusal lowest
   look-other true isB h =
       let large : isNumber (f .block) ≡ false = le-ltb (f .block) 32768 (omega (arith, leb-false (f .block) 32767 h)) in
       rw (← isB, large)

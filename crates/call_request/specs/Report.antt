@@ -22,7 +22,7 @@ use Rattle.file.specs.Sides.{startAt, takenSide}
 use Rattle.word.specs.CheckWords.{extra}
 use Rattle.file_input.specs.Delivers.{blockFits, delivered, gaveBack, metMark}
 use Rattle.file_output.specs.Sends.{sendStart, sendWords, afterWrite}
-use Rattle.block.specs.Blocks.{judged}
+use Rattle.block.specs.Blocks.{judgedBlock}
 use Rattle.call_request.specs.declared.Effect.{Effect}
 use Rattle.call_request.specs.declared.Effect.the-variants.{Delivers, MeetsMark, GivesBack, Sends, Keeps}
 use Rattle.call_request.specs.declared.ReportChange.{ReportChange}
@@ -102,7 +102,7 @@ reportRefusal wrong f c u outcome w area words = lowest (reportRows wrong f c u 
 
 -- "A block in error is kept and its number reported.": the check error of the words as delivered, by the number that the block is due
 abbrev pub deliveryError : Effect → File → List ℕ → ℕ
-deliveryError x f words = cond (isDelivery x) (judged words (f .sequence) (f .check) (f .block) .error) 0
+deliveryError x f words = cond (isDelivery x) (judgedBlock words (f .sequence) (f .check) (f .block) .error) 0
 
 -- the file: the taken buffer is full with the data words, or is empty again; the block that was sent is gone
 unfoldable pub reportedFile : Effect → File → ℕ → ℕ → File

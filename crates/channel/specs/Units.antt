@@ -37,8 +37,8 @@ turnAt c u = unitAt c u .turn
 unfoldable pub withTurn : Channel → ℕ → Turn → Channel
 withTurn c u t = record { units = set (c .units) u (record { declared = declaredAt c u; turn = t }); mark = c .mark }
 
-abbrev pub withMark : Channel → ℕ → Channel
-withMark c m = record { units = c .units; mark = m }
+abbrev pub withScanMark : Channel → ℕ → Channel
+withScanMark c m = record { units = c .units; mark = m }
 
 -- "A fresh start .. drops all requests .. and resets the scans"; the units of the list are declared
 unfoldable pub freshWith : List Bool → Channel

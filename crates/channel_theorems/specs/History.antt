@@ -4,7 +4,7 @@ use mathlib.Core.Bool.{Bool, true, false, _&&_, _||_}
 use mathlib.Core.List.{List, [], _∷_}
 use Prim.Native.Nat.{ℕ, _+_, _*_, _≤_, _<_}
 use lib.Dec.{eqb}
-use Rattle.area.specs.Lists.{countOf, isFound}
+use Rattle.area.specs.Lists.{oneIf, countOf, isFound}
 use Rattle.channel.specs.declared.Op.{Op}
 use Rattle.channel.specs.declared.Turn.{Turn}
 use Rattle.channel.specs.declared.Turn.the-variants.{Idle, Waiting, Displaced, Working}
@@ -78,10 +78,6 @@ fresh declared = station (freshWith declared) false
 unfoldable pub run : Station → List Event → Station
 run s [] = s
 run s (e ∷ h) = run (step s e .after) h
-
-abbrev pub oneIf : Bool → ℕ
-oneIf true = 1
-oneIf false = 0
 
 -- how many of the calls are of the kind that the test tells by the call and its answer
 unfoldable pub count : (Event → Answer → Bool) → Station → List Event → ℕ

@@ -6,7 +6,8 @@ use mathlib.Core.Option.{Option, none, some}
 use mathlib.Core.List.{List, [], _∷_}
 use Prim.Native.Nat.{ℕ, _+_, _*_, _≤_, _<_}
 use Rattle.channel_outcomes.specs.Rules.{mostReports}
-use Rattle.channel_theorems.specs.History.{Station, Event, Answer, stepTo, step, oneIf, aReport, aPriority, aRequestOf, anAnswerTo, isAlive, urgentIn}
+use Rattle.channel_theorems.specs.History.{Station, Event, Answer, stepTo, step, aReport, aPriority, aRequestOf, anAnswerTo, isAlive, urgentIn}
+use Rattle.area.specs.Lists.{oneIf}
 
 -- what a call of the system is to the channel: an event, and the answer that it got
 pub record Shown : Type 0 where

@@ -11,7 +11,7 @@ use Rattle.channel_turns.specs.declared.Reported.{Reported}
 use Rattle.channel_outcomes.specs.Rules.{verdictOf}
 use Rattle.channel_turns.specs.Scans.{nextUnit, priorityIn}
 use Rattle.area.specs.Lists.{isFound}
-use Rattle.channel.specs.Units.{size, turnAt, withTurn, withMark}
+use Rattle.channel.specs.Units.{size, turnAt, withTurn, withScanMark}
 use Rattle.channel_turns.specs.Starts.{startOf}
 
 -- "11 | report: the channel is not working for that unit"
@@ -49,7 +49,7 @@ unfoldable pub markAfter : Channel → ℕ → ℕ
 markAfter c u = cond (isOrdinary (turnAt c u)) (nextUnit (size c) u) (c .mark)
 
 unfoldable pub endOf : Channel → ℕ → Bool → Channel
-endOf c u frozen = startOf (withMark (withTurn c u Idle) (markAfter c u)) frozen
+endOf c u frozen = startOf (withScanMark (withTurn c u Idle) (markAfter c u)) frozen
 
 -- "the report is booked", and the channel goes on
 unfoldable pub bookOf : Channel → ℕ → Verdict → Bool → Channel

@@ -6,18 +6,19 @@ use mathlib.Core.List.{List, []}
 use Prim.Native.Nat.{ℕ, _+_, _%_}
 use lib.ListN.{length}
 use Rattle.word.specs.CheckWords.{checkWord, IsCheckWord, blockNumbers}
-use Rattle.block.specs.Blocks.{judged}
+use Rattle.block.specs.Blocks.{judgedBlock}
 use Rattle.word.proofs.Laws.CheckWord.{check-word-is, check-word-only}
 use Rattle.file.specs.declared.File.{File}
 use Rattle.pool.specs.Serving.{serves}
 use Rattle.state.specs.declared.State.{State}
 use Rattle.state.specs.Places.{beforeStart, fileAt}
+use Rattle.state_sound.specs.Soundness.{sound}
 use Rattle.pack_start.specs.declared.Masks.{Masks}
 use Rattle.call_request.specs.Ask.{isPriority}
 use Rattle.pack.specs.Calls.{Call, fresh, opening, close, ask, report, answerOf}
 use Rattle.pack.specs.Histories.{Lent, after, count, freshStart, declaredOn}
-use Rattle.pack.proofs.Kept.{Good, good-before, good-start, history-kept}
-use Rattle.demands_ledger.specs.Ledgers.{Ledger, blankLedger, errorOf, stateAfter, areaAfter, ledgerAfter}
+use Rattle.pack.proofs.Kept.{Good, good-before, start-judged, good-start, history-kept}
+use Rattle.demands_ledger.specs.Ledgers.{Ledger, blankLedger, toldError, stateAfter, areaAfter, ledgerAfter}
 use Rattle.demands_ledger.specs.Blocks.{joined}
 use Rattle.demands_ledger.proofs.Frames.{Kept}
 use Rattle.demands_ledger.proofs.Always.{always, started as begun}
@@ -43,7 +44,11 @@ demand2-right = check-word-is
 pub demand2-before : (calls : List Lent) → Holds (after beforeStart calls)
 demand2-before calls = good-holds (after beforeStart calls) (history-kept beforeStart calls good-before)
 
--- From here on: a fresh start that is accepted, from any state value; then any calls, each given the state that the last one left.
+-- "a state passed back is unsound": a fresh start is refused such a state as every call is
+pub demand1-start : (s : State) (area : List ℕ) (m w : ℕ) (masks : Masks) → answerOf s area (fresh m w masks) .refusal ≡ 0 → sound s ≡ true
+demand1-start = start-judged
+
+-- From here on: a fresh start that is accepted; then any calls, each given the state that the last one left.
 module _ (s₀ : State) (area₀ : List ℕ) (m w : ℕ) (masks : Masks) (started : answerOf s₀ area₀ (fresh m w masks) .refusal ≡ 0) where
   -- the state that the fresh start leaves
   abbrev pub start : State
@@ -103,8 +108,8 @@ module _ (s₀ : State) (area₀ : List ℕ) (m w : ℕ) (masks : Masks) (starte
   -- the report of a delivered block, for the file i on its unit, answers that judgement, with the number after those of the blocks before it
   pub demand2-judged : (calls : List Call) (i channel unit outcome : ℕ) (words : List ℕ) → serves channel unit (fileThen calls i) ≡ true → words ≢ []
       → answerOf (stateAfter start area₀ calls) (areaAfter start area₀ calls) (report channel unit outcome words) .refusal ≡ 0
-      → errorOf (answerOf (stateAfter start area₀ calls) (areaAfter start area₀ calls) (report channel unit outcome words) .added)
-      ≡ judged words (fileThen calls i .sequence) (fileThen calls i .check) ((1 + length (account calls i .came)) % blockNumbers) .error
+      → toldError (answerOf (stateAfter start area₀ calls) (areaAfter start area₀ calls) (report channel unit outcome words) .added)
+      ≡ judgedBlock words (fileThen calls i .sequence) (fileThen calls i .check) ((1 + length (account calls i .came)) % blockNumbers) .error
   demand2-judged calls = ledger-judged (stateAfter start area₀ calls) (areaAfter start area₀ calls) (account calls) (kept calls)
 
   -- "From a fresh start (and no second), each call given the state that the last one left: an accepted ordinary request on a channel of U

@@ -6,7 +6,7 @@ use Rattle.area.specs.Parts.{paste, pastedIn}
 use Rattle.area.specs.Refusals.{lowest}
 use Rattle.area.specs.Numbered.{allFrom}
 use Rattle.word.specs.Sums.{carryBack, sumFrom, logicalSum, firstHalf, lastHalf, folded}
-use Rattle.word.specs.CheckWords.{address, checkWord, nextNumber}
+use Rattle.word.specs.CheckWords.{address, checkWord}
 use Rattle.block.specs.Blocks as blocks
 use Rattle.channel_outcomes.specs.Rules.{rowOf, isAllowed, isPermanent, nextAttempt, endingOf, verdictOf}
 use Rattle.channel.specs.Units.{withTurn, freshWith, bitsFrom, freshOf, hasRequest, acceptsAt, operationAt}
@@ -17,7 +17,7 @@ use Rattle.file.specs.Sides.{emptySide, takenSide, partSide, oldest}
 use Rattle.file.specs.Fills.{filledAt, emptiedAt, withoutOldest}
 use Rattle.file_input.specs.Delivers.{tookBuffer, delivered, gaveBack, metMark}
 use Rattle.file_output.specs.Puts.{putSide, putStart, added, afterPut}
-use Rattle.file_output.specs.Parts.{partStart, partLength, isComplete, sealed}
+use Rattle.file_output.specs.Parts.{partStart, partLength, isComplete, sealedFile}
 use Rattle.file_output.specs.Sends.{sendStart, sendWords, afterWrite}
 use Rattle.file.specs.Sizes.{openedFile}
 use Rattle.pool.specs.Free.{lowestFree, freeCount}
@@ -39,11 +39,6 @@ use Rattle.pack_record.specs.Puts.{putBy, putByArea}
 use Rattle.pack.specs.Calls.{answerOf}
 use Rattle.demands.specs.Examples.{play, repeatedFrom, table, allShown, allWanted}
 
--- the next block number is one thing, of a file and of a check word
-pub next-same : (n : ℕ) → nextNumber n ≡ nextNumber n
-unfolding address nextNumber
-next-same n = refl
-
 pub examples : allShown table ≡ allWanted table
-unfolding play repeatedFrom table anyOf allOf allPairs countOf firstAlong countAlong paste pastedIn lowest allFrom carryBack sumFrom logicalSum firstHalf lastHalf folded address checkWord blocks.sealRefusal blocks.withCheckWord blocks.sealed blocks.judgeRefusal blocks.errorOf blocks.judged rowOf isAllowed isPermanent nextAttempt endingOf verdictOf withTurn freshWith bitsFrom freshOf hasRequest acceptsAt operationAt scanFrom workingIn priorityIn ordinaryIn nextTurn startOf askOf judgeOf goesOn repeatOf markAfter endOf bookOf emptySide takenSide partSide oldest filledAt emptiedAt withoutOldest tookBuffer delivered gaveBack metMark putSide putStart added partStart partLength isComplete sealed afterPut sendStart sendWords afterWrite openedFile lowestFree freeCount servingFile isBlank beforeStart withFile withChannel numbersInRange noBufferHeldTwice eachHasItsOwn requestsFit channelsWork readsAloneTake writesHaveBlocks fullBlocksRight partBuffersRight placesRight attemptsInLimit sound freshRows freshState freshBy freeOf openRows openOn openBy changedState opOf askRefusal askedFile askedChannel askOn askBy reportRefusal reportedFile reportedArea reportOn reportOnArea reportBy reportByArea sealedIn sealedArea putRows putRefusal filledArea putArea putOn putOnArea putBy putByArea answerOf
+unfolding play repeatedFrom table anyOf allOf allPairs countOf firstAlong countAlong paste pastedIn lowest allFrom carryBack sumFrom logicalSum firstHalf lastHalf folded address checkWord blocks.blockSealRefusal blocks.withCheckWord blocks.sealedBlock blocks.judgeRefusal blocks.errorOf blocks.judgedBlock rowOf isAllowed isPermanent nextAttempt endingOf verdictOf withTurn freshWith bitsFrom freshOf hasRequest acceptsAt operationAt scanFrom workingIn priorityIn ordinaryIn nextTurn startOf askOf judgeOf goesOn repeatOf markAfter endOf bookOf emptySide takenSide partSide oldest filledAt emptiedAt withoutOldest tookBuffer delivered gaveBack metMark putSide putStart added partStart partLength isComplete sealedFile afterPut sendStart sendWords afterWrite openedFile lowestFree freeCount servingFile isBlank beforeStart withFile withChannel numbersInRange noBufferHeldTwice eachHasItsOwn requestsFit channelsWork readsAloneTake writesHaveBlocks fullBlocksRight partBuffersRight placesRight attemptsInLimit sound freshRows freshState freshBy freeOf openRows openOn openBy changedState opOf askRefusal askedFile askedChannel askOn askBy reportRefusal reportedFile reportedArea reportOn reportOnArea reportBy reportByArea sealedIn sealedArea putRows putRefusal filledArea putArea putOn putOnArea putBy putByArea answerOf
 examples = refl

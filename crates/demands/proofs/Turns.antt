@@ -18,7 +18,7 @@ use Rattle.pack_start.specs.Fresh.{freshState}
 use Rattle.pack_start.proofs.FreshTheorems.{fresh-accepted}
 use Rattle.call_request.specs.Ask.{opOf, isPriority}
 use Rattle.pack.specs.Calls.{fresh, ask, answerOf}
-use Rattle.pack.specs.Histories.{Lent, after, count, freshStart, reportOn, answerFor, priorityOn, requestOf, declaredOn}
+use Rattle.pack.specs.Histories.{Lent, after, count, freshStart, isReportOn, isAnswerFor, isPriorityOn, isRequestOf, declaredOn}
 use Rattle.pack.proofs.Kept.{Good, good-start, history-kept, call-kept}
 use Rattle.pack.proofs.Seen.{stationAt, seen, nextOf}
 use Rattle.pack.proofs.Around.{packAround, run-same, count-same}
@@ -30,16 +30,16 @@ use Rattle.demands.specs.Demands.{Answers}
 in-words : (U c u : ℕ) (s d : State) (later : List Lent) → Good d → count freshStart d later ≡ 0 → KeptIn (packAround c) U u s d later
     → Answers U c u s d later
 in-words U c u s d later g z K =
-    let a = count-same c (answerFor c u) (anAnswerTo u) (answer-matches c u) d later g z in
-    let r = count-same c (requestOf c u) (aRequestOf u) (request-matches c u) d later g z in
-    let n = count-same c (reportOn c) aReport (report-matches c) d later g z in
-    let p = count-same c (priorityOn c) aPriority (priority-matches c) d later g z in
+    let a = count-same c (isAnswerFor c u) (anAnswerTo u) (answer-matches c u) d later g z in
+    let r = count-same c (isRequestOf c u) (aRequestOf u) (request-matches c u) d later g z in
+    let n = count-same c (isReportOn c) aReport (report-matches c) d later g z in
+    let p = count-same c (isPriorityOn c) aPriority (priority-matches c) d later g z in
     record {
       once = let k = K .once in omega arith;
       alive = λ e. subst (λ (t : State). isAlive (stationAt c t) ≡ true) (run-same c d later z) (K .alive (a ∙ e));
       sole = λ e. let k = K .sole (a ∙ e) in omega arith;
       soon =
-          λ e. let k = K .soon (a ∙ e) in subst (λ (i : ℕ). count (reportOn c) d later < mostReports * (U + (urgentIn (channelAt s c) + i))) p
+          λ e. let k = K .soon (a ∙ e) in subst (λ (i : ℕ). count (isReportOn c) d later < mostReports * (U + (urgentIn (channelAt s c) + i))) p
           (omega arith);
     }
 

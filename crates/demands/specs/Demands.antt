@@ -22,7 +22,7 @@ use Rattle.pack.specs.Calls.{Call, answerOf, numberAlone}
 use Rattle.pack.specs.Tables.{isTableNumber, rowsOf}
 use Rattle.demands_ledger.specs.Ledgers.{Ledger, dataOf}
 use Rattle.demands_ledger.specs.Blocks.{blocksIn, unreadOf, partIn, allChecked, joined, contents}
-use Rattle.pack.specs.Histories.{Lent, after, count, reportOn, answerFor, priorityOn, requestOf}
+use Rattle.pack.specs.Histories.{Lent, after, count, isReportOn, isAnswerFor, isPriorityOn, isRequestOf}
 
 -- ---- Demand 1: "Any call, with any numbers, words and lengths, gets an answer." `answerOf` is one answer for every state, area and call.
 
@@ -99,14 +99,14 @@ workingOrFrozen s c = s .frozen || isFound (workingIn (channelAt s c))
 -- "P counting that channel's priority requests unanswered at its acceptance or accepted until its answer": accepted in the state s, and
 -- since then in the calls `later` from the state d
 abbrev pub priorities : ℕ → State → State → List Lent → ℕ
-priorities c s d later = urgentIn (channelAt s c) + count (priorityOn c) d later
+priorities c s d later = urgentIn (channelAt s c) + count (isPriorityOn c) d later
 
 -- of any calls `later` after its acceptance
 pub record Answers (U c u : ℕ) (s d : State) (later : List Lent) : Type 0 where
   -- "is answered at most once;": a second answer to the unit is to a later request of it
-  pub once : count (answerFor c u) d later ≤ 1 + count (requestOf c u) d later
+  pub once : count (isAnswerFor c u) d later ≤ 1 + count (isRequestOf c u) d later
   -- "until then its channel is working or frozen;" and no other request of the unit is accepted
-  pub alive : count (answerFor c u) d later ≡ 0 → workingOrFrozen (after d later) c ≡ true
-  pub sole : count (answerFor c u) d later ≡ 0 → count (requestOf c u) d later ≡ 0
+  pub alive : count (isAnswerFor c u) d later ≡ 0 → workingOrFrozen (after d later) c ≡ true
+  pub sole : count (isAnswerFor c u) d later ≡ 0 → count (isRequestOf c u) d later ≡ 0
   -- "its answer comes by the time 101 x (U + P) reports have been accepted on that channel since": until then there are fewer
-  pub soon : count (answerFor c u) d later ≡ 0 → count (reportOn c) d later < mostReports * (U + priorities c s d later)
+  pub soon : count (isAnswerFor c u) d later ≡ 0 → count (isReportOn c) d later < mostReports * (U + priorities c s d later)

@@ -10,7 +10,7 @@ use lib.Seq.{take-take}
 use Rattle.area.specs.Parts.{partOf, pastedIn}
 use Rattle.area.proofs.Walks.{true-not-false}
 use Rattle.area.proofs.Pastes.{length-part}
-use Rattle.block.specs.Blocks.{judged}
+use Rattle.block.specs.Blocks.{judgedBlock}
 use Rattle.file.specs.declared.Slot.{Slot}
 use Rattle.file.specs.declared.Slot.the-variants.{Empty, Taken, Part, Full}
 use Rattle.file.specs.declared.Side.{Side}
@@ -20,7 +20,7 @@ use Rattle.file.specs.Slots.{isTaken, isPart, isFull, partWords, fullWords}
 use Rattle.file.specs.Sides.{bufferAt, slotAt, startAt, isSide, lower, takenSide, partSide, oldest}
 use Rattle.file.specs.Fills.{withSlot, turnedBy, filledAt, emptiedAt, withoutOldest}
 use Rattle.word.specs.CheckWords.{nextNumber, extra}
-use Rattle.file_input.specs.Delivers.{blockFits, delivered, gaveBack, withMark, metMark}
+use Rattle.file_input.specs.Delivers.{blockFits, delivered, gaveBack, withFileMark, metMark}
 use Rattle.file_output.specs.Parts.{partStart, partLength}
 use Rattle.file_output.specs.Sends.{sendStart, sendWords}
 use Rattle.file_input.specs.Ages.{line}
@@ -90,26 +90,26 @@ told-back w f xs L T =
     told-still w f (withSlot f (takenSide f) Empty false (f .block)) (slot-same f (takenSide f) Empty false (f .block)) xs L (back-line f)
     (part-stays w f (takenSide f) Empty false (f .block) xs (taken-no f .0) refl) (block-stays f (takenSide f) Empty false) T
 
-mark-same : (f : File) → Same f (withMark f)
+mark-same : (f : File) → Same f (withFileMark f)
 mark-same f = record { opened = refl; channel = refl; unit = refl; output = refl; sequence = refl; check = refl }
 
-mark-part : (w : ℕ) (f : File) (xs : List ℕ) → partIn w (withMark f) xs ≡ partIn w f xs
+mark-part : (w : ℕ) (f : File) (xs : List ℕ) → partIn w (withFileMark f) xs ≡ partIn w f xs
 unfolding partStart partLength partSide
 mark-part w f xs = go (lower (isPart (f .low .slot)) (isPart (f .high .slot)))
   where
-    go : (k : Side) → partOf (startAt (withMark f) w k) (partWords (slotAt (withMark f) k)) xs ≡ partOf (startAt f w k) (partWords (slotAt f k)) xs
+    go : (k : Side) → partOf (startAt (withFileMark f) w k) (partWords (slotAt (withFileMark f) k)) xs ≡ partOf (startAt f w k) (partWords (slotAt f k)) xs
     go Low = refl
     go High = refl
     go Neither = refl
 
-mark-line : (f : File) → line (withMark f) ≡ line f
+mark-line : (f : File) → line (withFileMark f) ≡ line f
 unfolding line
 mark-line f = refl
 
 pub told-mark : (w : ℕ) (f : File) (xs : List ℕ) (L : Ledger) → Told w f xs L → Told w (metMark f) xs L
 unfolding metMark
 told-mark w f xs L T =
-    told-still w (gaveBack f) (withMark (gaveBack f)) (mark-same (gaveBack f)) xs L (mark-line (gaveBack f)) (mark-part w (gaveBack f) xs) refl
+    told-still w (gaveBack f) (withFileMark (gaveBack f)) (mark-same (gaveBack f)) xs L (mark-line (gaveBack f)) (mark-part w (gaveBack f) xs) refl
     (told-back w f xs L T)
 
 -- ---- a block that a write hands out
@@ -138,7 +138,7 @@ module _ (m w : ℕ) (f : File) (S : Sound m w f) (xs : List ℕ) (long : m * w 
 
   module _ (words : List ℕ) (side : isSide (takenSide f) ≡ true) (fits : blockFits f (length words) ≡ true) where
     abbrev err : ℕ
-    err = judged words (f .sequence) (f .check) (f .block) .error
+    err = judgedBlock words (f .sequence) (f .check) (f .block) .error
 
     abbrev size : ℕ
     size = length words - extra (f .sequence) (f .check)

@@ -12,7 +12,7 @@ use lib.Seq.{drop-append-seam}
 use Rattle.area.specs.Parts.{partOf}
 use Rattle.area.proofs.Walks.{true-not-false}
 use Rattle.area.proofs.Pastes.{length-part}
-use Rattle.block.specs.Blocks.{judged}
+use Rattle.block.specs.Blocks.{judgedBlock}
 use Rattle.file.specs.declared.Slot.the-variants.{Empty, Full}
 use Rattle.file.specs.declared.Side.{Side}
 use Rattle.file.specs.declared.Side.the-variants.{Neither}
@@ -56,11 +56,11 @@ module _ (w : ℕ) (f g : File) (xs zs : List ℕ) (came : List (List ℕ)) (gon
 
   -- a block is delivered
   pub brought-more : (ys : List ℕ) (b n : ℕ) → unreadOf w f zs ≡ unreadOf w f xs
-      → line g ≡ line f ++ (block b n 0 (judged ys (f .sequence) (f .check) (f .block) .error) ∷ []) → g .block ≡ nextNumber (f .block)
-      → unreadIn w zs (block b n 0 (judged ys (f .sequence) (f .check) (f .block) .error))
-      ≡ contentsOf (f .sequence) (f .check) (judged ys (f .sequence) (f .check) (f .block) .error) ys
+      → line g ≡ line f ++ (block b n 0 (judgedBlock ys (f .sequence) (f .check) (f .block) .error) ∷ []) → g .block ≡ nextNumber (f .block)
+      → unreadIn w zs (block b n 0 (judgedBlock ys (f .sequence) (f .check) (f .block) .error))
+      ≡ contentsOf (f .sequence) (f .check) (judgedBlock ys (f .sequence) (f .check) (f .block) .error) ys
       → Brought w g zs (came ++ (ys ∷ [])) gone
-      (owed ++ (contentsOf (f .sequence) (f .check) (judged ys (f .sequence) (f .check) (f .block) .error) ys ∷ []))
+      (owed ++ (contentsOf (f .sequence) (f .check) (judgedBlock ys (f .sequence) (f .check) (f .block) .error) ys ∷ []))
   brought-more ys b n still l e c = record {
     lies =
         ap₂ (λ (u : List (List Item)) (v : List Item). u ++ (v ∷ [])) (T .lies ∙ sym still) (sym c)
@@ -68,7 +68,7 @@ module _ (w : ℕ) (f g : File) (xs zs : List ℕ) (came : List (List ℕ)) (gon
     items =
         ap (λ (v : List Item). gone ++ v) (joined-last owed now) ∙ sym (append-assoc gone (joined owed) now)
         ∙ ap (λ (v : List Item). v ++ now) (T .items)
-        ∙ ap (λ (k : ℕ). contents (f .sequence) (f .check) 1 came ++ contentsOf (f .sequence) (f .check) (judged ys (f .sequence) (f .check) k .error)
+        ∙ ap (λ (k : ℕ). contents (f .sequence) (f .check) 1 came ++ contentsOf (f .sequence) (f .check) (judgedBlock ys (f .sequence) (f .check) k .error)
         ys) (T .number)
         ∙ sym (contents-last (f .sequence) (f .check) 1 came ys) ∙ same-contents (came ++ (ys ∷ []));
     number = e ∙ ap nextNumber (T .number) ∙ sym (number-last 1 came ys);
@@ -76,10 +76,10 @@ module _ (w : ℕ) (f g : File) (xs zs : List ℕ) (came : List (List ℕ)) (gon
   }
     where
       new : Block
-      new = block b n 0 (judged ys (f .sequence) (f .check) (f .block) .error)
+      new = block b n 0 (judgedBlock ys (f .sequence) (f .check) (f .block) .error)
 
       now : List Item
-      now = contentsOf (f .sequence) (f .check) (judged ys (f .sequence) (f .check) (f .block) .error) ys
+      now = contentsOf (f .sequence) (f .check) (judgedBlock ys (f .sequence) (f .check) (f .block) .error) ys
 
   -- the oldest block is dropped
   pub brought-less : (b : Block) (rest : List Block) → line f ≡ b ∷ rest → line g ≡ rest → g .block ≡ f .block

@@ -14,7 +14,7 @@ use Rattle.file.specs.Sides.{bufferAt, slotAt, isSide, partSide, oldest}
 use Rattle.file.specs.Fills.{withSlot, turnedBy, filledAt, emptiedAt, withoutOldest}
 use Rattle.word.specs.CheckWords.{nextNumber}
 use Rattle.file_output.specs.Puts.{putSide, wordsAfter, afterPut}
-use Rattle.file_output.specs.Parts.{partStart, partLength, sealed}
+use Rattle.file_output.specs.Parts.{partStart, partLength, sealedFile}
 use Rattle.file_input.specs.Gets.{isUsedUp, passed, lookedAt, slotAfter, afterFound, getFrom}
 use Rattle.state_sound.proofs.FileFacts.{Sound}
 use Rattle.state_sound.proofs.Inside.{held-own}
@@ -51,8 +51,8 @@ put-same m w f S room = subst (Same f) (sym (put-is f room (put-at m w f S room)
     go true = slot-same f (putSide f) (Full (wordsAfter f) 0 0) (turnedBy f (putSide f)) (nextNumber (f .block))
     go false = slot-same f (putSide f) (Part (wordsAfter f)) false (f .block)
 
-seal-same : (f : File) → Same f (sealed f)
-unfolding sealed filledAt
+seal-same : (f : File) → Same f (sealedFile f)
+unfolding sealedFile filledAt
 seal-same f = slot-same f (partSide f) (Full (partLength f) 0 0) (turnedBy f (partSide f)) (nextNumber (f .block))
 
 pub drop-same : (f : File) → Same f (withoutOldest f)
@@ -126,7 +126,7 @@ module _ (s : State) (area : List ℕ) (ledgers : ℕ → Ledger) (K : Kept s ar
       (others-same s (K .good) file (bufferAt f (partSide f) .number) (held-own f (partSide f) o (own-part (s .m) (s .w) f (S file o) part)) area
       (sealByArea s area file) only)
       (subst (λ (h : File). Told (s .w) h (sealByArea s area file) (ledgers file)) (sym (seal-file s area file z))
-      (told-out (s .w) f (sealed f) (seal-same f) (sealByArea s area file) (ledgers file) (seal-output s area file z) (K .told file .opened)
+      (told-out (s .w) f (sealedFile f) (seal-same f) (sealByArea s area file) (ledgers file) (seal-output s area file z) (K .told file .opened)
       (K .told file .chose o)
       (seal-wrote (s .m) (s .w) f (S file o) part area (sealByArea s area file) (ledgers file .puts) (ledgers file .sent)
       (K .told file .wrote o (seal-output s area file z)) only

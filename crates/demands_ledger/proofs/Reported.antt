@@ -12,7 +12,7 @@ use Rattle.area.specs.Parts.{partOf, pastedIn}
 use Rattle.area.proofs.Walks.{and-left, or-left, or-right}
 use Rattle.area.proofs.Marks.{cond-true, cond-false}
 use Rattle.area.specs.Refusals.{here}
-use Rattle.block.specs.Blocks.{judged}
+use Rattle.block.specs.Blocks.{judgedBlock}
 use Rattle.channel.specs.declared.Channel.{Channel}
 use Rattle.channel_outcomes.specs.Rules.{resultNumber}
 use Rattle.channel_turns.specs.Scans.{workingIn, unitNumber}
@@ -223,15 +223,15 @@ module _ (s : State) (area : List ℕ) (ledgers : ℕ → Ledger) (K : Kept s ar
 
   -- the error that it answers is the judgement of the words as delivered, with the number that the block is due
   pub report-judged : words ≢ []
-      → reportBy s area channel unit outcome words .error ≡ judged words (f .sequence) (f .check) (numberAfter 1 (L .came)) .error
+      → reportBy s area channel unit outcome words .error ≡ judgedBlock words (f .sequence) (f .check) (numberAfter 1 (L .came)) .error
   unfolding reportBy
   report-judged some = go (isDelivery effect) refl
     where
       go : (t : Bool) → isDelivery effect ≡ t
-          → reportChange s area channel unit outcome words .error ≡ judged words (f .sequence) (f .check) (numberAfter 1 (L .came)) .error
+          → reportChange s area channel unit outcome words .error ≡ judgedBlock words (f .sequence) (f .check) (numberAfter 1 (L .came)) .error
       go true d =
           let D = report-delivers s area channel unit outcome words (K .good .sixteen) number d in
-          ap (λ (x : ReportChange). x .error) change ∙ cond-true (judged words (f .sequence) (f .check) (f .block) .error) 0 d
-          ∙ ap (λ (n : ℕ). judged words (f .sequence) (f .check) n .error)
+          ap (λ (x : ReportChange). x .error) change ∙ cond-true (judgedBlock words (f .sequence) (f .check) (f .block) .error) 0 d
+          ∙ ap (λ (n : ℕ). judgedBlock words (f .sequence) (f .check) n .error)
           (K .told i .brought open-file (taken-input (s .m) (s .w) f S (D .side)) .number)
       go false d = absurd (some (no-words d))

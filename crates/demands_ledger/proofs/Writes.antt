@@ -17,7 +17,7 @@ use Rattle.file.specs.Sides.{bufferAt, slotAt, startAt, isSide, partSide, oldes
 use Rattle.file.specs.Fills.{withSlot, turnedBy, filledAt, emptiedAt, withoutOldest}
 use Rattle.word.specs.CheckWords.{nextNumber, extra}
 use Rattle.file_output.specs.Puts.{putSide, wordsAfter, added, afterPut}
-use Rattle.file_output.specs.Parts.{partStart, partLength, isComplete, sealed}
+use Rattle.file_output.specs.Parts.{partStart, partLength, isComplete, sealedFile}
 use Rattle.file_output.specs.Sends.{sendStart, sendWords}
 use Rattle.file_input.specs.Ages.{Block, line}
 use Rattle.file_input.proofs.Ages.{block, young, Aged, noBlock, old, aged, added-line}
@@ -162,8 +162,8 @@ module _ (m w : ℕ) (f : File) (S : Sound m w f) (part : isSide (partSide f) �
   Q : PutAt f (partSide f)
   Q = subst (PutAt f) (part-first f part) (put-at m w f S (room-too f part))
 
-  pub seal-wrote : Wrote w (sealed f) zs puts sent
-  unfolding sealed filledAt partStart
+  pub seal-wrote : Wrote w (sealedFile f) zs puts sent
+  unfolding sealedFile filledAt partStart
   seal-wrote =
       wrote-block w f (filledAt f (partSide f) (partLength f) 0) xs zs puts sent
       (slot-same f (partSide f) (Full (partLength f) 0 0) (turnedBy f (partSide f)) (nextNumber (f .block))) T

@@ -5,7 +5,7 @@ use mathlib.Core.List.{List, [], _∷_, _++_, map}
 use Rattle.area.specs.Parts.{partOf}
 use Rattle.word.specs.Sums.{logicalSum}
 use Rattle.word.specs.CheckWords.{checkWord, nextNumber, extra}
-use Rattle.block.specs.Blocks.{judged}
+use Rattle.block.specs.Blocks.{judgedBlock}
 use Rattle.file.specs.declared.File.{File}
 use Rattle.file_output.specs.Parts.{partStart, partLength}
 use Rattle.file_input.specs.Ages.{Block, line}
@@ -52,7 +52,7 @@ joined (x ∷ xs) = x ++ joined xs
 unfoldable pub contents : Bool → Bool → ℕ → List (List ℕ) → List Item
 contents sequence check k [] = []
 contents sequence check k (words ∷ rest) =
-    contentsOf sequence check (judged words sequence check k .error) words ++ contents sequence check (nextNumber k) rest
+    contentsOf sequence check (judgedBlock words sequence check k .error) words ++ contents sequence check (nextNumber k) rest
 
 -- the number after so many blocks
 unfoldable pub numberAfter : ℕ → List (List ℕ) → ℕ

@@ -75,11 +75,11 @@ abbrev pub owedFor : Bool → Bool → ℕ → List ℕ → List (List Item)
 owedFor sequence check error [] = []
 owedFor sequence check error (x ∷ xs) = contentsOf sequence check error (x ∷ xs) ∷ []
 
-abbrev pub errorOf : Added → ℕ
-errorOf nothing = 0
-errorOf (working u) = 0
-errorOf (reported result error u) = error
-errorOf (got g) = 0
+abbrev pub toldError : Added → ℕ
+toldError nothing = 0
+toldError (working u) = 0
+toldError (reported result error u) = error
+toldError (got g) = 0
 
 -- a report: the block delivered with it, and the block that its answer shows
 abbrev pub withReport : List ℕ → Answer → Ledger → Ledger
@@ -93,7 +93,7 @@ withReport words a g = record {
   sent = g .sent ++ asBlock (a .shows);
   came = g .came ++ asBlock words;
   gone = g .gone;
-  owed = g .owed ++ owedFor (g .sequence) (g .check) (errorOf (a .added)) words;
+  owed = g .owed ++ owedFor (g .sequence) (g .check) (toldError (a .added)) words;
 }
 
 -- what get gave: a check error, or the words that its answer shows

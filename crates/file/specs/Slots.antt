@@ -5,11 +5,11 @@ use Rattle.file.specs.declared.Slot.{Slot}
 use Rattle.file.specs.declared.Slot.the-variants.{Empty, Taken, Part, Full}
 
 -- the kinds in order: empty, taken, part-filled, full
-abbrev pub kindOf : Slot → ℕ
-kindOf Empty = 0
-kindOf Taken = 1
-kindOf (Part n) = 2
-kindOf (Full n at e) = 3
+abbrev pub slotKind : Slot → ℕ
+slotKind Empty = 0
+slotKind Taken = 1
+slotKind (Part n) = 2
+slotKind (Full n at e) = 3
 
 abbrev pub isEmpty : Slot → Bool
 isEmpty Empty = true

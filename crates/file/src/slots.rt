@@ -1,7 +1,7 @@
 // What a slot is, and the numbers in it; 0 where it has none.
 use crate::Slot;
 ghost use mathlib.Core.Path.{_≡_};
-ghost use Rattle.file.specs.Slots.{kindOf, isEmpty, isTaken, isPart, isFull, partWords, fullWords, fullPlace, fullError};
+ghost use Rattle.file.specs.Slots.{slotKind, isEmpty, isTaken, isPart, isFull, partWords, fullWords, fullPlace, fullError};
 
 // What a slot is, as a number.
 const EMPTY: u8 = 0;
@@ -13,7 +13,7 @@ const PART: u8 = 2;
 const FULL: u8 = 3;
 
 fn kind(x: Slot) -> u8
-    ensures { λ r. ⌜ r ≡ kindOf x ⌝ }
+    ensures { λ r. ⌜ r ≡ slotKind x ⌝ }
 {
     match x {
         Slot::Empty => EMPTY,

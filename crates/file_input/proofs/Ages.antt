@@ -17,9 +17,9 @@ use Rattle.file.specs.Slots.{isEmpty, isTaken, isPart, isFull}
 use Rattle.file.specs.Sides.{bufferAt, slotAt, isSide, emptySide, takenSide, partSide, oldest}
 use Rattle.file.specs.Fills.{withSlot, filledAt, emptiedAt, withoutOldest}
 use Rattle.file.specs.Sizes.{openedFile}
-use Rattle.file_input.specs.Delivers.{tookBuffer, delivered, gaveBack, withMark, metMark}
+use Rattle.file_input.specs.Delivers.{tookBuffer, delivered, gaveBack, withFileMark, metMark}
 use Rattle.file_output.specs.Puts.{putSide, wordsAfter, added}
-use Rattle.file_output.specs.Parts.{partLength, sealed}
+use Rattle.file_output.specs.Parts.{partLength, sealedFile}
 use Rattle.file_input.specs.Ages.{Block, fullIn, fullAt, inOrder, line}
 use Rattle.file.proofs.Which.{lower-cases}
 
@@ -174,7 +174,7 @@ pub back-line : (f : File) → line (gaveBack f) ≡ line f
 unfolding gaveBack emptiedAt
 back-line f = quiet f (takenSide f) Empty false (f .block) (taken-none f) (λ b. refl)
 
-mark-line : (f : File) → line (withMark f) ≡ line f
+mark-line : (f : File) → line (withFileMark f) ≡ line f
 unfolding line
 mark-line f = refl
 
@@ -190,8 +190,8 @@ added-line f = go (leb (wordsAfter f) (f .size))
     go true = quiet f (putSide f) (Part (wordsAfter f)) false (f .block) (put-none f) (λ b. refl)
     go false = refl
 
-pub sealed-line : (f : File) → isSide (partSide f) ≡ true → line (sealed f) ≡ line f ++ (block (bufferAt f (partSide f) .number) (partLength f) 0 0 ∷ [])
-unfolding sealed
+pub sealed-line : (f : File) → isSide (partSide f) ≡ true → line (sealedFile f) ≡ line f ++ (block (bufferAt f (partSide f) .number) (partLength f) 0 0 ∷ [])
+unfolding sealedFile
 sealed-line f s = young f (partSide f) (partLength f) 0 s (part-none f)
 
 -- the oldest leaves first

@@ -19,7 +19,7 @@ use Rattle.file.specs.Sides.{bufferAt, slotAt, isSide, takenSide, partSide, old
 use Rattle.file.specs.Fills.{withSlot, filledAt, withoutOldest}
 use Rattle.file_input.specs.Delivers.{tookBuffer, delivered, gaveBack, metMark}
 use Rattle.file_output.specs.Puts.{added, afterPut}
-use Rattle.file_output.specs.Parts.{isComplete, partLength, sealed}
+use Rattle.file_output.specs.Parts.{isComplete, partLength, sealedFile}
 use Rattle.file.specs.Sizes.{openedFile}
 use Rattle.file_input.specs.Ages.{Block, fullIn, fullAt, inOrder, line}
 use Rattle.file_input.proofs.Ages.{block, taken-none, part-none, young, Aged, noBlock, old, aged, opened-line, took-line, back-line, met-line, added-line, oldest-leaves}
@@ -48,10 +48,10 @@ filled-line f High n e q = ap (map number) (young f High n e refl q) ∙ map-app
 filled-line f Neither n e q = sym (append-nil (buffersInLine f))
 
 put-line : (f : File) → buffersInLine (afterPut f) ≡ buffersInLine f ++ becomesFull f put
-unfolding afterPut sealed
+unfolding afterPut sealedFile
 put-line f = go (isComplete (added f))
   where
-    go : (t : Bool) → buffersInLine (cond t (sealed (added f)) (added f)) ≡ buffersInLine f ++ cond t (numberOf (added f) (partSide (added f))) []
+    go : (t : Bool) → buffersInLine (cond t (sealedFile (added f)) (added f)) ≡ buffersInLine f ++ cond t (numberOf (added f) (partSide (added f))) []
     go true =
         filled-line (added f) (partSide (added f)) (partLength (added f)) 0 (part-none (added f))
         ∙ ap (λ (l : List Block). map number l ++ numberOf (added f) (partSide (added f))) (added-line f)
@@ -118,7 +118,7 @@ gone : (f : File) (n : ℕ) → drop n (buffersInLine f) ≡ drop n (buffersInLi
 gone f n = ap (drop n) (sym (append-nil (buffersInLine f)))
 
 pub event-line : (f : File) (e : Event) → buffersInLine (after f e) ≡ drop (becomeEmpty f e) (buffersInLine f ++ becomesFull f e)
-unfolding delivered sealed
+unfolding delivered sealedFile
 event-line f read = still f (tookBuffer f) (took-line f)
 event-line f (deliver n e) = filled-line f (takenSide f) n e (taken-none f)
 event-line f giveBack = still f (gaveBack f) (back-line f)

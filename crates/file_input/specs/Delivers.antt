@@ -28,8 +28,8 @@ delivered f n e = filledAt f (takenSide f) n e
 unfoldable pub gaveBack : File → File
 gaveBack f = emptiedAt f (takenSide f)
 
-abbrev pub withMark : File → File
-withMark f = record {
+abbrev pub withFileMark : File → File
+withFileMark f = record {
   opened = f .opened;
   channel = f .channel;
   unit = f .unit;
@@ -48,7 +48,7 @@ withMark f = record {
 
 -- a read that ends with a mark; refusal 10, "a file mark has been read since the open"
 unfoldable pub metMark : File → File
-metMark f = withMark (gaveBack f)
+metMark f = withFileMark (gaveBack f)
 
 -- refusal 9, "Ask write, skip: no full buffer"
 abbrev pub hasFull : File → Bool

@@ -9,7 +9,7 @@ use Rattle.file.specs.Sides.{bufferAt, slotAt, isSide, takenSide, partSide, old
 use Rattle.file.specs.Fills.{withoutOldest}
 use Rattle.file_input.specs.Delivers.{tookBuffer, delivered, gaveBack, metMark}
 use Rattle.file_output.specs.Puts.{added, afterPut}
-use Rattle.file_output.specs.Parts.{isComplete, sealed}
+use Rattle.file_output.specs.Parts.{isComplete, sealedFile}
 use Rattle.file_input.specs.Ages.{Block, line}
 use Rattle.file_input.specs.declared.Got.{Got}
 use Rattle.file_input.specs.Gets.{isUsedUp, passed, lookedAt, afterFound, getFrom, gotStart, gotWords}
@@ -43,7 +43,7 @@ after f mark = metMark f
 after f get = afterFound (lookedAt f)
 after f skip = withoutOldest f
 after f put = afterPut f
-after f seal = sealed f
+after f seal = sealedFile f
 after f send = withoutOldest f
 
 -- the buffers of the full blocks, the oldest first

@@ -23,5 +23,5 @@ unfoldable pub isComplete : File → Bool
 isComplete f = ltb (f .size) (partLength f + f .rlen)
 
 -- "the block is sealed ..: it gets its check word and is full"
-unfoldable pub sealed : File → File
-sealed f = filledAt f (partSide f) (partLength f) 0
+unfoldable pub sealedFile : File → File
+sealedFile f = filledAt f (partSide f) (partLength f) 0

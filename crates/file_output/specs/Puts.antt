@@ -8,7 +8,7 @@ use Rattle.file.specs.declared.File.{File}
 use Rattle.file.specs.Slots.{partWords}
 use Rattle.file.specs.Sides.{slotAt, startAt, isSide, emptySide, partSide}
 use Rattle.file.specs.Fills.{withSlot}
-use Rattle.file_output.specs.Parts.{isComplete, sealed}
+use Rattle.file_output.specs.Parts.{isComplete, sealedFile}
 
 -- "adds them to the part-filled buffer, or to the lowest empty one"
 unfoldable pub putSide : File → Side
@@ -32,4 +32,4 @@ added f = cond (leb (wordsAfter f) (f .size)) (withSlot f (putSide f) (Part (wor
 
 -- "If less than r then remains of B, the block is sealed at once"
 unfoldable pub afterPut : File → File
-afterPut f = cond (isComplete (added f)) (sealed (added f)) (added f)
+afterPut f = cond (isComplete (added f)) (sealedFile (added f)) (added f)

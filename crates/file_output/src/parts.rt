@@ -8,7 +8,7 @@ use file::slot_at;
 use file::start_at;
 ghost use mathlib.Core.Path.{_≡_};
 ghost use Prim.Native.Nat.{_<_};
-ghost use Rattle.file_output.specs.Parts.{hasPart, partStart, partLength, isComplete, sealed as sealedOf};
+ghost use Rattle.file_output.specs.Parts.{hasPart, partStart, partLength, isComplete, sealedFile as sealedOf};
 
 // Whether there is a part-filled buffer, which a seal needs.
 pub fn has_part(f: File) -> bool

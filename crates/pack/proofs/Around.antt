@@ -10,7 +10,8 @@ use Rattle.channel_theorems.specs.History as history
 use Rattle.channel_theorems.specs.Lifted.{System, runIn, countShown, countIn}
 use Rattle.state.specs.declared.State.{State}
 use Rattle.pack.specs.Calls.{Call, fresh, opening, close, ask, report, get, put, seal, skip, freeze, thaw, Answer, answerOf}
-use Rattle.pack.specs.Histories.{Lent, answerTo, after, isAccepted, oneIf, count, freshStart}
+use Rattle.pack.specs.Histories.{Lent, answerTo, after, isAccepted, count, freshStart}
+use Rattle.area.specs.Lists.{oneIf}
 use Rattle.pack.proofs.Refused.{call-alone}
 use Rattle.pack.proofs.Kept as kept
 use Rattle.pack.proofs.Kept.{call-kept}

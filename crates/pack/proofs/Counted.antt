@@ -21,7 +21,8 @@ use Rattle.pack_request.specs.Calls.{reportBy}
 use Rattle.pack_request.proofs.ReportTheorems.{report-exactly, report-event}
 use Rattle.pack.specs.Calls.{Call, fresh, opening, close, ask, report, get, put, seal, skip, freeze, thaw, Answer, answerOf}
 use Rattle.pack.specs.Histories as h
-use Rattle.pack.specs.Histories.{isAccepted, oneIf, ofReport, ofAsk, answerFor, priorityOn, requestOf, isAnswer}
+use Rattle.pack.specs.Histories.{isAccepted, ofReport, ofAsk, isAnswerFor, isPriorityOn, isRequestOf, isAnswer}
+use Rattle.area.specs.Lists.{oneIf}
 use Rattle.pack.specs.Tables.{rowsOf}
 use Rattle.area.specs.Refusals.{lowest}
 use Rattle.channel.specs.declared.Op.{Op}
@@ -137,14 +138,14 @@ module _ (c : ℕ) where
   answers-by (Ends LostIncomplete) = refl
 
   -- reports, answers, priority requests and requests are what the channel counts as such
-  pub report-matches : Matches c (h.reportOn c) aReport
+  pub report-matches : Matches c (h.isReportOn c) aReport
   unfolding Matches
   report-matches s area g =
       reports-match s area aReport refl refl (λ a channel unit. eqb channel c) (λ u op p. refl)
       (λ channel unit outcome words z.
       ap (λ (b : Bool). eqb channel c && b) (report-event s area channel unit outcome words (g .sixteen) z .counted) ∙ and-true (eqb channel c))
 
-  pub answer-matches : (u : ℕ) → Matches c (answerFor c u) (anAnswerTo u)
+  pub answer-matches : (u : ℕ) → Matches c (isAnswerFor c u) (anAnswerTo u)
   unfolding Matches answerOf
   answer-matches u s area g =
       reports-match s area (anAnswerTo u) refl refl (λ a channel unit. eqb channel c && (eqb unit u && isAnswer (a .added))) (λ v op p. refl)
@@ -152,13 +153,13 @@ module _ (c : ℕ) where
       ap (λ (b : Bool). eqb channel c && (eqb unit u && b))
       (answers-by (judgeOf (channelAt s channel) unit outcome) ∙ ap (λ (n : ℕ). not (eqb n 0)) (sym (result-is s area channel unit outcome words z))))
 
-  pub priority-matches : Matches c (priorityOn c) aPriority
+  pub priority-matches : Matches c (isPriorityOn c) aPriority
   unfolding Matches
   priority-matches s area g =
       asks-match s area aPriority refl refl (λ file priority. eqb (fileAt s file .channel) c && isPriority priority) (λ u o a. refl)
       (λ file op priority. ap (λ (b : Bool). eqb (fileAt s file .channel) c && b) (and-true (isPriority priority)))
 
-  pub request-matches : (u : ℕ) → Matches c (requestOf c u) (aRequestOf u)
+  pub request-matches : (u : ℕ) → Matches c (isRequestOf c u) (aRequestOf u)
   unfolding Matches
   request-matches u s area g =
       asks-match s area (aRequestOf u) refl refl (λ file priority. eqb (fileAt s file .channel) c && eqb (fileAt s file .unit) u) (λ v o a. refl)

@@ -21,7 +21,7 @@ use Rattle.pack_record.specs.Gets.{getChange, getBy}
 use Rattle.pack_record.specs.Skips.{skipChange, skipBy}
 use Rattle.pack_record.specs.Puts.{putChange, putBy}
 use Rattle.pack_record.specs.Seals.{sealChange, sealBy}
-use Rattle.pack_start.proofs.FreshTheorems.{fresh-refused, fresh-accepted, fresh-kept}
+use Rattle.pack_start.proofs.FreshTheorems.{fresh-refused, fresh-accepted, fresh-judged, fresh-kept}
 use Rattle.pack_open.proofs.OpenTheorems.{open-kept}
 use Rattle.pack_open.proofs.CloseTheorems.{close-kept}
 use Rattle.pack_start.proofs.FreezeTheorems.{freeze-kept, freeze-frame, thaw-kept, thaw-frame}
@@ -113,7 +113,12 @@ pub good-before : Good beforeStart
 unfolding beforeStart
 good-before = record { right = before-start-sound; sixteen = refl }
 
--- the state that an accepted fresh start leaves, whatever was passed to it
+-- "a state passed back is unsound": an accepted fresh start was passed a sound state
+pub start-judged : (s : State) (area : List ℕ) (m w : ℕ) (masks : Masks) → answerOf s area (fresh m w masks) .refusal ≡ 0 → sound s ≡ true
+unfolding answerOf
+start-judged s area m w masks e = fresh-judged s (length area) m w masks e
+
+-- the state that an accepted fresh start leaves
 pub good-start : (s : State) (area : List ℕ) (m w : ℕ) (masks : Masks) → answerOf s area (fresh m w masks) .refusal ≡ 0
     → Good (answerOf s area (fresh m w masks) .state)
 unfolding answerOf freshState

@@ -3,7 +3,7 @@ use Prim.Native.Nat.{ℕ, _+_}
 use mathlib.Core.Bool.{Bool, true, false, not, cond, _&&_}
 use mathlib.Core.List.{List, [], _∷_}
 use lib.Dec.{eqb}
-use Rattle.area.specs.Lists.{countOf}
+use Rattle.area.specs.Lists.{oneIf, countOf}
 use Rattle.channel.specs.declared.Unit.{Unit}
 use Rattle.state.specs.declared.State.{State}
 use Rattle.state.specs.Places.{fileAt, channelAt}
@@ -27,9 +27,6 @@ after s (x ∷ h) = after (answerTo s x .state) h
 
 abbrev pub isAccepted : Answer → Bool
 isAccepted a = eqb (a .refusal) 0
-
-abbrev pub oneIf : Bool → ℕ
-oneIf b = cond b 1 0
 
 -- how many accepted calls of a history are of a kind, which is told by the state before the call, the call, and its answer
 unfoldable pub count : (State → Call → Answer → Bool) → State → List Lent → ℕ
@@ -81,8 +78,8 @@ abbrev pub freshStart : State → Call → Answer → Bool
 freshStart s call a = ofFresh call
 
 -- reports on channel c
-abbrev pub reportOn : ℕ → State → Call → Answer → Bool
-reportOn c s call a = ofReport (λ channel unit. eqb channel c) call
+abbrev pub isReportOn : ℕ → State → Call → Answer → Bool
+isReportOn c s call a = ofReport (λ channel unit. eqb channel c) call
 
 -- "results are 00 repeated, ..": every other result answers the request
 abbrev pub isAnswer : Added → Bool
@@ -92,16 +89,16 @@ isAnswer (reported result error u) = not (eqb result 0)
 isAnswer (got g) = false
 
 -- answers to the request of unit u on channel c
-abbrev pub answerFor : ℕ → ℕ → State → Call → Answer → Bool
-answerFor c u s call a = ofReport (λ channel unit. eqb channel c && (eqb unit u && isAnswer (a .added))) call
+abbrev pub isAnswerFor : ℕ → ℕ → State → Call → Answer → Bool
+isAnswerFor c u s call a = ofReport (λ channel unit. eqb channel c && (eqb unit u && isAnswer (a .added))) call
 
 -- priority requests on channel c
-abbrev pub priorityOn : ℕ → State → Call → Answer → Bool
-priorityOn c s call a = ofAsk (λ file priority. eqb (fileAt s file .channel) c && isPriority priority) call
+abbrev pub isPriorityOn : ℕ → State → Call → Answer → Bool
+isPriorityOn c s call a = ofAsk (λ file priority. eqb (fileAt s file .channel) c && isPriority priority) call
 
 -- requests of unit u on channel c
-abbrev pub requestOf : ℕ → ℕ → State → Call → Answer → Bool
-requestOf c u s call a = ofAsk (λ file priority. eqb (fileAt s file .channel) c && eqb (fileAt s file .unit) u) call
+abbrev pub isRequestOf : ℕ → ℕ → State → Call → Answer → Bool
+isRequestOf c u s call a = ofAsk (λ file priority. eqb (fileAt s file .channel) c && eqb (fileAt s file .unit) u) call
 
 -- the declared units of channel c
 abbrev pub declaredOn : State → ℕ → ℕ

@@ -1,7 +1,7 @@
 -- Each call's rows of the refusal table (document 01, "Refusal numbers"), for the state that is passed and the area that is lent.
 -- Assumes nothing.
 use Prim.Native.Nat.{ℕ}
-use mathlib.Core.Bool.{Bool}
+use mathlib.Core.Bool.{Bool, not}
 use mathlib.Core.List.{List, [], _∷_}
 use lib.Dec.{eqb}
 use lib.ListN.{length}
@@ -11,6 +11,7 @@ use Rattle.file_input.specs.Gets.{getFrom}
 use Rattle.pool.specs.Serving.{isBound}
 use Rattle.state.specs.declared.State.{State}
 use Rattle.state.specs.Places.{fileAt, channelAt}
+use Rattle.state_sound.specs.Soundness.{sound}
 use Rattle.pack_record.specs.Misused.{misused}
 use Rattle.pack_start.specs.Fresh.{freshRows}
 use Rattle.call_open.specs.Open.{wishOf, freeOf, openRows}

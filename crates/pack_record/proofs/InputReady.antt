@@ -19,7 +19,8 @@ use Rattle.file.specs.Fills.{withSlot, emptiedAt, withoutOldest}
 use Rattle.file_input.specs.Delivers.{hasFull}
 use Rattle.file_input.proofs.Ages.{Aged, noBlock, old, aged}
 use Rattle.file_input.specs.Gets.{isUsedUp, passed, lookedAt, slotAfter, afterFound, getFrom}
-use Rattle.state_sound.specs.Files.{oneIf, takenCount}
+use Rattle.state_sound.specs.Files.{takenCount}
+use Rattle.area.specs.Lists.{oneIf}
 use Rattle.state_sound.specs.Requests.{isRead, isWrite, fitsOutput}
 use Rattle.state_sound.specs.Judged.{fileReady}
 

@@ -18,10 +18,11 @@ use Rattle.file.specs.Sides.{isSide, lower, oldest, partSide}
 use Rattle.file.specs.Fills.{withSlot, turnedBy, filledAt}
 use Rattle.file_input.specs.Delivers.{hasFull}
 use Rattle.file_output.specs.Puts.{putSide, wordsAfter, added, afterPut}
-use Rattle.file_output.specs.Parts.{partLength, sealed}
+use Rattle.file_output.specs.Parts.{partLength, sealedFile}
 use Rattle.file_input.specs.Ages.{line}
 use Rattle.file_input.proofs.Ages.{Aged, noBlock, old, aged, added-line}
-use Rattle.state_sound.specs.Files.{oneIf, takenCount}
+use Rattle.state_sound.specs.Files.{takenCount}
+use Rattle.area.specs.Lists.{oneIf}
 use Rattle.state_sound.proofs.FileFacts.{Sound}
 use Rattle.state_sound.proofs.Puts.{PutAt, put-at, put-is}
 use Rattle.state_sound.specs.Requests.{isRead, isWrite, fitsOutput}
@@ -47,8 +48,8 @@ filled-full f Low n s = low-side (isFull (f .high .slot)) (turnedBy f Low)
 filled-full f High n s = lower-side (isFull (f .low .slot)) true (turnedBy f High) refl
 filled-full f Neither n s = true-not-false s refl
 
-pub sealed-full : (f : File) → isSide (partSide f) ≡ true → hasFull (sealed f) ≡ true
-unfolding sealed
+pub sealed-full : (f : File) → isSide (partSide f) ≡ true → hasFull (sealedFile f) ≡ true
+unfolding sealedFile
 sealed-full f s = filled-full f (partSide f) (partLength f) s
 
 -- a file has a full block exactly if its line is not empty

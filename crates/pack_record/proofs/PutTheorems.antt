@@ -34,7 +34,7 @@ use Rattle.state_sound.proofs.Facts.{SoundFacts, sound-facts, facts-sound}
 use Rattle.state_sound.proofs.Kept.{file-kept, holdings, place-of}
 use Rattle.pack_record.specs.Only.{Only}
 use Rattle.call_record.specs.Blocks.{heldRight}
-use Rattle.call_record.specs.Put.{isTaken, sums, putRows, putRefusal, putArea, putOn, putOnArea}
+use Rattle.call_record.specs.Put.{isPutTaken, sums, putRows, putRefusal, putArea, putOn, putOnArea}
 use Rattle.pack_record.specs.Puts.{putChange, putBy, putByArea}
 use Rattle.pack_record.proofs.Written.{only-self, other-buffer}
 use Rattle.pack_record.proofs.Fillings.{withCheck, put-only, put-buffer, put-added, put-sealed}
@@ -99,9 +99,9 @@ module _ (s : State) (area : List ℕ) (file : ℕ) (words : List ℕ) where
     -- the words that a put that seals finds in the buffer
     pub put-held-right : isComplete (added f) ≡ true → f .check ≡ true → heldRight (s .w) f area ≡ true
     put-held-right c k =
-        let taken : isTaken f (length words) ≡ true =
+        let taken : isPutTaken f (length words) ≡ true =
         and-both (f .opened) _ put-open (and-both (f .output) _ put-output (and-both (hasRoom f) _ put-room (eq-eqb (length words) (f .rlen) put-exact))) in
-        let summed : sums f (length words) ≡ true = and-both (isTaken f (length words)) _ taken (and-both (isComplete (added f)) _ c k) in
+        let summed : sums f (length words) ≡ true = and-both (isPutTaken f (length words)) _ taken (and-both (isComplete (added f)) _ c k) in
         not-false _ (sym (ap (λ (b : Bool). b && not (heldRight (s .w) f area)) summed) ∙ or-right (not (allOf isWord words)) _ spoilt)
 
     S : Sound (s .m) (s .w) f

@@ -17,7 +17,7 @@ use Rattle.file.specs.declared.File.{File}
 use Rattle.file.specs.Sides.{bufferAt, partSide}
 use Rattle.file.specs.Sizes.{closedFile}
 use Rattle.word.specs.CheckWords.{extra}
-use Rattle.file_output.specs.Parts.{hasPart, partStart, partLength, sealed}
+use Rattle.file_output.specs.Parts.{hasPart, partStart, partLength, sealedFile}
 use Rattle.file_input.specs.Histories as histories
 use Rattle.state_sound.proofs.FileFacts.{Sound}
 use Rattle.state_sound.proofs.Changes.{sealed-sound}
@@ -92,23 +92,23 @@ module _ (s : State) (area : List ℕ) (file : ℕ) where
     S : Sound (s .m) (s .w) f
     S = sound-facts s seal-state-sound .files file seal-open
 
-    seal-is : (sealBy s area file .state ≡ withFile s file (sealed f)) × (sealByArea s area file ≡ sealedArea (s .w) f area)
+    seal-is : (sealBy s area file .state ≡ withFile s file (sealedFile f)) × (sealByArea s area file ≡ sealedArea (s .w) f area)
     unfolding sealBy sealOn sealByArea sealOnArea
     seal-is =
         let e : sealRefusal (misused s (length area) file) f (s .w) area ≡ 0 = accepted in
         (rw e, rw e)
 
     -- the file after it stands in its place
-    pub seal-file : fileAt (sealBy s area file .state) file ≡ sealed f
+    pub seal-file : fileAt (sealBy s area file .state) file ≡ sealedFile f
     unfolding withFile
-    seal-file = ap (λ (t : State). fileAt t file) (seal-is .0) ∙ getD-set-same (s .files) file (sealed f) closedFile (place-of s file seal-open)
+    seal-file = ap (λ (t : State). fileAt t file) (seal-is .0) ∙ getD-set-same (s .files) file (sealedFile f) closedFile (place-of s file seal-open)
 
-    kept-facts : SoundFacts (withFile s file (sealed f))
+    kept-facts : SoundFacts (withFile s file (sealedFile f))
     kept-facts =
         let F = sound-facts s seal-state-sound in
         let T = sealed-sound (s .m) (s .w) f S seal-part in
-        file-kept s file (sealed f) F seal-open (holdings f (sealed f) (event-alike f histories.seal)) T
-        (output-ready (s .m) (s .w) (requestOf (s .channels) f) f (sealed f) S T seal-output (event-alike f histories.seal .output) (λ h. sealed-full f seal-part) (F .ready file seal-open))
+        file-kept s file (sealedFile f) F seal-open (holdings f (sealedFile f) (event-alike f histories.seal)) T
+        (output-ready (s .m) (s .w) (requestOf (s .channels) f) f (sealedFile f) S T seal-output (event-alike f histories.seal .output) (λ h. sealed-full f seal-part) (F .ready file seal-open))
 
     -- nothing of the area changes but the check word, if there is one
     pub seal-writes : Only (partStart (s .w) f + partLength f) (extra (f .sequence) (f .check)) area (sealByArea s area file)
@@ -132,7 +132,7 @@ module _ (s : State) (area : List ℕ) (file : ℕ) where
       go : (t : Bool) → eqb (sealBy s area file .refusal) 0 ≡ t → sound (sealBy s area file .state) ≡ true
       go true e =
           let a = eqb-true (sealBy s area file .refusal) 0 e in
-          ap sound (seal-is a .0) ∙ facts-sound (withFile s file (sealed f)) (kept-facts a)
+          ap sound (seal-is a .0) ∙ facts-sound (withFile s file (sealedFile f)) (kept-facts a)
       go false e = ap sound (seal-refused (λ z. true-not-false (ap (λ (n : ℕ). eqb n 0) z) e) .0) ∙ h
 
   -- every other file, every channel and the pool are as they were

@@ -16,7 +16,7 @@ use Rattle.area.specs.Parts.{isWord, partOf, paste, pastedIn}
 use Rattle.area.proofs.Pastes.{length-part, length-paste, paste-fitting, paste-part, paste-before, paste-after}
 use Rattle.word.specs.Sums.{logicalSum}
 use Rattle.word.specs.CheckWords.{checkWord, IsCheckWord, extra}
-use Rattle.block.specs.Blocks.{sealRefusal, sealed}
+use Rattle.block.specs.Blocks.{blockSealRefusal, sealedBlock}
 use Rattle.word.proofs.Laws.CheckWord.{check-word-is}
 use Rattle.block.proofs.Laws.Block.{seal-accepted, seal-writes, seal-leaves}
 use Rattle.pack_record.specs.Only.{Only}
@@ -78,7 +78,7 @@ module _ (at w n : ℕ) (sequence check : Bool) (number : ℕ) (xs : List ℕ)
   same-words : take n (partOf at w xs) ≡ partOf at n xs
   same-words = take-take n w (drop at xs) (omega arith)
 
-  accepted : sealRefusal (partOf at w xs) n sequence check number ≡ 0
+  accepted : blockSealRefusal (partOf at w xs) n sequence check number ≡ 0
   accepted =
       let long : length (partOf at w xs) ≡ w = length-part at w xs inside in
       seal-accepted (partOf at w xs) n sequence check number numbered (omega arith)
@@ -95,10 +95,10 @@ module _ (at w n : ℕ) (sequence check : Bool) (number : ℕ) (xs : List ℕ)
   sealed-sets e =
       let long : length (partOf at w xs) ≡ w = length-part at w xs inside in
       let one : extra sequence check ≡ 1 = rw e in
-      let written : sealed (partOf at w xs) n sequence check number ≡ set (partOf at w xs) n checkOf =
+      let written : sealedBlock (partOf at w xs) n sequence check number ≡ set (partOf at w xs) n checkOf =
       seal-writes (partOf at w xs) n sequence check number accepted e
       ∙ ap (λ (l : List ℕ). set (partOf at w xs) n (checkWord sequence check (logicalSum l) number)) same-words in
-      back (sealed (partOf at w xs) n sequence check number) (length-sealed n sequence check number (partOf at w xs) ∙ long)
+      back (sealedBlock (partOf at w xs) n sequence check number) (length-sealed n sequence check number (partOf at w xs) ∙ long)
       ∙ ap (putMid at w xs) written
       ∙ set-mid-at at w n xs checkOf (omega arith)
 
@@ -107,7 +107,7 @@ module _ (at w n : ℕ) (sequence check : Bool) (number : ℕ) (xs : List ℕ)
   unfolding sealedIn
   sealed-same e =
       let long : length (partOf at w xs) ≡ w = length-part at w xs inside in
-      back (sealed (partOf at w xs) n sequence check number) (length-sealed n sequence check number (partOf at w xs) ∙ long)
+      back (sealedBlock (partOf at w xs) n sequence check number) (length-sealed n sequence check number (partOf at w xs) ∙ long)
       ∙ ap (putMid at w xs) (seal-leaves (partOf at w xs) n sequence check number accepted e)
       ∙ put-same at w xs
 

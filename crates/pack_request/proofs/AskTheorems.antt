@@ -22,7 +22,8 @@ use Rattle.channel_turns.proofs.Laws.Starts as turns
 use Rattle.file.specs.declared.File.{File}
 use Rattle.file_input.specs.Delivers.{hasEmpty, hasFull}
 use Rattle.file_output.specs.Sends.{hasUnsent}
-use Rattle.state_sound.specs.Files.{oneIf, takenCount}
+use Rattle.state_sound.specs.Files.{takenCount}
+use Rattle.area.specs.Lists.{oneIf}
 use Rattle.state.specs.declared.State.{State}
 use Rattle.state.specs.Places.{fileAt, channelAt}
 use Rattle.state.specs.Stores.{withFile, withChannel}

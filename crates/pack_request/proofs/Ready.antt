@@ -26,7 +26,8 @@ use Rattle.file_input.specs.Delivers.{hasEmpty, hasFull, blockFits, tookBuffer,
 use Rattle.file_output.specs.Sends.{hasUnsent, afterWrite}
 use Rattle.file.proofs.Which.{taken-there}
 use Rattle.file_input.specs.Histories.{read, giveBack, mark, send, deliver}
-use Rattle.state_sound.specs.Files.{oneIf, takenCount}
+use Rattle.state_sound.specs.Files.{takenCount}
+use Rattle.area.specs.Lists.{oneIf}
 use Rattle.state_sound.proofs.FileFacts.{Sound}
 use Rattle.state_sound.proofs.FilesKept.{other, taken-sides}
 use Rattle.state_sound.proofs.Changes.{taken-input, took-sound, delivered-sound, back-sound, dropped-sound, met-sound}

@@ -53,7 +53,7 @@ use Rattle.state_sound.proofs.ChannelCalls.{repeat-moved, end-moved}
 use Rattle.state_sound.proofs.Kept.{line-of}
 use Rattle.word.specs.CheckWords.{address, chosen}
 use Rattle.word.specs.Sums.{logicalSum, firstHalf, folded}
-use Rattle.block.specs.Blocks.{dataWords, judgeRefusal, judged, errorOf}
+use Rattle.block.specs.Blocks.{dataWords, judgeRefusal, judgedBlock, errorOf}
 use Rattle.call_request.specs.declared.Effect.{Effect}
 use Rattle.call_request.specs.declared.ReportChange.{ReportChange}
 use Rattle.pack_request.specs.declared.Reporting.{Reporting}
@@ -95,8 +95,8 @@ busy c u outcome (ended r e i j) = ap (λ (t : Turn). isNone (requested t)) i
 
 -- ---- a check error is 0 to 3
 
-error-small : (words : List ℕ) (sequence check : Bool) (number : ℕ) → judged words sequence check number .error ≤ 3
-unfolding judged errorOf
+error-small : (words : List ℕ) (sequence check : Bool) (number : ℕ) → judgedBlock words sequence check number .error ≤ 3
+unfolding judgedBlock errorOf
 error-small words sequence check number =
     let n = dataWords words sequence check in
     go (eqb (judgeRefusal words sequence check number) 0) sequence check (eqb (address (getD words n 0)) number)

@@ -17,7 +17,7 @@ use Rattle.session_frame.specs.Digits.{bytesOf}
 use Rattle.session_frame.specs.Writes.{placeAfter}
 use Rattle.session_frame.specs.declared.Frame.{Frame}
 use Rattle.session_frame.specs.declared.Frame.the-variants.{Malformed}
-use Rattle.session_frame.specs.Frames.{longest, isText, sized, freshOf, kindBy, kindOf, frameOf}
+use Rattle.session_frame.specs.Frames.{longest, isText, sized, freshFrom, kindBy, kindOf, frameOf}
 use Rattle.session_frame.proofs.Laws.Accepts.{frame-long}
 use Rattle.session_line.specs.declared.Line.{Line}
 use Rattle.session_line.specs.Lines.{Text, Overlong}
@@ -41,7 +41,7 @@ unfolding answerTo givenWords
 malformed-answer s area line e = ap (λ (f : Frame). replyTo s area (givenWords f line) f) e
 
 empty-malformed : frameOf [] ≡ Malformed
-unfolding frameOf isText kindOf kindBy freshOf sized bytesOf allOf
+unfolding frameOf isText kindOf kindBy freshFrom sized bytesOf allOf
 empty-malformed = refl
 
 -- ---- the text in the room

@@ -24,7 +24,7 @@ use Rattle.session_reply.specs.Turns.{answerOn}
 use Rattle.session.specs.Rooms.{mostText, lacksRooms, After, afterLine}
 use Rattle.session.proofs.Written.{IsAfter}
 use Rattle.session.specs.declared.Played.{Played}
-use Rattle.session.specs.Player.{Player, heldText, afterHeld, answeredTurn, openTurn, turnOf, isDone, playTurns, playPart, playedOf}
+use Rattle.session.specs.Player.{Player, playerWith, heldText, afterHeld, answeredTurn, openTurn, turnOf, isDone, playTurns, playPart, playedOf}
 
 -- ---- what an answer leaves of its room
 
@@ -86,13 +86,13 @@ player-is x y e = (
 module _ (s : State) (area : List ℕ) (line : Line) (room words bytes : List ℕ) (at : ℕ) (out : List ℕ) (end : ℕ) (step : Step) (filled : List ℕ)
     (stepped : step ≡ stepOf line (drop at bytes) at room) (made : filled ≡ roomOf line (drop at bytes) room) where
   abbrev before : Player
-  before = record { state = s; area = area; line = line; room = room; words = words; at = at; out = out; length = end }
+  before = playerWith s area line room words at out end
 
   pub turn-open : step .ended ≡ false
       → IsPlayer (turnOf bytes before) (record { state = s; line = step .line; at = step .at; length = end }) area filled words out
   unfolding turnOf openTurn
   turn-open e =
-      let x : Player = record { state = s; area = area; line = step .line; room = filled; words = words; at = step .at; out = out; length = end } in
+      let x : Player = playerWith s area (step .line) filled words (step .at) out end in
       player-is (turnOf bytes before) x
       (ap₂ (openTurn before) stepped made ∙ sym (cond-false _ _ (ap (λ (z : Step). z .ended) (sym stepped) ∙ e)))
 

@@ -27,6 +27,11 @@ pub record Player : Type 0 where
   pub out : List ℕ
   pub length : ℕ
 
+-- the player that has all this
+abbrev pub playerWith : State → List ℕ → Line → List ℕ → List ℕ → ℕ → List ℕ → ℕ → Player
+playerWith s area line room words at out written =
+    record { state = s; area = area; line = line; room = room; words = words; at = at; out = out; length = written }
+
 -- ---- a line's answer
 
 -- the line that stands in the room: nothing is kept of an overlong one, and the empty line stands for it, which is malformed too
@@ -105,16 +110,7 @@ pub record Written : Type 0 where
   pub player : Player
 
 abbrev pub fromFront : Player → ℕ → Player
-fromFront p at = record {
-  state = p .state;
-  area = p .area;
-  line = p .line;
-  room = p .room;
-  words = p .words;
-  at = at;
-  out = p .out;
-  length = 0;
-}
+fromFront p at = playerWith (p .state) (p .area) (p .line) (p .room) (p .words) at (p .out) 0
 
 unfoldable pub after : List ℕ → Written → Written
 after text r = record { text = text ++ r .text; player = r .player }
@@ -133,16 +129,7 @@ playParts p (part ∷ parts) = let r = playCalls (length part) part p 0 in after
 
 unfoldable pub playSession : List ℕ → List ℕ → List ℕ → List (List ℕ) → List ℕ
 playSession room words out parts =
-    let r = playParts (record {
-      state = beforeStart;
-      area = replicate areaWords 0;
-      line = noLine;
-      room = room;
-      words = words;
-      at = 0;
-      out = out;
-      length = 0;
-    }) parts in
+    let r = playParts (playerWith beforeStart (replicate areaWords 0) noLine room words 0 out 0) parts in
     let p = r .player in
     let x = endOf (p .state) (p .area) (p .line) (p .room) (p .words) (p .out) in
     r .text ++ take (x .length) (x .out)

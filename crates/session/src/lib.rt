@@ -1,7 +1,5 @@
-// One line of a session against a state and a lent area: decoded, played, and answered in a lent room.
-// It knows nothing of how lines come: whoever plays a session brings them one at a time.
-// A session: its lines, put together from parts of any size, each answered once against the state and the area that the one before left.
-// It knows nothing of where the parts come from and where the answers go.
+// A session: its lines, put together from parts of any size, each decoded, played and answered once against the state and the area that the
+// one before left. It knows nothing of where the parts come from and where the answers go.
 mod line;
 mod play;
 

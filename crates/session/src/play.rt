@@ -10,7 +10,7 @@ use state::State;
 ghost use mathlib.Core.Path.{_≡_};
 ghost use Prim.Native.Nat.{_≤_};
 ghost use lib.ListN.{length};
-ghost use Rattle.session.specs.Player.{heldText, afterHeld, turnOf, playPart, playedOf, endOf};
+ghost use Rattle.session.specs.Player.{heldText, playerWith, afterHeld, turnOf, playPart, playedOf, endOf};
 
 // The most characters that an answer has with its line feed.
 const ANSWER: usize = 10249;
@@ -61,11 +61,11 @@ fn turn(
     end: usize,
 ) -> Played
     requires { ⌜ end ≤ length (now out) ⌝ }
-    ensures { λ r. ⌜ r ≡ playedOf (turnOf (now (bytes .entry)) (record { state = s; area = (now (area .entry)); line = line; room = (now (room .entry)); words = (now (words .entry)); at = at; out = (now (out .entry)); length = end })) ⌝ }
-    ensures { λ _. ⌜ now (area .exit) ≡ turnOf (now (bytes .entry)) (record { state = s; area = (now (area .entry)); line = line; room = (now (room .entry)); words = (now (words .entry)); at = at; out = (now (out .entry)); length = end }) .area ⌝ }
-    ensures { λ _. ⌜ now (room .exit) ≡ turnOf (now (bytes .entry)) (record { state = s; area = (now (area .entry)); line = line; room = (now (room .entry)); words = (now (words .entry)); at = at; out = (now (out .entry)); length = end }) .room ⌝ }
-    ensures { λ _. ⌜ now (words .exit) ≡ turnOf (now (bytes .entry)) (record { state = s; area = (now (area .entry)); line = line; room = (now (room .entry)); words = (now (words .entry)); at = at; out = (now (out .entry)); length = end }) .words ⌝ }
-    ensures { λ _. ⌜ now (out .exit) ≡ turnOf (now (bytes .entry)) (record { state = s; area = (now (area .entry)); line = line; room = (now (room .entry)); words = (now (words .entry)); at = at; out = (now (out .entry)); length = end }) .out ⌝ }
+    ensures { λ r. ⌜ r ≡ playedOf (turnOf (now (bytes .entry)) (playerWith s (now (area .entry)) line (now (room .entry)) (now (words .entry)) at (now (out .entry)) end)) ⌝ }
+    ensures { λ _. ⌜ now (area .exit) ≡ turnOf (now (bytes .entry)) (playerWith s (now (area .entry)) line (now (room .entry)) (now (words .entry)) at (now (out .entry)) end) .area ⌝ }
+    ensures { λ _. ⌜ now (room .exit) ≡ turnOf (now (bytes .entry)) (playerWith s (now (area .entry)) line (now (room .entry)) (now (words .entry)) at (now (out .entry)) end) .room ⌝ }
+    ensures { λ _. ⌜ now (words .exit) ≡ turnOf (now (bytes .entry)) (playerWith s (now (area .entry)) line (now (room .entry)) (now (words .entry)) at (now (out .entry)) end) .words ⌝ }
+    ensures { λ _. ⌜ now (out .exit) ≡ turnOf (now (bytes .entry)) (playerWith s (now (area .entry)) line (now (room .entry)) (now (words .entry)) at (now (out .entry)) end) .out ⌝ }
 {
     let step = next_line(bytes, at, room, line);
     let more = step.line;
@@ -101,11 +101,11 @@ pub fn play_part(
     at: usize,
     out: &mut [u8],
 ) -> Played
-    ensures { λ r. ⌜ r ≡ playedOf (playPart (now (bytes .entry)) (record { state = s; area = (now (area .entry)); line = line; room = (now (room .entry)); words = (now (words .entry)); at = at; out = (now (out .entry)); length = 0 })) ⌝ }
-    ensures { λ _. ⌜ now (area .exit) ≡ playPart (now (bytes .entry)) (record { state = s; area = (now (area .entry)); line = line; room = (now (room .entry)); words = (now (words .entry)); at = at; out = (now (out .entry)); length = 0 }) .area ⌝ }
-    ensures { λ _. ⌜ now (room .exit) ≡ playPart (now (bytes .entry)) (record { state = s; area = (now (area .entry)); line = line; room = (now (room .entry)); words = (now (words .entry)); at = at; out = (now (out .entry)); length = 0 }) .room ⌝ }
-    ensures { λ _. ⌜ now (words .exit) ≡ playPart (now (bytes .entry)) (record { state = s; area = (now (area .entry)); line = line; room = (now (room .entry)); words = (now (words .entry)); at = at; out = (now (out .entry)); length = 0 }) .words ⌝ }
-    ensures { λ _. ⌜ now (out .exit) ≡ playPart (now (bytes .entry)) (record { state = s; area = (now (area .entry)); line = line; room = (now (room .entry)); words = (now (words .entry)); at = at; out = (now (out .entry)); length = 0 }) .out ⌝ }
+    ensures { λ r. ⌜ r ≡ playedOf (playPart (now (bytes .entry)) (playerWith s (now (area .entry)) line (now (room .entry)) (now (words .entry)) at (now (out .entry)) 0)) ⌝ }
+    ensures { λ _. ⌜ now (area .exit) ≡ playPart (now (bytes .entry)) (playerWith s (now (area .entry)) line (now (room .entry)) (now (words .entry)) at (now (out .entry)) 0) .area ⌝ }
+    ensures { λ _. ⌜ now (room .exit) ≡ playPart (now (bytes .entry)) (playerWith s (now (area .entry)) line (now (room .entry)) (now (words .entry)) at (now (out .entry)) 0) .room ⌝ }
+    ensures { λ _. ⌜ now (words .exit) ≡ playPart (now (bytes .entry)) (playerWith s (now (area .entry)) line (now (room .entry)) (now (words .entry)) at (now (out .entry)) 0) .words ⌝ }
+    ensures { λ _. ⌜ now (out .exit) ≡ playPart (now (bytes .entry)) (playerWith s (now (area .entry)) line (now (room .entry)) (now (words .entry)) at (now (out .entry)) 0) .out ⌝ }
 {
     let mut p = Played {
         state: s,

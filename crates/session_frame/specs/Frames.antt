@@ -28,12 +28,12 @@ sized n size f = cond (eqb n size) f Malformed
 unfoldable pub worded : ℕ → ℕ → Frame → Frame
 worded n head f = cond (ltb n head) Malformed (cond (eqb ((n - head) % 5) 0) f Malformed)
 
-unfoldable pub wordsAfter : ℕ → ℕ → ℕ
-wordsAfter n head = (n - head) / 5
+unfoldable pub wordCount : ℕ → ℕ → ℕ
+wordCount n head = (n - head) / 5
 
 -- "00 m W and five two-byte unit masks (bit u for unit u)"
-unfoldable pub freshOf : ℕ → List ℕ → Frame
-freshOf n b =
+unfoldable pub freshFrom : ℕ → List ℕ → Frame
+freshFrom n b =
     sized n 14
     (Fresh (record {
       m = byteAt b 1;
@@ -42,33 +42,33 @@ freshOf n b =
     }))
 
 -- "01 file channel unit flags B r"
-unfoldable pub openOf : ℕ → List ℕ → Frame
-openOf n b =
+unfoldable pub openFrom : ℕ → List ℕ → Frame
+openFrom n b =
     sized n 9
     (Open (record { file = byteAt b 1; channel = byteAt b 2; unit = byteAt b 3; flags = byteAt b 4; size = sizeAt b 5; rlen = sizeAt b 7 }))
 
 -- "03 file operation(0 read, 1 write, 2 mark) priority(0/1)"
-unfoldable pub askOf : ℕ → List ℕ → Frame
-askOf n b = sized n 4 (Ask (record { file = byteAt b 1; op = byteAt b 2; priority = byteAt b 3 }))
+unfoldable pub askFrom : ℕ → List ℕ → Frame
+askFrom n b = sized n 4 (Ask (record { file = byteAt b 1; op = byteAt b 2; priority = byteAt b 3 }))
 
 -- "04 channel unit outcome words"
-unfoldable pub reportOf : ℕ → List ℕ → Frame
-reportOf n b = worded n 4 (Report (record { channel = byteAt b 1; unit = byteAt b 2; outcome = byteAt b 3; words = wordsAfter n 4 }))
+unfoldable pub reportFrom : ℕ → List ℕ → Frame
+reportFrom n b = worded n 4 (Report (record { channel = byteAt b 1; unit = byteAt b 2; outcome = byteAt b 3; words = wordCount n 4 }))
 
 -- "06 put file words"
-unfoldable pub putOf : ℕ → List ℕ → Frame
-putOf n b = worded n 2 (Put (record { file = byteAt b 1; words = wordsAfter n 2 }))
+unfoldable pub putFrom : ℕ → List ℕ → Frame
+putFrom n b = worded n 2 (Put (record { file = byteAt b 1; words = wordCount n 2 }))
 
 -- "00 .. · 01 .. · 02 close file · 03 .. · 04 .. · 05 get file · 06 .. · 07 seal file · 08 skip file · 09 freeze · 0A thaw."
 unfoldable pub kindBy : ℕ → ℕ → List ℕ → Frame
 kindBy kind n b =
-    cond (eqb kind 0) (freshOf n b)
-    (cond (eqb kind 1) (openOf n b)
+    cond (eqb kind 0) (freshFrom n b)
+    (cond (eqb kind 1) (openFrom n b)
     (cond (eqb kind 2) (sized n 2 (Close (byteAt b 1)))
-    (cond (eqb kind 3) (askOf n b)
-    (cond (eqb kind 4) (reportOf n b)
+    (cond (eqb kind 3) (askFrom n b)
+    (cond (eqb kind 4) (reportFrom n b)
     (cond (eqb kind 5) (sized n 2 (Get (byteAt b 1)))
-    (cond (eqb kind 6) (putOf n b)
+    (cond (eqb kind 6) (putFrom n b)
     (cond (eqb kind 7) (sized n 2 (Seal (byteAt b 1)))
     (cond (eqb kind 8) (sized n 2 (Skip (byteAt b 1)))
     (cond (eqb kind 9) (sized n 1 Freeze)

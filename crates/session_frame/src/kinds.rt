@@ -1,7 +1,7 @@
 // The kinds of frames, each from a line of digits of which n bytes count.
 ghost use mathlib.Core.Path.{_≡_};
 ghost use Rattle.session_frame.specs.Digits.{bytesOf};
-ghost use Rattle.session_frame.specs.Frames.{sized, worded, wordsAfter, freshOf, openOf, askOf, reportOf, putOf};
+ghost use Rattle.session_frame.specs.Frames.{sized, worded, wordCount, freshFrom, openFrom, askFrom, reportFrom, putFrom};
 use crate::AskFrame;
 use crate::Frame;
 use crate::FreshFrame;
@@ -37,7 +37,7 @@ pub fn if_worded(n: usize, head: usize, f: Frame) -> Frame
 
 // How many words come after `head` bytes.
 fn words_after(n: usize, head: usize) -> usize
-    ensures { λ r. ⌜ r ≡ wordsAfter n head ⌝ }
+    ensures { λ r. ⌜ r ≡ wordCount n head ⌝ }
 {
     if n < head {
         return 0;
@@ -47,7 +47,7 @@ fn words_after(n: usize, head: usize) -> usize
 
 // A fresh start.
 pub fn fresh(line: &[u8], n: usize) -> Frame
-    ensures { λ r. ⌜ r ≡ freshOf n (bytesOf (now (line .entry))) ⌝ }
+    ensures { λ r. ⌜ r ≡ freshFrom n (bytesOf (now (line .entry))) ⌝ }
 {
     let masks = Masks {
         a: size_at(line, 4),
@@ -64,7 +64,7 @@ pub fn fresh(line: &[u8], n: usize) -> Frame
 
 // The open of a file.
 pub fn opening(line: &[u8], n: usize) -> Frame
-    ensures { λ r. ⌜ r ≡ openOf n (bytesOf (now (line .entry))) ⌝ }
+    ensures { λ r. ⌜ r ≡ openFrom n (bytesOf (now (line .entry))) ⌝ }
 {
     let file = byte_at(line, 1);
     let channel = byte_at(line, 2);
@@ -85,7 +85,7 @@ pub fn opening(line: &[u8], n: usize) -> Frame
 
 // A request.
 pub fn ask(line: &[u8], n: usize) -> Frame
-    ensures { λ r. ⌜ r ≡ askOf n (bytesOf (now (line .entry))) ⌝ }
+    ensures { λ r. ⌜ r ≡ askFrom n (bytesOf (now (line .entry))) ⌝ }
 {
     let file = byte_at(line, 1);
     let op = byte_at(line, 2);
@@ -96,7 +96,7 @@ pub fn ask(line: &[u8], n: usize) -> Frame
 
 // A report, with its words.
 pub fn report(line: &[u8], n: usize) -> Frame
-    ensures { λ r. ⌜ r ≡ reportOf n (bytesOf (now (line .entry))) ⌝ }
+    ensures { λ r. ⌜ r ≡ reportFrom n (bytesOf (now (line .entry))) ⌝ }
 {
     let channel = byte_at(line, 1);
     let unit = byte_at(line, 2);
@@ -113,7 +113,7 @@ pub fn report(line: &[u8], n: usize) -> Frame
 
 // A put, with its words.
 pub fn put(line: &[u8], n: usize) -> Frame
-    ensures { λ r. ⌜ r ≡ putOf n (bytesOf (now (line .entry))) ⌝ }
+    ensures { λ r. ⌜ r ≡ putFrom n (bytesOf (now (line .entry))) ⌝ }
 {
     let file = byte_at(line, 1);
     let words = words_after(n, 2);

@@ -9,13 +9,13 @@ use Rattle.state_sound.specs.Files.{filesSound}
 use Rattle.state_sound.proofs.Shares.{one-holder, all-counted}
 use Rattle.state.specs.declared.State.{State}
 use Rattle.state_sound.specs.Soundness.{sound}
-use Rattle.state_sound.specs.Judged.{judged}
+use Rattle.state_sound.specs.Judged.{judgedState}
 use Rattle.state_sound.proofs.Facts.{sound-facts, facts-judged}
 
 module _ (s : State) (h : sound s ≡ true) where
   -- the files' part of the soundness, as the pool judges it
   pub files-sound : filesSound (s .m) (s .w) (s .files) ≡ true
-  unfolding judged
+  unfolding judgedState
   files-sound = and-left (filesSound (s .m) (s .w) (s .files)) _ (and-right (poolSound (s .m) (s .w)) _ (facts-judged s (sound-facts s h)))
 
   -- how many open files hold buffer b: none if it is free, else exactly one

@@ -16,13 +16,14 @@ use Rattle.file.specs.Slots.{isEmpty, isTaken, isPart, isFull, partWords}
 use Rattle.file.specs.Sides.{slotAt, isSide, emptySide, takenSide, partSide, oldest}
 use Rattle.file.specs.Fills.{withSlot, emptiedAt, withoutOldest}
 use Rattle.file.specs.Sizes.{sizesFit, openedFile}
-use Rattle.file_input.specs.Delivers.{tookBuffer, delivered, gaveBack, withMark, metMark}
-use Rattle.file_output.specs.Parts.{partLength, sealed}
+use Rattle.file_input.specs.Delivers.{tookBuffer, delivered, gaveBack, withFileMark, metMark}
+use Rattle.file_output.specs.Parts.{partLength, sealedFile}
 use Rattle.file_output.specs.Sends.{afterWrite}
 use Rattle.file.proofs.Which.{lower-cases, taken-there, part-there, full-there}
 use Rattle.file_input.proofs.Ages.{Aged, noBlock, old, aged}
 use Rattle.file_input.specs.Gets.{isUsedUp, passed, lookedAt, wordsGiven, slotAfter, afterFound, getFrom}
-use Rattle.state_sound.specs.Files.{oneIf, takenCount}
+use Rattle.state_sound.specs.Files.{takenCount}
+use Rattle.area.specs.Lists.{oneIf}
 use Rattle.state_sound.proofs.FileFacts.{slotFits, Sound, fits}
 use Rattle.state_sound.proofs.FilesKept.{other, owns, slot-fits, owns-used, taken-sides, part-sides, changed, beside, emptied, full-slot, filled}
 
@@ -130,7 +131,7 @@ module _ (m w : ℕ) (f : File) (S : Sound m w f) where
       go false = S
 
 -- a mark is read in an input file alone
-marked-sound : (m w : ℕ) (f : File) → Sound m w f → f .output ≡ false → Sound m w (withMark f)
+marked-sound : (m w : ℕ) (f : File) → Sound m w f → f .output ≡ false → Sound m w (withFileMark f)
 marked-sound m w f S i = record {
   sizes = S .sizes;
   number = S .number;
@@ -240,8 +241,8 @@ module _ (m w : ℕ) (f : File) (S : Sound m w f) where
   pub within : f .rlen ≤ f .size
   within = leb-true (f .rlen) (f .size) (and-left (leb (f .rlen) (f .size)) _ (and-right (leb 1 (f .rlen)) _ (S .sizes)))
 
-  pub sealed-sound : isSide (partSide f) ≡ true → Sound m w (sealed f)
-  unfolding sealed partLength
+  pub sealed-sound : isSide (partSide f) ≡ true → Sound m w (sealedFile f)
+  unfolding sealedFile partLength
   sealed-sound s =
       let P = part-numbers (f .output) (f .size) (f .rlen) (slotAt f (partSide f)) (slot-fits m w f (partSide f) S) (part-there f s) in
       filled m w f (partSide f) (partWords (slotAt f (partSide f))) 0 S (own-part m w f S s) (omega (arith, P .0, one-record)) (omega (arith, P .1)) (omega arith) (λ o. refl)

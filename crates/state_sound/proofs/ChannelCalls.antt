@@ -22,7 +22,7 @@ use Rattle.channel_outcomes.specs.declared.Ending.{Ending}
 use Rattle.channel_outcomes.specs.declared.Verdict.{Verdict}
 use Rattle.channel_outcomes.specs.declared.Verdict.the-variants.{Refused, Repeats, Ends}
 use Rattle.channel_outcomes.specs.Rules.{verdictOf}
-use Rattle.channel.specs.Units.{size, idleUnit, unitAt, declaredAt, turnAt, withTurn, withMark, isIdle, acceptsAt}
+use Rattle.channel.specs.Units.{size, idleUnit, unitAt, declaredAt, turnAt, withTurn, withScanMark, isIdle, acceptsAt}
 use Rattle.channel_turns.specs.Scans.{nextUnit, workingIn}
 use Rattle.area.specs.Lists.{isFound}
 use Rattle.channel_turns.specs.Turns.{judgeTurn, judgeOf, goesOn, incompleteTurn, repeatOf, isOrdinary, markAfter, endOf, bookOf, reportOf}

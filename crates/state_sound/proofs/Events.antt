@@ -9,9 +9,9 @@ use Rattle.file.specs.declared.File.{File}
 use Rattle.file.specs.Sides.{slotAt, isSide, emptySide, takenSide, partSide, oldest}
 use Rattle.file.specs.Fills.{turnedBy, filledAt, emptiedAt, withoutOldest, withSlot}
 use Rattle.word.specs.CheckWords.{nextNumber}
-use Rattle.file_input.specs.Delivers.{hasEmpty, tookBuffer, delivered, gaveBack, withMark, metMark}
+use Rattle.file_input.specs.Delivers.{hasEmpty, tookBuffer, delivered, gaveBack, withFileMark, metMark}
 use Rattle.file_output.specs.Puts.{putSide, hasRoom, wordsAfter, added, afterPut}
-use Rattle.file_output.specs.Parts.{hasPart, isComplete, partLength, sealed}
+use Rattle.file_output.specs.Parts.{hasPart, isComplete, partLength, sealedFile}
 use Rattle.file_input.specs.Gets.{isUsedUp, passed, lookedAt, slotAfter, afterFound}
 use Rattle.file_input.specs.Histories.{Event, read, giveBack, mark, get, skip, put, seal, send, deliver, after}
 use Rattle.state_sound.specs.Files.{takenCount, fileSound}
@@ -55,7 +55,7 @@ filled-alike : (f : File) (k : Side) (n e : ℕ) → Alike f (filledAt f k n e)
 unfolding filledAt
 filled-alike f k n e = alike-slot f k (Full n 0 e) (turnedBy f k) (nextNumber (f .block))
 
-marked-alike : (f : File) → Alike f (withMark f)
+marked-alike : (f : File) → Alike f (withFileMark f)
 marked-alike f = record { opened = refl; channel = refl; unit = refl; double = refl; output = refl; low = refl; high = refl }
 
 passed-alike : (f : File) → Alike f (passed f)
@@ -75,15 +75,15 @@ added-alike f = go (leb (wordsAfter f) (f .size))
     go false = alike-self f
 
 put-alike : (f : File) → Alike f (afterPut f)
-unfolding afterPut sealed
+unfolding afterPut sealedFile
 put-alike f = go (isComplete (added f))
   where
-    go : (t : Bool) → Alike f (cond t (sealed (added f)) (added f))
-    go true = alike-then f (added f) (sealed (added f)) (added-alike f) (filled-alike (added f) (partSide (added f)) (partLength (added f)) 0)
+    go : (t : Bool) → Alike f (cond t (sealedFile (added f)) (added f))
+    go true = alike-then f (added f) (sealedFile (added f)) (added-alike f) (filled-alike (added f) (partSide (added f)) (partLength (added f)) 0)
     go false = added-alike f
 
 pub event-alike : (f : File) (e : Event) → Alike f (after f e)
-unfolding tookBuffer delivered gaveBack metMark withoutOldest sealed lookedAt afterFound
+unfolding tookBuffer delivered gaveBack metMark withoutOldest sealedFile lookedAt afterFound
 event-alike f read = alike-slot f (emptySide f) Taken false (f .block)
 event-alike f (deliver n e) = filled-alike f (takenSide f) n e
 event-alike f giveBack = emptied-alike f (takenSide f)

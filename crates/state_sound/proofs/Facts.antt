@@ -9,7 +9,7 @@ use native.Mathlib.Omega.{arith}
 use lib.Dec.{leb, ltb, eqb}
 use lib.ListN.{length, getD}
 use borrow.Author.Tests.{leb-true, le-leb, ltb-true, eqb-true, eq-eqb, not-true}
-use Rattle.area.specs.Lists.{anyOf, allOf, allPairs}
+use Rattle.area.specs.Lists.{anyOf, allOf, allPairs, oneIf}
 use Rattle.area.specs.Numbered.{allFrom}
 use Rattle.area.proofs.Walks.{by-test, true-not-false, and-left, and-right, and-both, or-either, or-first, or-second, all-at, at-all}
 use Rattle.area.proofs.Marks.{cond-true, cond-false, unless, unless-so}
@@ -28,14 +28,14 @@ use Rattle.file.specs.Sizes.{closedFile}
 use Rattle.file_input.specs.Delivers.{hasFull}
 use Rattle.pool.specs.Free.{poolSound}
 use Rattle.pool.specs.Serving.{serves}
-use Rattle.state_sound.specs.Files.{inRange, hasBuffers, oneIf, takenCount, takenRight, fullRight, partRight, placeRight, restIsZero, openSound, isBlank, fileSound, shareBuffer, shareUnit, apart, filesSound}
+use Rattle.state_sound.specs.Files.{inRange, hasBuffers, takenCount, takenRight, fullRight, partRight, placeRight, restIsZero, openSound, isBlank, fileSound, shareBuffer, shareUnit, apart, filesSound}
 use Rattle.state_sound.proofs.FileFacts.{Sound, facts}
 use Rattle.state_sound.proofs.FileFacts as file
 use Rattle.state.specs.declared.State.{State}
 use Rattle.state.specs.Places.{noChannel, fileAt, channelIn, channelAt}
 use Rattle.state_sound.specs.Requests.{requested, isNone, isRead, isWrite, fitsOutput}
 use Rattle.state_sound.specs.Soundness.{ifOpen, channelOf, requestOf, fileInRange, turnInRange, unitInRange, channelInRange, numbersInRange, buffersApart, noBufferHeldTwice, hasItsOwn, unitsApart, eachHasItsOwn, unitFits, channelFits, requestsFit, worksRight, channelsWork, takenByRead, readsAloneTake, writeHasBlock, writesHaveBlocks, fullBlocksRight, partBuffersRight, placesRight, inLimit, turnInLimit, channelInLimit, attemptsInLimit, sound}
-use Rattle.state_sound.specs.Judged.{fileReady, fileFits, turnRight, unitRight, unitServed, channelRight, judged}
+use Rattle.state_sound.specs.Judged.{fileReady, fileFits, turnRight, unitRight, unitServed, channelRight, judgedState}
 use Rattle.state_sound.proofs.Everywhere.{by-place, all-places, from-places, place-inside, pair-places}
 use Rattle.state_sound.proofs.Apart.{buffers-swap, units-swap, apart-swap, buffers-closed, units-closed, apart-closed}
 use Rattle.state_sound.proofs.ChannelFacts.{ChannelFacts, channel-facts, mark-right, units-right, works-right, no-idle, no-facts}
@@ -153,8 +153,8 @@ unfolding fileSound isBlank
 closed-sound m w = refl
 
 module _ (s : State) where
-  judged-facts : judged s ≡ true → SoundFacts s
-  unfolding judged filesSound fileSound fileFits channelRight unitServed
+  judged-facts : judgedState s ≡ true → SoundFacts s
+  unfolding judgedState filesSound fileSound fileFits channelRight unitServed
   judged-facts h =
       let h₁ = both {a = poolSound (s .m) (s .w)} h in
       let h₂ = both {a = filesSound (s .m) (s .w) (s .files)} (h₁ .1) in
@@ -206,8 +206,8 @@ module _ (s : State) where
         let p = F .served c u n in
         at-any (serves c u) closedFile (s .files) (p .place) (place-inside (s .files) closedFile (serves c u) refl (p .place) (p .bound)) (p .bound)
 
-    pub facts-judged : judged s ≡ true
-    unfolding judged filesSound fileFits channelRight unitServed
+    pub facts-judged : judgedState s ≡ true
+    unfolding judgedState filesSound fileFits channelRight unitServed
     facts-judged =
         and-both (poolSound (s .m) (s .w)) _ (F .pool)
         (and-both (filesSound (s .m) (s .w) (s .files)) _
@@ -464,5 +464,5 @@ module _ (s : State) where
         (at-all channelInLimit noChannel (s .channels) (λ c l. all-each (s .m) (channelAt s c .units) (units-right (s .m) (s .frozen) (channelAt s c) (F .channels c)) .1)))))))))))
 
 -- what the code walks is document 01's paragraph
-pub judged-sound : (s : State) → judged s ≡ sound s
-judged-sound s = each-way (judged s) (sound s) (λ h. facts-sound s (judged-facts s h)) (λ h. facts-judged s (sound-facts s h))
+pub judged-sound : (s : State) → judgedState s ≡ sound s
+judged-sound s = each-way (judgedState s) (sound s) (λ h. facts-sound s (judged-facts s h)) (λ h. facts-judged s (sound-facts s h))

@@ -14,7 +14,8 @@ use Rattle.file.specs.Slots.{isEmpty, isFull, fullError}
 use Rattle.file.specs.Sides.{noBuffer}
 use Rattle.word.specs.CheckWords.{blockNumbers}
 use Rattle.file.specs.Sizes.{sizesFit, closedFile}
-use Rattle.state_sound.specs.Files.{inRange, isNoBuffer, hasBuffers, oneIf, takenCount, takenRight, fullFits, fullRight, partsHeld, partFits, partRight, placeFits, placeRight, isUnread, openSound, isBlank, fileSound}
+use Rattle.state_sound.specs.Files.{inRange, isNoBuffer, hasBuffers, takenCount, takenRight, fullFits, fullRight, partsHeld, partFits, partRight, placeFits, placeRight, isUnread, openSound, isBlank, fileSound}
+use Rattle.area.specs.Lists.{oneIf}
 
 -- what one buffer of a file may hold, by the file's direction and sizes
 abbrev pub slotFits : Bool → ℕ → ℕ → Slot → Bool

@@ -17,7 +17,8 @@ use Rattle.file.specs.Slots.{isEmpty, isTaken, isPart, isFull}
 use Rattle.file.specs.Sides.{slotAt, isSide}
 use Rattle.file.specs.Fills.{withSlot, turnedBy, filledAt, emptiedAt}
 use Rattle.word.specs.CheckWords.{blockNumbers, nextNumber}
-use Rattle.state_sound.specs.Files.{isNoBuffer, oneIf, takenCount, partsHeld}
+use Rattle.state_sound.specs.Files.{isNoBuffer, takenCount, partsHeld}
+use Rattle.area.specs.Lists.{oneIf}
 use Rattle.state_sound.proofs.FileFacts.{slotFits, Sound}
 
 -- the buffer beside k, and whether k is a buffer of the file

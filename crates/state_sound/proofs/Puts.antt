@@ -16,9 +16,9 @@ use Rattle.file.specs.Slots.{isPart, partWords}
 use Rattle.file.specs.Sides.{slotAt, isSide, lower, emptySide, partSide}
 use Rattle.file.specs.Fills.{withSlot, filledAt}
 use Rattle.file_output.specs.Puts.{putSide, wordsAfter, added, afterPut}
-use Rattle.file_output.specs.Parts.{partLength, isComplete, sealed}
+use Rattle.file_output.specs.Parts.{partLength, isComplete, sealedFile}
 use Rattle.file.proofs.Which.{lower-cases, empty-there, part-there}
-use Rattle.state_sound.specs.Files.{oneIf}
+use Rattle.area.specs.Lists.{oneIf}
 use Rattle.state_sound.proofs.FileFacts.{slotFits, Sound}
 use Rattle.state_sound.proofs.FilesKept.{other, owns, slot-fits, part-sides, changed, beside, filled}
 use Rattle.state_sound.proofs.Changes.{own-empty, own-part, part-numbers, one-record, within}
@@ -103,8 +103,8 @@ complete-is f k n s a = ap (λ (j : ℕ). ltb (holding f k n .size) (j + holding
     there High = refl
     there Neither = refl
 
-sealed-is : (f : File) (k : Side) (n : ℕ) → isSide k ≡ true → isPart (other f k) ≡ false → sealed (holding f k n) ≡ filledAt f k n 0
-unfolding sealed filledAt
+sealed-is : (f : File) (k : Side) (n : ℕ) → isSide k ≡ true → isPart (other f k) ≡ false → sealedFile (holding f k n) ≡ filledAt f k n 0
+unfolding sealedFile filledAt
 sealed-is f k n s a =
     ap (λ (j : Side). filledAt (holding f k n) j (partLength (holding f k n)) 0) (part-is f k n s a)
     ∙ ap (λ (j : ℕ). filledAt (holding f k n) k j 0) (length-is f k n s a) ∙ there k
@@ -122,8 +122,8 @@ put-is f s P =
     let k = putSide f in
     let n = wordsAfter f in
     let there : added f ≡ holding f k n = cond-true (holding f k n) f (le-leb n (f .size) (P .fit)) in
-    ap (λ (g : File). cond (isComplete g) (sealed g) g) there
-    ∙ ap (λ (t : Bool). cond t (sealed (holding f k n)) (holding f k n)) (complete-is f k n s (P .alone))
+    ap (λ (g : File). cond (isComplete g) (sealedFile g) g) there
+    ∙ ap (λ (t : Bool). cond t (sealedFile (holding f k n)) (holding f k n)) (complete-is f k n s (P .alone))
     ∙ ap (λ (g : File). cond (ltb (f .size) (n + f .rlen)) g (holding f k n)) (sealed-is f k n s (P .alone))
 
 pub put-sound : (m w : ℕ) (f : File) → Sound m w f → f .output ≡ true → isSide (putSide f) ≡ true → Sound m w (afterPut f)

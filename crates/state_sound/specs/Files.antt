@@ -4,7 +4,7 @@ use Prim.Native.Nat.{ℕ, _+_}
 use mathlib.Core.Bool.{Bool, true, not, cond, _&&_, _||_}
 use mathlib.Core.List.{List}
 use lib.Dec.{leb, ltb, eqb}
-use Rattle.area.specs.Lists.{allOf, allPairs}
+use Rattle.area.specs.Lists.{oneIf, allOf, allPairs}
 use Rattle.file.specs.declared.Slot.{Slot}
 use Rattle.file.specs.declared.Slot.the-variants.{Empty, Taken, Part, Full}
 use Rattle.file.specs.declared.Buffer.{Buffer}
@@ -31,9 +31,6 @@ isNoBuffer b = eqb (b .number) 0 && isEmpty (b .slot)
 -- "each open file has its one or two buffers", of m
 abbrev pub hasBuffers : ℕ → File → Bool
 hasBuffers m f = ltb (f .low .number) m && cond (f .double) (ltb (f .low .number) (f .high .number) && ltb (f .high .number) m) (isNoBuffer (f .high))
-
-abbrev pub oneIf : Bool → ℕ
-oneIf b = cond b 1 0
 
 -- how many of its buffers are taken
 abbrev pub takenCount : File → ℕ

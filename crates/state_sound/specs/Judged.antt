@@ -4,7 +4,7 @@ use Prim.Native.Nat.{ℕ}
 use mathlib.Core.Bool.{Bool, true, not, _&&_, _||_}
 use mathlib.Core.List.{List}
 use lib.Dec.{leb, ltb, eqb}
-use Rattle.area.specs.Lists.{anyOf, allOf}
+use Rattle.area.specs.Lists.{anyOf, allOf, oneIf}
 use Rattle.area.specs.Numbered.{allFrom}
 use Rattle.channel.specs.declared.Request.{Request}
 use Rattle.channel.specs.declared.Turn.{Turn}
@@ -17,7 +17,7 @@ use Rattle.file.specs.declared.File.{File}
 use Rattle.file_input.specs.Delivers.{hasFull}
 use Rattle.pool.specs.Free.{poolSound}
 use Rattle.pool.specs.Serving.{serves}
-use Rattle.state_sound.specs.Files.{oneIf, takenCount, filesSound}
+use Rattle.state_sound.specs.Files.{takenCount, filesSound}
 use Rattle.state.specs.declared.State.{State}
 use Rattle.state_sound.specs.Requests.{requested, isNone, isRead, isWrite, fitsOutput}
 use Rattle.state_sound.specs.Soundness.{channelOf, requestOf, worksRight, inLimit}
@@ -52,8 +52,8 @@ unitServed fs c u x = isNone (requested (x .turn)) || anyOf (serves c u) fs
 unfoldable pub channelRight : ℕ → Bool → List File → ℕ → Channel → Bool
 channelRight m frozen fs c x = ltb (x .mark) (size x) && (allOf (unitRight m) (x .units) && (worksRight frozen (x .units) && allFrom (unitServed fs c) 0 (x .units)))
 
-unfoldable pub judged : State → Bool
-judged s =
+unfoldable pub judgedState : State → Bool
+judgedState s =
     poolSound (s .m) (s .w)
     && (filesSound (s .m) (s .w) (s .files)
     && (allOf (fileFits (s .channels)) (s .files)

@@ -4,7 +4,7 @@ use Prim.Native.Nat.{ℕ}
 use mathlib.Core.Bool.{Bool, true, not, cond, _&&_, _||_}
 use mathlib.Core.List.{List}
 use lib.Dec.{leb, ltb, eqb}
-use Rattle.area.specs.Lists.{anyOf, allOf, allPairs, countOf}
+use Rattle.area.specs.Lists.{anyOf, allOf, allPairs, countOf, oneIf}
 use Rattle.area.specs.Numbered.{allFrom}
 use Rattle.channel.specs.declared.Request.{Request}
 use Rattle.channel.specs.declared.Turn.{Turn}
@@ -18,7 +18,7 @@ use Rattle.file.specs.declared.File.{File}
 use Rattle.file_input.specs.Delivers.{hasFull}
 use Rattle.pool.specs.Free.{poolSound}
 use Rattle.pool.specs.Serving.{serves}
-use Rattle.state_sound.specs.Files.{inRange, hasBuffers, oneIf, takenCount, fullRight, partRight, placeRight, restIsZero, isBlank, shareBuffer, shareUnit}
+use Rattle.state_sound.specs.Files.{inRange, hasBuffers, takenCount, fullRight, partRight, placeRight, restIsZero, isBlank, shareBuffer, shareUnit}
 use Rattle.state.specs.declared.State.{State}
 use Rattle.state.specs.Places.{channelIn}
 use Rattle.state_sound.specs.Requests.{requested, isNone, isRead, isWrite, fitsOutput, isWaiting}

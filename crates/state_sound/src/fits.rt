@@ -15,7 +15,7 @@ use state::CHANNELS;
 use state::channel_in;
 ghost use mathlib.Core.Path.{_≡_};
 ghost use Rattle.area.specs.Lists.{allOf};
-ghost use Rattle.state_sound.specs.Files.{oneIf};
+ghost use Rattle.area.specs.Lists.{oneIf};
 ghost use Rattle.state_sound.specs.Requests.{isRead as readOf};
 ghost use Rattle.state_sound.specs.Judged.{fileReady, fileFits};
 

@@ -6,11 +6,11 @@ use pool::pool_sound;
 use state::State;
 ghost use mathlib.Core.Path.{_≡_};
 ghost use Rattle.state_sound.specs.Soundness.{sound};
-ghost use Rattle.state_sound.specs.Judged.{judged};
+ghost use Rattle.state_sound.specs.Judged.{judgedState};
 
 // Document 01's paragraph in four passes: the pool, each file and every two, each file with its unit, each channel.
 fn is_judged(s: State) -> bool
-    ensures { λ r. ⌜ r ≡ judged s ⌝ }
+    ensures { λ r. ⌜ r ≡ judgedState s ⌝ }
 {
     let files = s.files;
     let channels = s.channels;

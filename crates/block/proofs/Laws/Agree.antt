@@ -16,7 +16,7 @@ use Rattle.area.specs.Parts.{isWord}
 use Rattle.area.proofs.Walks.{by-test, and-both, or-left, or-right, or-first, or-second, all-append}
 use Rattle.word.specs.Sums.{logicalSum, firstHalf, folded}
 use Rattle.word.specs.CheckWords.{address, chosen, checkWord, extra}
-use Rattle.block.specs.Blocks.{sealRefusal, sealed, dataWords, errorOf, judged}
+use Rattle.block.specs.Blocks.{blockSealRefusal, sealedBlock, dataWords, errorOf, judgedBlock}
 use Rattle.word.proofs.Laws.CheckWord.{address-small, check-word-lt, check-word-first, check-word-address}
 use Rattle.block.proofs.Laws.Block.{seal-number, seal-room, seal-place, seal-writes, seal-leaves, judge-error}
 
@@ -92,7 +92,7 @@ module _ (sequence check : Bool) (sum number w : ℕ) where
 
 module _ (words : List ℕ) (sequence check : Bool) (number w : ℕ) where
   pub judge-delivered : 1 ≤ length words → allOf isWord words ≡ true → w < 2 ^ 36 → number < 2 ^ 15 → (sequence || check) ≡ true
-      → judged (words ++ w ∷ []) sequence check number ≡ record { refusal = 0; error = errorOf sequence check (logicalSum words) number w }
+      → judgedBlock (words ++ w ∷ []) sequence check number ≡ record { refusal = 0; error = errorOf sequence check (logicalSum words) number w }
   unfolding allOf
   judge-delivered some all hw hn chose =
       let one : extra sequence check ≡ 1 = rw chose in
@@ -106,45 +106,45 @@ module _ (words : List ℕ) (sequence check : Bool) (number w : ℕ) where
 
 -- a block of a file that has chosen neither field has no check word, and no error
 pub judge-plain : (words : List ℕ) (number : ℕ) → 1 ≤ length words → allOf isWord words ≡ true → number < 2 ^ 15
-    → judged words false false number ≡ record { refusal = 0; error = 0 }
+    → judgedBlock words false false number ≡ record { refusal = 0; error = 0 }
 unfolding errorOf
 judge-plain words number some all hn = sym (judge-error words false false number hn all _ _ (omega arith) refl refl)
 
 -- ---- what seal writes, judge accepts: the block sealed with a number, delivered with the same number due
 
-module _ (block : List ℕ) (n : ℕ) (sequence check : Bool) (number : ℕ) (accepted : sealRefusal block n sequence check number ≡ 0)
+module _ (block : List ℕ) (n : ℕ) (sequence check : Bool) (number : ℕ) (accepted : blockSealRefusal block n sequence check number ≡ 0)
     (some : 1 ≤ n) (all : allOf isWord (take n block) ≡ true) where
   long : length (take n block) ≡ n
   long = length-take-le n block (omega (arith, seal-room block n sequence check number accepted))
 
   with-check-word : (sequence || check) ≡ true
-      → judged (take (n + 1) (sealed block n sequence check number)) sequence check number ≡ record { refusal = 0; error = 0 }
+      → judgedBlock (take (n + 1) (sealedBlock block n sequence check number)) sequence check number ≡ record { refusal = 0; error = 0 }
   with-check-word e =
       let sum : ℕ = logicalSum (take n block) in
       let c : ℕ = checkWord sequence check sum number in
       let hn : number < 2 ^ 15 = seal-number block n sequence check number accepted in
-      let sent : take (n + 1) (sealed block n sequence check number) ≡ take n block ++ c ∷ [] =
+      let sent : take (n + 1) (sealedBlock block n sequence check number) ≡ take n block ++ c ∷ [] =
       ap (take (n + 1)) (seal-writes block n sequence check number accepted e)
       ∙ ap (λ (k : ℕ). take k (set block n c)) (add-one n)
       ∙ take-suc-set block n c (seal-place block n sequence check number accepted e) in
-      ap (λ (l : List ℕ). judged l sequence check number) sent
+      ap (λ (l : List ℕ). judgedBlock l sequence check number) sent
       ∙ judge-delivered (take n block) sequence check number c (omega (arith, long)) all (check-word-lt sequence check sum number) hn e
       ∙ ap (λ (x : ℕ). record { refusal = 0; error = x }) (error-none sequence check sum number c hn refl refl)
 
   without-check-word : (sequence || check) ≡ false
-      → judged (take (n + 0) (sealed block n sequence check number)) sequence check number ≡ record { refusal = 0; error = 0 }
+      → judgedBlock (take (n + 0) (sealedBlock block n sequence check number)) sequence check number ≡ record { refusal = 0; error = 0 }
   without-check-word e =
       let hn : number < 2 ^ 15 = seal-number block n sequence check number accepted in
-      ap₂ (λ (l : List ℕ) (b : Bool). judged l b check number)
+      ap₂ (λ (l : List ℕ) (b : Bool). judgedBlock l b check number)
       (ap (take (n + 0)) (seal-leaves block n sequence check number accepted e) ∙ ap (λ (k : ℕ). take k block) (add-zero n))
       (or-left sequence check e)
-      ∙ ap (λ (b : Bool). judged (take n block) false b number) (or-right sequence check e)
+      ∙ ap (λ (b : Bool). judgedBlock (take n block) false b number) (or-right sequence check e)
       ∙ judge-plain (take n block) number (omega (arith, long)) all hn
 
-  pub sealed-good : judged (take (n + extra sequence check) (sealed block n sequence check number)) sequence check number ≡ record { refusal = 0; error = 0 }
+  pub sealed-good : judgedBlock (take (n + extra sequence check) (sealedBlock block n sequence check number)) sequence check number ≡ record { refusal = 0; error = 0 }
   sealed-good =
       by-test (λ b. (sequence || check) ≡ b
-      → judged (take (n + cond b 1 0) (sealed block n sequence check number)) sequence check number ≡ record { refusal = 0; error = 0 })
+      → judgedBlock (take (n + cond b 1 0) (sealedBlock block n sequence check number)) sequence check number ≡ record { refusal = 0; error = 0 })
       (sequence || check) (λ t e. with-check-word e) (λ f e. without-check-word e) refl
 
 -- ---- and a check word w of a delivered block with a chosen field changed is judged wrong in that field
@@ -153,21 +153,21 @@ module _ (words : List ℕ) (sequence check : Bool) (number w : ℕ)
     (some : 1 ≤ length words) (all : allOf isWord words ≡ true) (hw : w < 2 ^ 36) (hn : number < 2 ^ 15) where
   pub changed-number : sequence ≡ true → (address w ≡ address (checkWord sequence check (logicalSum words) number) → ⊥)
       → firstHalf w ≡ firstHalf (checkWord sequence check (logicalSum words) number)
-      → judged (words ++ w ∷ []) sequence check number ≡ record { refusal = 0; error = 1 }
+      → judgedBlock (words ++ w ∷ []) sequence check number ≡ record { refusal = 0; error = 1 }
   changed-number e a b =
       judge-delivered words sequence check number w some all hw hn (or-first sequence check e)
       ∙ ap (λ (x : ℕ). record { refusal = 0; error = x }) (error-sequence sequence check (logicalSum words) number w hn e a b)
 
   pub changed-sum : check ≡ true → address w ≡ address (checkWord sequence check (logicalSum words) number)
       → (firstHalf w ≡ firstHalf (checkWord sequence check (logicalSum words) number) → ⊥)
-      → judged (words ++ w ∷ []) sequence check number ≡ record { refusal = 0; error = 2 }
+      → judgedBlock (words ++ w ∷ []) sequence check number ≡ record { refusal = 0; error = 2 }
   changed-sum e a b =
       judge-delivered words sequence check number w some all hw hn (or-second sequence check e)
       ∙ ap (λ (x : ℕ). record { refusal = 0; error = x }) (error-check sequence check (logicalSum words) number w hn e a b)
 
   pub changed-both : sequence ≡ true → check ≡ true → (address w ≡ address (checkWord sequence check (logicalSum words) number) → ⊥)
       → (firstHalf w ≡ firstHalf (checkWord sequence check (logicalSum words) number) → ⊥)
-      → judged (words ++ w ∷ []) sequence check number ≡ record { refusal = 0; error = 3 }
+      → judgedBlock (words ++ w ∷ []) sequence check number ≡ record { refusal = 0; error = 3 }
   changed-both e f a b =
       judge-delivered words sequence check number w some all hw hn (or-first sequence check e)
       ∙ ap (λ (x : ℕ). record { refusal = 0; error = x }) (error-both sequence check (logicalSum words) number w hn e f a b)
@@ -176,7 +176,7 @@ module _ (words : List ℕ) (sequence check : Bool) (number w : ℕ)
   pub changed-other : (sequence || check) ≡ true
       → (sequence ≡ true → address w ≡ address (checkWord sequence check (logicalSum words) number))
       → (check ≡ true → firstHalf w ≡ firstHalf (checkWord sequence check (logicalSum words) number))
-      → judged (words ++ w ∷ []) sequence check number ≡ record { refusal = 0; error = 0 }
+      → judgedBlock (words ++ w ∷ []) sequence check number ≡ record { refusal = 0; error = 0 }
   changed-other e a b =
       let c : ℕ = checkWord sequence check (logicalSum words) number in
       judge-delivered words sequence check number w some all hw hn e

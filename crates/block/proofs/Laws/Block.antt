@@ -14,30 +14,30 @@ use Rattle.area.proofs.Pastes.{part-all}
 use Rattle.area.proofs.Lowest.{lowest-here, lowest-past, lowest-none, lowest-end}
 use Rattle.word.specs.Sums.{logicalSum}
 use Rattle.word.specs.CheckWords.{chosen, checkWord, extra}
-use Rattle.block.specs.Blocks.{isNumber, sealRefusal, withCheckWord, sealed, dataWords, judgeRefusal, errorOf, judged}
+use Rattle.block.specs.Blocks.{isNumber, blockSealRefusal, withCheckWord, sealedBlock, dataWords, judgeRefusal, errorOf, judgedBlock}
 use Rattle.word.proofs.Laws.CheckWord.{check-word-unsummed}
 
 -- ---- sealing
 
 module _ (block : List ℕ) (n : ℕ) (sequence check : Bool) (number : ℕ) where
-  pub seal-bad-number : 2 ^ 15 ≤ number → sealRefusal block n sequence check number ≡ 1
-  unfolding sealRefusal
+  pub seal-bad-number : 2 ^ 15 ≤ number → blockSealRefusal block n sequence check number ≡ 1
+  unfolding blockSealRefusal
   seal-bad-number h = lowest-here _ _ _ (or-first _ _ (ap not (le-ltb number (2 ^ 15) h)))
 
-  pub seal-no-room : length block < n + extra sequence check → sealRefusal block n sequence check number ≡ 1
-  unfolding sealRefusal
+  pub seal-no-room : length block < n + extra sequence check → blockSealRefusal block n sequence check number ≡ 1
+  unfolding blockSealRefusal
   seal-no-room h = lowest-here _ _ _ (or-second (not (isNumber number)) _ (lt-ltb (length block) (n + extra sequence check) h))
 
   module _ (hn : number < 2 ^ 15) (room : n + extra sequence check ≤ length block) where
     roomy : (not (isNumber number) || ltb (length block) (n + extra sequence check)) ≡ false
     roomy = or-neither _ _ (ap not (lt-ltb number (2 ^ 15) hn)) (le-ltb (length block) (n + extra sequence check) room)
 
-    pub seal-spoilt : (check && not (allOf isWord (take n block))) ≡ true → sealRefusal block n sequence check number ≡ 2
-    unfolding sealRefusal
+    pub seal-spoilt : (check && not (allOf isWord (take n block))) ≡ true → blockSealRefusal block n sequence check number ≡ 2
+    unfolding blockSealRefusal
     seal-spoilt e = lowest-past _ _ _ roomy ∙ lowest-here _ _ _ e
 
-    pub seal-accepted : (check && not (allOf isWord (take n block))) ≡ false → sealRefusal block n sequence check number ≡ 0
-    unfolding sealRefusal
+    pub seal-accepted : (check && not (allOf isWord (take n block))) ≡ false → blockSealRefusal block n sequence check number ≡ 0
+    unfolding blockSealRefusal
     seal-accepted e = lowest-past _ _ _ roomy ∙ lowest-past _ _ _ e ∙ lowest-end
 
   -- what is summed has no word of 2^36 or more exactly if the call is not refused for one; nothing is summed without check sums
@@ -53,9 +53,9 @@ module _ (block : List ℕ) (n : ℕ) (sequence check : Bool) (number : ℕ) whe
       (λ t. refl) (λ f. check-word-unsummed sequence _ _ number)
 
   -- an accepted seal: the number is one, the block has room, and no word that is summed is 2^36 or more
-  module _ (accepted : sealRefusal block n sequence check number ≡ 0) where
+  module _ (accepted : blockSealRefusal block n sequence check number ≡ 0) where
     rows : ((not (isNumber number) || ltb (length block) (n + extra sequence check)) ≡ false) × ((check && not (allOf isWord (take n block))) ≡ false)
-    unfolding sealRefusal
+    unfolding blockSealRefusal
     rows =
         let first = lowest-none _ _ _ (λ z. omega arith) accepted in
         (first .0, lowest-none _ _ _ (λ z. omega arith) (first .1) .0)
@@ -75,39 +75,39 @@ module _ (block : List ℕ) (n : ℕ) (sequence check : Bool) (number : ℕ) whe
         let one : extra sequence check ≡ 1 = rw e in
         omega (arith, seal-room)
 
-    pub seal-writes : (sequence || check) ≡ true → sealed block n sequence check number ≡ set block n (checkWord sequence check (logicalSum (take n block)) number)
-    unfolding sealed withCheckWord
+    pub seal-writes : (sequence || check) ≡ true → sealedBlock block n sequence check number ≡ set block n (checkWord sequence check (logicalSum (take n block)) number)
+    unfolding sealedBlock withCheckWord
     seal-writes e = rw (eq-eqb _ _ accepted, e)
 
-    pub seal-leaves : (sequence || check) ≡ false → sealed block n sequence check number ≡ block
-    unfolding sealed withCheckWord
+    pub seal-leaves : (sequence || check) ≡ false → sealedBlock block n sequence check number ≡ block
+    unfolding sealedBlock withCheckWord
     seal-leaves e = rw (eq-eqb _ _ accepted, e)
 
   -- a refusal changes nothing
-  pub seal-refused : (sealRefusal block n sequence check number ≡ 0 → ⊥) → sealed block n sequence check number ≡ block
-  unfolding sealed
+  pub seal-refused : (blockSealRefusal block n sequence check number ≡ 0 → ⊥) → sealedBlock block n sequence check number ≡ block
+  unfolding sealedBlock
   seal-refused h = rw (ne-eqb _ _ h)
 
 -- ---- judging
 
 module _ (block : List ℕ) (sequence check : Bool) (number : ℕ) where
-  refusal-is : (refusal : ℕ) → (refusal ≡ 0 → ⊥) → judgeRefusal block sequence check number ≡ refusal → record { refusal = refusal; error = 0 } ≡ judged block sequence check number
-  unfolding judged
+  refusal-is : (refusal : ℕ) → (refusal ≡ 0 → ⊥) → judgeRefusal block sequence check number ≡ refusal → record { refusal = refusal; error = 0 } ≡ judgedBlock block sequence check number
+  unfolding judgedBlock
   refusal-is refusal nz e = rw (e, ne-eqb refusal 0 nz)
 
-  pub judge-bad-number : 2 ^ 15 ≤ number → record { refusal = 1; error = 0 } ≡ judged block sequence check number
+  pub judge-bad-number : 2 ^ 15 ≤ number → record { refusal = 1; error = 0 } ≡ judgedBlock block sequence check number
   unfolding judgeRefusal
   judge-bad-number h = refusal-is 1 (λ z. omega arith) (lowest-here _ _ _ (ap not (le-ltb number (2 ^ 15) h)))
 
   module _ (hn : number < 2 ^ 15) where
-    pub judge-spoilt : allOf isWord block ≡ false → record { refusal = 2; error = 0 } ≡ judged block sequence check number
+    pub judge-spoilt : allOf isWord block ≡ false → record { refusal = 2; error = 0 } ≡ judgedBlock block sequence check number
     unfolding judgeRefusal
     judge-spoilt tall =
         refusal-is 2 (λ z. omega arith)
         (lowest-past _ _ _ (ap not (lt-ltb number (2 ^ 15) hn)) ∙ lowest-here _ _ _ (ap not tall))
 
     module _ (all : allOf isWord block ≡ true) where
-      pub judge-short : length block < 1 + extra sequence check → record { refusal = 13; error = 0 } ≡ judged block sequence check number
+      pub judge-short : length block < 1 + extra sequence check → record { refusal = 13; error = 0 } ≡ judgedBlock block sequence check number
       unfolding judgeRefusal
       judge-short h =
           refusal-is 13 (λ z. omega arith)
@@ -121,8 +121,8 @@ module _ (block : List ℕ) (sequence check : Bool) (number : ℕ) where
       -- what is judged is the sum s of the data words, by the word w after them
       pub judge-error : (s w : ℕ) → 1 + extra sequence check ≤ length block
           → s ≡ logicalSum (take (dataWords block sequence check) block) → w ≡ getD block (dataWords block sequence check) 0
-          → record { refusal = 0; error = errorOf sequence check s number w } ≡ judged block sequence check number
-      unfolding judged
+          → record { refusal = 0; error = errorOf sequence check s number w } ≡ judgedBlock block sequence check number
+      unfolding judgedBlock
       judge-error s w h es ew =
           rw (judge-accepted h) (ap₂ (λ (x y : ℕ). record { refusal = 0; error = errorOf sequence check x number y }) es ew)
 

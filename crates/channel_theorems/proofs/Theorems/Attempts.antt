@@ -16,7 +16,8 @@ use Rattle.channel.specs.declared.Channel.{Channel}
 use Rattle.channel_outcomes.specs.Rules.{rowOf}
 use Rattle.channel.specs.Units.{size, declaredAt, turnAt, withTurn, isIdle}
 use Rattle.channel_turns.specs.Starts.{startOf, newRequest}
-use Rattle.channel_theorems.specs.History.{Station, Event, ask, accepted, Step, step, run, oneIf, count, aReportOf, anAnswerTo}
+use Rattle.channel_theorems.specs.History.{Station, Event, ask, accepted, Step, step, run, count, aReportOf, anAnswerTo}
+use Rattle.area.specs.Lists.{oneIf}
 use Rattle.channel_theorems.proofs.Theorems.Turning.{held, at-set, busy-inside, declared-inside}
 use Rattle.channel_theorems.proofs.Theorems.Starts.{Started, isFrozen, isBusy, isQuiet, begins, started}
 use Rattle.channel_theorems.proofs.Theorems.Calls.{endedAt, Took, refuses, asks, repeats, ends, freezes, thaws, took, incomplete-held, no-report, of-unit, of-other, not-here}

@@ -14,7 +14,8 @@ use Rattle.channel.specs.declared.Turn.the-variants.{Idle, Waiting}
 use Rattle.channel.specs.declared.Channel.{Channel}
 use Rattle.channel.specs.Units.{size, turnAt, withTurn, isIdle}
 use Rattle.channel_turns.specs.Starts.{startOf, newRequest}
-use Rattle.channel_theorems.specs.History.{Station, Event, Step, step, run, oneIf, count, aRequestOf, anAnswerTo}
+use Rattle.channel_theorems.specs.History.{Station, Event, Step, step, run, count, aRequestOf, anAnswerTo}
+use Rattle.area.specs.Lists.{oneIf}
 use Rattle.channel_theorems.proofs.Theorems.Turning.{held, at-set, busy-inside, declared-inside}
 use Rattle.channel_theorems.proofs.Theorems.Starts.{Started, isFrozen, isBusy, isQuiet, begins, started}
 use Rattle.channel_theorems.proofs.Theorems.Calls.{endedAt, Took, refuses, asks, repeats, ends, freezes, thaws, took, incomplete-held, no-answer, no-request, of-unit, of-other}

@@ -15,7 +15,8 @@ use Rattle.channel_outcomes.specs.Rules.{mostReports}
 use Rattle.channel.specs.Units.{size, declaredAt, turnAt, withTurn}
 use Rattle.channel_turns.specs.Turns.{isOrdinary}
 use Rattle.channel_turns.specs.Starts.{newRequest}
-use Rattle.channel_theorems.specs.History.{oneIf, holdsPriority}
+use Rattle.channel_theorems.specs.History.{holdsPriority}
+use Rattle.area.specs.Lists.{oneIf}
 use Rattle.channel_theorems.proofs.Laws.Sums.{sum, sum-at, sum-le, sum-mul, sum-term}
 use Rattle.channel_theorems.proofs.Theorems.Turning.{held, at-set, busy-inside}
 use Rattle.channel_theorems.proofs.Theorems.Starts.{turn-busy, Started, isFrozen, isBusy, isQuiet, begins}

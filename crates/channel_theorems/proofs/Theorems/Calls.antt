@@ -14,7 +14,7 @@ use Rattle.channel.specs.declared.Channel.{Channel}
 use Rattle.channel_outcomes.specs.declared.Verdict.{Verdict}
 use Rattle.channel_outcomes.specs.declared.Verdict.the-variants.{Refused, Repeats, Ends}
 use Rattle.channel_outcomes.specs.Rules.{verdictOf}
-use Rattle.channel.specs.Units.{declaredAt, turnAt, withTurn, withMark, isIdle, acceptsAt}
+use Rattle.channel.specs.Units.{declaredAt, turnAt, withTurn, withScanMark, isIdle, acceptsAt}
 use Rattle.channel_turns.specs.Turns.{judgeTurn, judgeOf, goesOn, incompleteTurn, repeatOf, markAfter, endOf, bookOf, reportOf}
 use Rattle.channel_turns.specs.Starts.{startOf, thawOf, newRequest, askOf}
 use Rattle.channel_theorems.specs.History.{Station, station, Event, ask, report, freeze, thaw, refused, accepted, repeated, answered, Step, stepTo, askStep, reportAnswer, step, aReportOf, aRequestOf, anAnswerTo}
@@ -27,7 +27,7 @@ pub data Incomplete (q : Request) : Turn → Type 0 where
 
 -- the channel with unit u's operation ended, before a start
 abbrev pub endedAt : Channel → ℕ → Channel
-endedAt c u = withMark (withTurn c u Idle) (markAfter c u)
+endedAt c u = withScanMark (withTurn c u Idle) (markAfter c u)
 
 pub data Took (s : Station) : Event → Step → Type 0 where
   refuses : {e : Event} → Took s e (stepTo refused s)

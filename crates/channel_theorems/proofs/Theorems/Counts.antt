@@ -6,7 +6,7 @@ use mathlib.Core.List.{List}
 use Prim.Native.Nat.{ℕ, _≤_}
 use native.Mathlib.Omega.{arith}
 use lib.ListN.{length, getD}
-use Rattle.area.specs.Lists.{countOf}
+use Rattle.area.specs.Lists.{countOf, oneIf}
 use Rattle.channel.specs.declared.Request.{Request}
 use Rattle.channel.specs.declared.Turn.{Turn}
 use Rattle.channel.specs.declared.Turn.the-variants.{Idle, Waiting, Displaced, Working}
@@ -14,7 +14,7 @@ use Rattle.channel.specs.declared.Unit.{Unit}
 use Rattle.channel.specs.declared.Channel.{Channel}
 use Rattle.channel.specs.Units.{size, idleUnit, declaredAt, turnAt, freshWith}
 use Rattle.channel_turns.specs.Starts.{startOf}
-use Rattle.channel_theorems.specs.History.{oneIf, holdsPriority, urgentIn, declaredIn}
+use Rattle.channel_theorems.specs.History.{holdsPriority, urgentIn, declaredIn}
 use Rattle.channel_theorems.proofs.Laws.Sums.{sum, sum-le, count-sum}
 use Rattle.channel_theorems.proofs.Theorems.Turning.{held, at-set}
 use Rattle.channel_theorems.proofs.Theorems.Starts.{Started, isFrozen, isBusy, isQuiet, begins, started}

@@ -13,7 +13,8 @@ use Rattle.channel_outcomes.specs.Rules.{mostReports}
 use Rattle.channel.specs.Units.{size, turnAt, withTurn, freshWith}
 use Rattle.channel_turns.specs.Turns.{isOrdinary}
 use Rattle.channel_turns.specs.Starts.{startOf, newRequest}
-use Rattle.channel_theorems.specs.History.{Station, Event, ask, accepted, Step, step, fresh, run, oneIf, count, aReport, aPriority, anAnswerTo, holdsPriority, declaredIn, Kept}
+use Rattle.channel_theorems.specs.History.{Station, Event, ask, accepted, Step, step, fresh, run, count, aReport, aPriority, anAnswerTo, holdsPriority, declaredIn, Kept}
+use Rattle.area.specs.Lists.{oneIf}
 use Rattle.channel_theorems.proofs.Theorems.Turning.{held, size-with, at-set, declared-inside}
 use Rattle.channel_theorems.proofs.Theorems.Starts.{turn-busy, started}
 use Rattle.channel_theorems.proofs.Theorems.Calls.{Took, refuses, asks, took}

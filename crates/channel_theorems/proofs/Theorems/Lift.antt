@@ -6,7 +6,8 @@ use mathlib.Core.List.{List, [], _∷_}
 use Prim.Native.Nat.{ℕ, _+_}
 use native.Mathlib.Omega.{arith}
 use Rattle.channel.specs.declared.Op.{Op}
-use Rattle.channel_theorems.specs.History.{Station, Event, ask, Answer, accepted, Step, stepTo, step, fresh, run, oneIf, count, aReport, aPriority, aRequestOf, anAnswerTo, isAlive, declaredIn, Kept}
+use Rattle.channel_theorems.specs.History.{Station, Event, ask, Answer, accepted, Step, stepTo, step, fresh, run, count, aReport, aPriority, aRequestOf, anAnswerTo, isAlive, declaredIn, Kept}
+use Rattle.area.specs.Lists.{oneIf}
 use Rattle.channel_theorems.specs.Lifted.{Shown, Agrees, System, runIn, countShown, countIn, KeptIn}
 use Rattle.channel_theorems.proofs.Theorems.Demand.{demand3}
 

@@ -7,7 +7,8 @@ use Prim.Native.Nat.{ℕ, _+_, _*_, _≤_, _<_}
 use native.Mathlib.Omega.{arith}
 use Rattle.channel.specs.declared.Op.{Op}
 use Rattle.channel_outcomes.specs.Rules.{mostAttempts, mostReports, rowOf}
-use Rattle.channel_theorems.specs.History.{Station, Event, ask, Answer, accepted, step, fresh, run, oneIf, count, aReport, aReportOf, aPriority, anAnswerTo, urgentIn, Kept}
+use Rattle.channel_theorems.specs.History.{Station, Event, ask, Answer, accepted, step, fresh, run, count, aReport, aReportOf, aPriority, anAnswerTo, urgentIn, Kept}
+use Rattle.area.specs.Lists.{oneIf}
 use Rattle.channel_theorems.proofs.Theorems.Sound.{Sound, limit-most, sound-step, sound-run}
 use Rattle.channel_theorems.proofs.Theorems.Calls.{took}
 use Rattle.channel_theorems.proofs.Theorems.Attempts.{tried-first, tried-run, tried-left}

@@ -9,7 +9,7 @@ use Rattle.area.proofs.Walks.{true-not-false}
 use Rattle.channel.specs.declared.Turn.{Turn}
 use Rattle.channel.specs.declared.Turn.the-variants.{Idle}
 use Rattle.channel.specs.declared.Channel.{Channel}
-use Rattle.channel.specs.Units.{size, turnAt, withTurn, withMark}
+use Rattle.channel.specs.Units.{size, turnAt, withTurn, withScanMark}
 use Rattle.channel_turns.specs.Scans.{nextUnit, beginOf, Before}
 use Rattle.channel_turns.specs.Turns.{isOrdinary}
 use Rattle.channel_turns.proofs.Laws.Scans.{next-below, begin-here}
@@ -102,7 +102,7 @@ also-other x D y ne = go (ℕ-discrete y x)
 
 -- the ordinary operation of x, not u, ends: the scan begins above x
 pub race-ended : (n u : ℕ) (D : ℕ → Bool) (c : Channel) (x : ℕ) → Sound c → Race n u D c → x < size c → x ≢ u → worksTurn (turnAt c x) ≡ true
-    → Race n u (also x D) (withMark (withTurn c x Idle) (nextUnit n x))
+    → Race n u (also x D) (withScanMark (withTurn c x Idle) (nextUnit n x))
 race-ended n u D c x s h l ne t = record {
   long = size-with c x Idle ∙ h .long;
   self = also-other x D u (λ e. ne (sym e)) ∙ h .self;

@@ -12,11 +12,12 @@ use Rattle.channel.specs.declared.Turn.{Turn}
 use Rattle.channel.specs.declared.Turn.the-variants.{Idle, Waiting, Displaced, Working}
 use Rattle.channel.specs.declared.Channel.{Channel}
 use Rattle.channel_outcomes.specs.Rules.{mostReports}
-use Rattle.channel.specs.Units.{size, declaredAt, turnAt, withTurn, withMark}
+use Rattle.channel.specs.Units.{size, declaredAt, turnAt, withTurn, withScanMark}
 use Rattle.channel_turns.specs.Scans.{nextUnit}
 use Rattle.channel_turns.specs.Turns.{isOrdinary, markAfter}
 use Rattle.channel_turns.specs.Starts.{startOf, newRequest}
-use Rattle.channel_theorems.specs.History.{Station, station, Event, ask, report, thaw, Answer, accepted, repeated, answered, Step, stepTo, oneIf, aReport, aPriority, anAnswerTo}
+use Rattle.channel_theorems.specs.History.{Station, station, Event, ask, report, thaw, Answer, accepted, repeated, answered, Step, stepTo, aReport, aPriority, anAnswerTo}
+use Rattle.area.specs.Lists.{oneIf}
 use Rattle.channel_theorems.proofs.Theorems.Turning.{worksTurn, held, declared-inside}
 use Rattle.channel_theorems.proofs.Theorems.Starts.{started}
 use Rattle.channel_theorems.proofs.Theorems.Calls.{Incomplete, onward, aside, Took, refuses, asks, repeats, ends, freezes, thaws, not-here}
@@ -40,7 +41,7 @@ then-start n u D E c d f e a h l =
     record { served = E; race = race-start n u E d f (startOf d f) h (started d f); pays = omega arith }
 
 -- a mark says nothing of the units
-budget-mark : (n : ℕ) (D : ℕ → Bool) (c : Channel) (m : ℕ) → budget n D (withMark c m) ≡ budget n D c
+budget-mark : (n : ℕ) (D : ℕ → Bool) (c : Channel) (m : ℕ) → budget n D (withScanMark c m) ≡ budget n D c
 unfolding budget
 budget-mark n D c m = refl
 
@@ -53,7 +54,7 @@ unfolding markAfter
 mark-priority c x r i p = rw (i, p)
 
 -- the mark as it was
-with-mark-same : (c : Channel) (x : ℕ) (t : Turn) → withMark (withTurn c x t) (c .mark) ≡ withTurn c x t
+with-mark-same : (c : Channel) (x : ℕ) (t : Turn) → withScanMark (withTurn c x t) (c .mark) ≡ withTurn c x t
 unfolding withTurn
 with-mark-same c x t = refl
 
@@ -119,7 +120,7 @@ raced n u D s e o k h (ends x oc r i) a = go (r .priority) refl
     tried = omega (arith, w .counted .limit, limit-most (r .op))
 
     After : ℕ → Type 0
-    After m = Raced n u D c (report x oc) (stepTo answered (station (startOf (withMark (withTurn c x Idle) m) (s .frozen)) (s .frozen)))
+    After m = Raced n u D c (report x oc) (stepTo answered (station (startOf (withScanMark (withTurn c x Idle) m) (s .frozen)) (s .frozen)))
 
     go : (b : Bool) → r .priority ≡ b → After (markAfter c x)
     go true p =
@@ -131,7 +132,7 @@ raced n u D s e o k h (ends x oc r i) a = go (r .priority) refl
     go false p =
         let t : worksTurn (turnAt c x) ≡ true = ap worksTurn i ∙ ap not p in
         rw (mark-ordinary c x n r (h .long) i p)
-        (then-start n u D (also x D) c (withMark (withTurn c x Idle) (nextUnit n x)) (s .frozen) (report x oc) answered
+        (then-start n u D (also x D) c (withScanMark (withTurn c x Idle) (nextUnit n x)) (s .frozen) (report x oc) answered
         (race-ended n u D c x k h (w .within) other t)
         (rw (budget-mark n (also x D) (withTurn c x Idle) (nextUnit n x))
         (budget-at n D (also x D) c x Idle 1 0 (h .long) (w .within) (λ y ne. also-other x D y ne)

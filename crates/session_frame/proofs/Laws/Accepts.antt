@@ -15,7 +15,7 @@ use Rattle.session_frame.proofs.Laws.Writes.{length-byte, length-concat
 use Rattle.session_frame.proofs.Laws.Trips.{bytes-back, digits-are}
 use Rattle.session_frame.specs.declared.Frame.{Frame}
 use Rattle.session_frame.specs.declared.Frame.the-variants.{Malformed, Close, Report, Get, Put, Seal, Skip, Freeze, Thaw}
-use Rattle.session_frame.specs.Frames.{longest, isText, sized, worded, wordsAfter, freshOf, openOf, askOf, reportOf, putOf, kindBy, kindOf, frameOf}
+use Rattle.session_frame.specs.Frames.{longest, isText, sized, worded, wordCount, freshFrom, openFrom, askFrom, reportFrom, putFrom, kindBy, kindOf, frameOf}
 use Rattle.session_frame.specs.Formed.{Kind, fresh, opens, close, ask, report, get, put, seal, skip, freeze, thaw, WellFormed, Accepted}
 use Rattle.session_frame.proofs.Laws.Sizes.{worded-yes, text-long, frame-text, frame-other}
 
@@ -33,8 +33,8 @@ sized-exact : (n size : ℕ) (f : Frame) → Decoded (sized n size f) → n ≡ 
 unfolding sized
 sized-exact n size f h = either (eqb n size) f Malformed (λ e a. eqb-true n size e) (λ a. absurd (a refl)) h
 
-worded-exact : (n head : ℕ) (f : Frame) → Decoded (worded n head f) → n ≡ head + 5 * wordsAfter n head
-unfolding worded wordsAfter
+worded-exact : (n head : ℕ) (f : Frame) → Decoded (worded n head f) → n ≡ head + 5 * wordCount n head
+unfolding worded wordCount
 worded-exact n head f h =
     by-test (λ t. ltb n head ≡ t → Decoded (cond t Malformed (cond (eqb ((n - head) % 5) 0) f Malformed)) → n ≡ head + 5 * ((n - head) / 5)) (ltb n head)
     (λ t e a. absurd (a refl))
@@ -48,15 +48,15 @@ kind-at : {k l n m : ℕ} → k ≡ l → n ≡ m → Kind l m → Kind k n
 kind-at {k} {l} {n} {m} p q x = subst (λ (j : ℕ). Kind j n) (sym p) (subst (λ (j : ℕ). Kind l j) (sym q) x)
 
 kind-exact : (k n : ℕ) (b : List ℕ) → Decoded (kindBy k n b) → Kind k n
-unfolding kindBy freshOf openOf askOf reportOf putOf
+unfolding kindBy freshFrom openFrom askFrom reportFrom putFrom
 kind-exact k n b =
-    either (eqb k 0) (freshOf n b) _ (λ e a. kind-at (eqb-true k 0 e) (sized-exact n 14 _ a) fresh)
-    (either (eqb k 1) (openOf n b) _ (λ e a. kind-at (eqb-true k 1 e) (sized-exact n 9 _ a) opens)
+    either (eqb k 0) (freshFrom n b) _ (λ e a. kind-at (eqb-true k 0 e) (sized-exact n 14 _ a) fresh)
+    (either (eqb k 1) (openFrom n b) _ (λ e a. kind-at (eqb-true k 1 e) (sized-exact n 9 _ a) opens)
     (either (eqb k 2) (sized n 2 (Close (byteAt b 1))) _ (λ e a. kind-at (eqb-true k 2 e) (sized-exact n 2 _ a) close)
-    (either (eqb k 3) (askOf n b) _ (λ e a. kind-at (eqb-true k 3 e) (sized-exact n 4 _ a) ask)
-    (either (eqb k 4) (reportOf n b) _ (λ e a. kind-at (eqb-true k 4 e) (worded-exact n 4 _ a) (report (wordsAfter n 4)))
+    (either (eqb k 3) (askFrom n b) _ (λ e a. kind-at (eqb-true k 3 e) (sized-exact n 4 _ a) ask)
+    (either (eqb k 4) (reportFrom n b) _ (λ e a. kind-at (eqb-true k 4 e) (worded-exact n 4 _ a) (report (wordCount n 4)))
     (either (eqb k 5) (sized n 2 (Get (byteAt b 1))) _ (λ e a. kind-at (eqb-true k 5 e) (sized-exact n 2 _ a) get)
-    (either (eqb k 6) (putOf n b) _ (λ e a. kind-at (eqb-true k 6 e) (worded-exact n 2 _ a) (put (wordsAfter n 2)))
+    (either (eqb k 6) (putFrom n b) _ (λ e a. kind-at (eqb-true k 6 e) (worded-exact n 2 _ a) (put (wordCount n 2)))
     (either (eqb k 7) (sized n 2 (Seal (byteAt b 1))) _ (λ e a. kind-at (eqb-true k 7 e) (sized-exact n 2 _ a) seal)
     (either (eqb k 8) (sized n 2 (Skip (byteAt b 1))) _ (λ e a. kind-at (eqb-true k 8 e) (sized-exact n 2 _ a) skip)
     (either (eqb k 9) (sized n 1 Freeze) _ (λ e a. kind-at (eqb-true k 9 e) (sized-exact n 1 _ a) freeze)
@@ -69,17 +69,17 @@ module _ (n head words : ℕ) (f : Frame) (e : n ≡ head + 5 * words) where
   worded-whole = worded-yes n head f (omega arith) (omega arith)
 
 kind-accepted : (k n : ℕ) (b : List ℕ) → Kind k n → Decoded (kindBy k n b)
-unfolding kindBy freshOf openOf askOf reportOf putOf sized
+unfolding kindBy freshFrom openFrom askFrom reportFrom putFrom sized
 kind-accepted k n b fresh e = let z : _≡_ {A = ℕ} 0 1 = cc in omega arith
 kind-accepted k n b opens e = let z : _≡_ {A = ℕ} 0 1 = cc in omega arith
 kind-accepted k n b close e = let z : _≡_ {A = ℕ} 0 1 = cc in omega arith
 kind-accepted k n b ask e = let z : _≡_ {A = ℕ} 0 1 = cc in omega arith
 kind-accepted k n b (report words) e =
-    let g = sym (worded-whole (4 + 5 * words) 4 words (Report (record { channel = byteAt b 1; unit = byteAt b 2; outcome = byteAt b 3; words = wordsAfter (4 + 5 * words) 4 })) refl) ∙ e in
+    let g = sym (worded-whole (4 + 5 * words) 4 words (Report (record { channel = byteAt b 1; unit = byteAt b 2; outcome = byteAt b 3; words = wordCount (4 + 5 * words) 4 })) refl) ∙ e in
     let z : _≡_ {A = ℕ} 0 1 = cc in omega arith
 kind-accepted k n b get e = let z : _≡_ {A = ℕ} 0 1 = cc in omega arith
 kind-accepted k n b (put words) e =
-    let g = sym (worded-whole (2 + 5 * words) 2 words (Put (record { file = byteAt b 1; words = wordsAfter (2 + 5 * words) 2 })) refl) ∙ e in
+    let g = sym (worded-whole (2 + 5 * words) 2 words (Put (record { file = byteAt b 1; words = wordCount (2 + 5 * words) 2 })) refl) ∙ e in
     let z : _≡_ {A = ℕ} 0 1 = cc in omega arith
 kind-accepted k n b seal e = let z : _≡_ {A = ℕ} 0 1 = cc in omega arith
 kind-accepted k n b skip e = let z : _≡_ {A = ℕ} 0 1 = cc in omega arith

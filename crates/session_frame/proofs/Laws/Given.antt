@@ -16,7 +16,7 @@ use Rattle.session_frame.specs.declared.Frame.{Frame}
 use Rattle.session_frame.specs.declared.ReportFrame.{ReportFrame}
 use Rattle.session_frame.specs.declared.PutFrame.{PutFrame}
 use Rattle.session_frame.specs.declared.Frame.the-variants.{Malformed, Fresh, Open, Close, Ask, Report, Get, Put, Seal, Skip, Freeze, Thaw}
-use Rattle.session_frame.specs.Frames.{longest, isText, sized, worded, wordsAfter, freshOf, openOf, askOf, reportOf, putOf, kindBy, kindOf, frameOf, wordsFrom}
+use Rattle.session_frame.specs.Frames.{longest, isText, sized, worded, wordCount, freshFrom, openFrom, askFrom, reportFrom, putFrom, kindBy, kindOf, frameOf, wordsFrom}
 use Rattle.session_frame.proofs.Laws.Sizes.{frame-text, frame-other}
 
 -- the count of words that a frame holds is exact, in a line of n bytes
@@ -38,8 +38,8 @@ either : (t : Bool) (x y : Frame) (n : ℕ) → Exact x n → Exact y n → Exac
 either true x y n p q = p
 either false x y n p q = q
 
-exact-worded : (n head : ℕ) (f : Frame) → (n ≡ head + 5 * wordsAfter n head → Exact f n) → Exact (worded n head f) n
-unfolding worded wordsAfter Exact
+exact-worded : (n head : ℕ) (f : Frame) → (n ≡ head + 5 * wordCount n head → Exact f n) → Exact (worded n head f) n
+unfolding worded wordCount Exact
 exact-worded n head f x =
     by-test (λ t. ltb n head ≡ t → Exact (cond t Malformed (cond (eqb ((n - head) % 5) 0) f Malformed)) n) (ltb n head) (λ q e. tt)
     (λ q e. by-test (λ t. eqb ((n - head) % 5) 0 ≡ t → Exact (cond t f Malformed) n) (eqb ((n - head) % 5) 0)
@@ -49,15 +49,15 @@ exact-worded n head f x =
     x (omega arith)) (λ r z. tt) refl) refl
 
 exact-kind : (k n : ℕ) (b : List ℕ) → Exact (kindBy k n b) n
-unfolding kindBy freshOf openOf askOf reportOf putOf sized Exact
+unfolding kindBy freshFrom openFrom askFrom reportFrom putFrom sized Exact
 exact-kind k n b =
     either (eqb k 0) _ _ n (either (eqb n 14) _ _ n tt tt)
     (either (eqb k 1) _ _ n (either (eqb n 9) _ _ n tt tt)
     (either (eqb k 2) _ _ n (either (eqb n 2) _ _ n tt tt)
     (either (eqb k 3) _ _ n (either (eqb n 4) _ _ n tt tt)
-    (either (eqb k 4) _ _ n (exact-worded n 4 (Report (record { channel = byteAt b 1; unit = byteAt b 2; outcome = byteAt b 3; words = wordsAfter n 4 })) (λ x. x))
+    (either (eqb k 4) _ _ n (exact-worded n 4 (Report (record { channel = byteAt b 1; unit = byteAt b 2; outcome = byteAt b 3; words = wordCount n 4 })) (λ x. x))
     (either (eqb k 5) _ _ n (either (eqb n 2) _ _ n tt tt)
-    (either (eqb k 6) _ _ n (exact-worded n 2 (Put (record { file = byteAt b 1; words = wordsAfter n 2 })) (λ x. x))
+    (either (eqb k 6) _ _ n (exact-worded n 2 (Put (record { file = byteAt b 1; words = wordCount n 2 })) (λ x. x))
     (either (eqb k 7) _ _ n (either (eqb n 2) _ _ n tt tt)
     (either (eqb k 8) _ _ n (either (eqb n 2) _ _ n tt tt)
     (either (eqb k 9) _ _ n (either (eqb n 1) _ _ n tt tt)

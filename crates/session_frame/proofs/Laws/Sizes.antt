@@ -13,7 +13,7 @@ use Rattle.session_frame.specs.Fields.{byteAt}
 use Rattle.session_frame.proofs.Laws.Bytes.{length-bytes}
 use Rattle.session_frame.specs.declared.Frame.{Frame}
 use Rattle.session_frame.specs.declared.Frame.the-variants.{Malformed}
-use Rattle.session_frame.specs.Frames.{longest, isText, sized, worded, wordsAfter, kindBy, kindOf, frameOf}
+use Rattle.session_frame.specs.Frames.{longest, isText, sized, worded, wordCount, kindBy, kindOf, frameOf}
 
 module _ (n size : ℕ) (f : Frame) where
   pub sized-yes : n ≡ size → sized n size f ≡ f
@@ -36,8 +36,8 @@ module _ (n size : ℕ) (f : Frame) where
   unfolding worded
   worded-no h k = rw (le-ltb n size h, ne-eqb ((n - size) % 5) 0 k)
 
-pub words-none : (n head : ℕ) → n < head → wordsAfter n head ≡ 0
-unfolding wordsAfter
+pub words-none : (n head : ℕ) → n < head → wordCount n head ≡ 0
+unfolding wordCount
 words-none n head h = let e : n - head ≡ 0 = omega arith in rw e
 
 -- a line that is too long is no text

@@ -1,5 +1,5 @@
 -- `file_output::sealed` meets its contract, from the contracts of `part_length`, `filled_at` and `part_side`. Assumes nothing.
-use Rattle.file_output.specs.Parts.{sealed}
+use Rattle.file_output.specs.Parts.{sealedFile}
 use borrow.Author.Needs.{needs}
 use Rattle.file_output.proofs.parts.sealed.Statement.{statement}
 use Rattle.file_output.proofs.parts.sealed.Tie as tie
@@ -14,7 +14,7 @@ filled-at-requires : tie.Need-filled-at-requires
 filled-at-requires c κs = search needs
 
 returns : tie.Need-returns
-unfolding sealed
+unfolding sealedFile
 returns c = simp (c .filled-at .ensures, c .before .part-length .ensures, c .before .before .part-side .ensures)
 
 pub sealed-spec : {M : Type 1} → statement M

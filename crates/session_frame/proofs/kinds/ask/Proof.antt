@@ -1,7 +1,7 @@
 -- `session_frame::kinds::ask` meets its contract: each number is the field that its definition names. Assumes nothing.
 use borrow.Author.Needs.{needs}
 use mathlib.Core.Path.{_∙_}
-use Rattle.session_frame.specs.Frames.{askOf}
+use Rattle.session_frame.specs.Frames.{askFrom}
 use Rattle.session_frame.proofs.kinds.ask.Statement.{statement}
 use Rattle.session_frame.proofs.kinds.ask.Tie as tie
 
@@ -18,7 +18,7 @@ if-sized-requires : tie.Need-if-sized-requires
 if-sized-requires c κs = search needs
 
 returns : tie.Need-returns
-unfolding askOf
+unfolding askFrom
 returns c = c .if-sized .ensures ∙ rw (c .before .before .before .byte-at .ensures, c .before .before .byte-at2 .ensures, c .before .byte-at3 .ensures)
 
 pub ask-spec : {M : Type 1} → statement M

@@ -1,7 +1,7 @@
 -- `session_frame::kinds::fresh` meets its contract: each number is the field that its definition names. Assumes nothing.
 use borrow.Author.Needs.{needs}
 use mathlib.Core.Path.{_∙_}
-use Rattle.session_frame.specs.Frames.{freshOf}
+use Rattle.session_frame.specs.Frames.{freshFrom}
 use Rattle.session_frame.proofs.kinds.fresh.Statement.{statement}
 use Rattle.session_frame.proofs.kinds.fresh.Tie as tie
 
@@ -30,7 +30,7 @@ if-sized-requires : tie.Need-if-sized-requires
 if-sized-requires c κs = search needs
 
 returns : tie.Need-returns
-unfolding freshOf
+unfolding freshFrom
 returns c = c .if-sized .ensures ∙ rw (c .before .before .before .before .before .before .before .size-at .ensures, c .before .before .before .before .before .before .size-at2 .ensures, c .before .before .before .before .before .size-at3 .ensures, c .before .before .before .before .size-at4 .ensures, c .before .before .before .size-at5 .ensures, c .before .before .byte-at .ensures, c .before .size-at6 .ensures)
 
 pub fresh-spec : {M : Type 1} → statement M

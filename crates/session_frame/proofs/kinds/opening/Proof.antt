@@ -1,7 +1,7 @@
 -- `session_frame::kinds::opening` meets its contract: each number is the field that its definition names. Assumes nothing.
 use borrow.Author.Needs.{needs}
 use mathlib.Core.Path.{_∙_}
-use Rattle.session_frame.specs.Frames.{openOf}
+use Rattle.session_frame.specs.Frames.{openFrom}
 use Rattle.session_frame.proofs.kinds.opening.Statement.{statement}
 use Rattle.session_frame.proofs.kinds.opening.Tie as tie
 
@@ -27,7 +27,7 @@ if-sized-requires : tie.Need-if-sized-requires
 if-sized-requires c κs = search needs
 
 returns : tie.Need-returns
-unfolding openOf
+unfolding openFrom
 returns c = c .if-sized .ensures ∙ rw (c .before .before .before .before .before .before .byte-at .ensures, c .before .before .before .before .before .byte-at2 .ensures, c .before .before .before .before .byte-at3 .ensures, c .before .before .before .byte-at4 .ensures, c .before .before .size-at .ensures, c .before .size-at2 .ensures)
 
 pub opening-spec : {M : Type 1} → statement M

@@ -1,7 +1,7 @@
 -- `session_frame::kinds::put` meets its contract: each number is the field that its definition names. Assumes nothing.
 use borrow.Author.Needs.{needs}
 use mathlib.Core.Path.{_∙_}
-use Rattle.session_frame.specs.Frames.{putOf}
+use Rattle.session_frame.specs.Frames.{putFrom}
 use Rattle.session_frame.proofs.kinds.put.Statement.{statement}
 use Rattle.session_frame.proofs.kinds.put.Tie as tie
 
@@ -15,7 +15,7 @@ if-worded-requires : tie.Need-if-worded-requires
 if-worded-requires c κs = search needs
 
 returns : tie.Need-returns
-unfolding putOf
+unfolding putFrom
 returns c = c .if-worded .ensures ∙ rw (c .before .before .byte-at .ensures, c .before .words-after .ensures)
 
 pub put-spec : {M : Type 1} → statement M

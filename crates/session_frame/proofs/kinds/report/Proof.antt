@@ -1,7 +1,7 @@
 -- `session_frame::kinds::report` meets its contract: each number is the field that its definition names. Assumes nothing.
 use borrow.Author.Needs.{needs}
 use mathlib.Core.Path.{_∙_}
-use Rattle.session_frame.specs.Frames.{reportOf}
+use Rattle.session_frame.specs.Frames.{reportFrom}
 use Rattle.session_frame.proofs.kinds.report.Statement.{statement}
 use Rattle.session_frame.proofs.kinds.report.Tie as tie
 
@@ -21,7 +21,7 @@ if-worded-requires : tie.Need-if-worded-requires
 if-worded-requires c κs = search needs
 
 returns : tie.Need-returns
-unfolding reportOf
+unfolding reportFrom
 returns c = c .if-worded .ensures ∙ rw (c .before .before .before .before .byte-at .ensures, c .before .before .before .byte-at2 .ensures, c .before .before .byte-at3 .ensures, c .before .words-after .ensures)
 
 pub report-spec : {M : Type 1} → statement M

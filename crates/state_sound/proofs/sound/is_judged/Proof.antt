@@ -1,5 +1,5 @@
 -- `state_sound::is_judged` meets its contract, from the contracts of `pool_sound`, `files_sound`, `files_fit` and `channels_right`. Assumes nothing.
-use Rattle.state_sound.specs.Judged.{judged}
+use Rattle.state_sound.specs.Judged.{judgedState}
 use borrow.Author.Needs.{needs}
 use Rattle.state_sound.proofs.sound.is_judged.Statement.{statement}
 use Rattle.state_sound.proofs.sound.is_judged.Tie as tie
@@ -17,7 +17,7 @@ channels-right-requires : tie.Need-channels-right-requires
 channels-right-requires c κs = search needs
 
 returns : tie.Need-returns
-unfolding judged
+unfolding judgedState
 returns c = simp (c .before .before .before .pool-sound .ensures, c .before .before .files-sound .ensures, c .before .files-fit .ensures, c .channels-right .ensures)
 
 pub is-judged-spec : {M : Type 1} → statement M
