@@ -26,14 +26,8 @@ pub fn ask(s: State, file: u8, op: u8, priority: u8) -> Asking
     let j = f.channel as usize;
     let c = channel_at(s, j);
     let whole = is_sound(s);
-    let x = ask_on(
-        !whole | (FILES <= file as usize),
-        f,
-        c,
-        op,
-        priority,
-        s.frozen,
-    );
+    let wrong = !whole | (FILES <= i);
+    let x = ask_on(wrong, f, c, op, priority, s.frozen);
     let g = x.file;
     let d = x.channel;
     let t = changed_state(s, i, j, x.refusal, g, d);
@@ -64,7 +58,7 @@ pub fn report(
     let f = file_at(s, i);
     let j = channel as usize;
     let c = channel_at(s, j);
-    let wrong = !whole | (short | (CHANNELS <= channel as usize));
+    let wrong = !whole | (short | (CHANNELS <= j));
     let x = report_on(wrong, f, c, unit, outcome, s.w, s.frozen, area, words);
     let g = x.file;
     let d = x.channel;
