@@ -6,7 +6,7 @@ use file::full_place;
 use file::is_empty;
 ghost use mathlib.Core.Path.{_≡_};
 ghost use Prim.Native.Nat.{_≤_};
-ghost use Rattle.state_sound.specs.Files.{isNoBuffer, fullFits, partFits, placeFits, isUnread}
+ghost use Rattle.state_sound.specs.Files.{isNoBuffer, fullFits, partFits, placeFits, isUnread};
 ghost use Rattle.area.specs.Lists.{oneIf};
 
 pub fn is_no_buffer(b: Buffer) -> bool
