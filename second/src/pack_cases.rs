@@ -186,23 +186,15 @@ mod tests {
         }
     }
 
-    /// Each call but a fresh start is refused 1 on at least three unsound states. A fresh start is
-    /// accepted on at least three, and what it leaves is printed.
+    /// Each call is refused 1 on every unsound state that it meets, and meets at least three.
     #[test]
     fn every_call_meets_unsound_states() {
         let mut met = BTreeMap::<u64, Vec<State>>::new();
-        let mut printed = 0;
-        let mut fresh_from_unsound = false;
         play_all(&pack_cases(), |played| {
-            printed += u64::from(fresh_from_unsound && played.command[0] == PRINT_STATE);
-            let unsound = played.is_call() && !is_sound(&played.before.state);
-            fresh_from_unsound = unsound && played.command[0] == FRESH && played.first() == 0;
-            if !unsound {
+            if !played.is_call() || is_sound(&played.before.state) {
                 return;
             }
-            if played.command[0] != FRESH {
-                assert_eq!(played.answer, Some(&[1][..]));
-            }
+            assert_eq!(played.answer, Some(&[1][..]));
             let states = met.entry(played.command[0]).or_default();
             if !states.contains(&played.before.state) {
                 states.push(played.before.state.clone());
@@ -211,7 +203,54 @@ mod tests {
         for call in FRESH..=THAW {
             assert!(met[&call].len() >= 3, "{call}: {}", met[&call].len());
         }
-        assert!(printed >= 3);
+    }
+
+    /// Fresh starts whose own numbers are right meet each clause broken alone, and what they leave
+    /// is printed.
+    #[test]
+    fn fresh_starts_meet_every_broken_clause() {
+        let mut met = BTreeSet::new();
+        let mut refused_last = false;
+        let mut printed = 0;
+        play_all(&pack_cases(), |played| {
+            printed += u64::from(refused_last && played.command[0] == PRINT_STATE);
+            let broken = broken_clauses(&played.before.state);
+            refused_last = played.command[0] == FRESH && !broken.is_empty();
+            let from_the_beginning = Player { state: State::default(), ..played.before.clone() };
+            let right = |mut player: Player| player.play(played.command) == Ok(Some(vec![0]));
+            if let (true, [clause]) = (refused_last, &broken[..]) {
+                if right(from_the_beginning) {
+                    met.insert(*clause);
+                }
+            }
+        });
+        assert!(met.into_iter().eq(all_clauses()));
+        assert!(printed >= 6, "{printed}");
+    }
+
+    /// Fresh starts are accepted on many sound states: frozen ones and others, with and without open
+    /// files and requests, with a scan that does not begin at 0.
+    #[test]
+    fn fresh_starts_meet_sound_states() {
+        let mut states = Vec::<State>::new();
+        play_all(&pack_cases(), |played| {
+            let known = states.contains(&played.before.state);
+            if played.command[0] == FRESH && played.first() == 0 && !known {
+                states.push(played.before.state.clone());
+            }
+        });
+        assert!(states.len() >= 30, "{}", states.len());
+        let tests: [fn(&State) -> bool; 4] = [
+            |state| state.frozen,
+            |state| state.open_files().count() > 0,
+            |state| state.requests().count() > 0,
+            |state| state.channels.iter().any(|channel| channel.mark > 0),
+        ];
+        for (index, test) in tests.iter().enumerate() {
+            let [with, without] =
+                [true, false].map(|wanted| states.iter().filter(|s| test(s) == wanted).count());
+            assert!(with >= 3 && without >= 3, "{index}: {with} and {without}");
+        }
     }
 
     /// A refused call changes nothing; an accepted one leaves a sound state, and sets words of the

@@ -1,6 +1,5 @@
-//! The eleven calls on a state that a caller passes and an area that it lends. Every call but a fresh
-//! start judges the state; report, get, put and seal judge the area too. A refused call changes
-//! neither.
+//! The eleven calls on a state that a caller passes and an area that it lends. Every call judges the
+//! state; a fresh start, report, get, put and seal judge the area too. A refused call changes neither.
 
 use crate::file::{File, Found, Part};
 use crate::pack::{Got, Opening, Pack, CHANNELS};
@@ -32,7 +31,9 @@ pub struct GetAnswer {
     pub words: Shown,
 }
 
-/// A fresh start. It judges no state: it is how a caller gets out of an unsound one.
+/// A fresh start. It judges the state like every other call, though it keeps nothing of it: "a state
+/// passed back is unsound" is in the table, and its rows are "given exactly when" they apply. A caller
+/// begins with the state before the first fresh start, which is sound.
 pub fn fresh(
     state: &mut State,
     area: &[u64],
@@ -40,6 +41,9 @@ pub fn fresh(
     width: u64,
     masks: [u64; CHANNELS],
 ) -> Result<(), u64> {
+    if !is_sound(state) {
+        return Err(1);
+    }
     let mut pack = Pack::new(area.len());
     pack.fresh(buffers, width, masks)?;
     *state = state_of(&pack);
@@ -229,16 +233,31 @@ mod tests {
     }
 
     #[test]
-    fn every_call_but_fresh_judges_the_state() {
+    fn every_call_judges_the_state() {
         for number in 0..11 {
             let (mut state, mut area) = state_and_area();
             assert_eq!(call(number, &mut state.clone(), &mut area.clone()), expected(number));
             state.channels[4].mark = 10;
             let (before, words) = (state.clone(), area.clone());
-            let answer = call(number, &mut state, &mut area);
-            assert_eq!(answer, if number == 0 { Ok(()) } else { Err(1) });
-            assert_eq!(state == before, number != 0);
-            assert_eq!(area, words);
+            assert_eq!(call(number, &mut state, &mut area), Err(1));
+            assert_eq!((&state, &area), (&before, &words));
+        }
+    }
+
+    /// A caller begins with the state before the first fresh start, frozen or not; with a part of it
+    /// changed, it does not begin.
+    #[test]
+    fn where_a_caller_begins() {
+        let started = |frozen, mark| {
+            let mut state = State { frozen, ..State::default() };
+            state.channels[4].mark = mark;
+            let before = state.clone();
+            let answer = fresh(&mut state, &[0; 6], 2, 3, [1, 0, 0, 0, 0]);
+            (answer, state == before)
+        };
+        for frozen in [false, true] {
+            assert_eq!(started(frozen, 9), (Ok(()), false));
+            assert_eq!(started(frozen, 10), (Err(1), true));
         }
     }
 

@@ -2,7 +2,6 @@
 
 use super::random_steps::{Step, Steps, MASK, UNITS, USED_CHANNELS};
 use super::script::{HUGE, SPOILT};
-use crate::pack::CHANNELS;
 use crate::sound::is_sound;
 use crate::state_fields::{
     AT, ATTEMPTS, BLOCK_SIZE, BUFFERS, BUFFER_NUMBER, CHANNEL, CHECK, DECLARED, DOUBLE, ERROR, FROZEN, HIGH,
@@ -29,7 +28,7 @@ impl Steps<'_> {
     }
 
     /// A change of the state. If it is unsound then, a few calls meet it; then it is taken back, or
-    /// a fresh start gets the caller out of it.
+    /// the caller begins anew.
     pub fn change(&mut self) {
         let before = self.state().clone();
         for _ in 0..self.random.between(1, 2) {
@@ -45,7 +44,7 @@ impl Steps<'_> {
         }
         if self.random.chance(1, 12) {
             let [buffers, width] = self.pool();
-            self.script.fresh(buffers, width, [MASK; CHANNELS]);
+            self.script.begin(buffers, width, MASK);
         } else {
             self.script.set_state(&before);
         }

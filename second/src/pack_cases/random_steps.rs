@@ -19,8 +19,9 @@ pub const USED_CHANNELS: u64 = 2;
 pub const UNITS: u64 = 3;
 pub const MASK: u64 = 7;
 
-/// How often, against one another, the steps come. The first ten are calls.
-const WEIGHTS: [(Step, u64); 12] = [
+/// How often, against one another, the steps come. The first eleven are calls.
+const WEIGHTS: [(Step, u64); 13] = [
+    (Step::Fresh, 1),
     (Step::Open, 10),
     (Step::Close, 3),
     (Step::Ask, 18),
@@ -35,13 +36,14 @@ const WEIGHTS: [(Step, u64); 12] = [
     (Step::Words, 5),
 ];
 
-const CALLS: usize = 10;
+const CALLS: usize = 11;
 
 /// The steps that are calls of one file.
 const FILE_STEPS: [Step; 6] = [Step::Close, Step::Ask, Step::Get, Step::Put, Step::Seal, Step::Skip];
 
 #[derive(Clone, Copy, PartialEq, Eq)]
 pub enum Step {
+    Fresh,
     Open,
     Close,
     Ask,
@@ -94,7 +96,7 @@ impl Steps<'_> {
         [self.random.between(2, 5), self.random.between(3, 8)]
     }
 
-    /// A call of any kind but a fresh start.
+    /// A call of any kind.
     pub fn random_call(&mut self) -> Vec<u64> {
         let (step, _) = self.random.pick(&WEIGHTS[..CALLS]);
         self.call(step)
@@ -144,6 +146,7 @@ impl Steps<'_> {
     pub fn call(&mut self, step: Step) -> Vec<u64> {
         let file = self.any_file(step);
         match step {
+            Step::Fresh => self.fresh(),
             Step::Open => self.open(),
             Step::Close => vec![player::CLOSE, file],
             Step::Ask => self.ask(file),
@@ -212,6 +215,17 @@ impl Steps<'_> {
                 return (file, [channel, unit]);
             }
         }
+    }
+
+    /// Mostly of a small pool and all units that are used.
+    fn fresh(&mut self) -> Vec<u64> {
+        let [buffers, width] = self.pool();
+        let mut call = vec![player::FRESH, buffers, width, MASK, MASK, 0, 0, 0];
+        if self.random.chance(1, 4) {
+            let place = self.random.between(1, 7) as usize;
+            call[place] = self.random.pick(&[0, 33, 255]);
+        }
+        call
     }
 
     fn open(&mut self) -> Vec<u64> {

@@ -129,7 +129,8 @@ fn check_errors(bench: &mut Bench) {
     }
 }
 
-/// A fresh start judges no state; a refused one leaves it as it was.
+/// A fresh start is refused on an unsound state, whatever its own numbers are, and leaves the state as
+/// it was. The same one is accepted when the change is taken back, or from the state before the first.
 fn fresh_starts(bench: &mut Bench) {
     let changes: [fn(&mut Script); 6] = [
         |script| script.scan_mark(4, 10),
@@ -139,11 +140,23 @@ fn fresh_starts(bench: &mut Bench) {
         |script| script.slot(WRITING, LOW, EMPTY),
         |script| script.file(CLOSED, RECORD_LENGTH, 65_535),
     ];
-    for change in changes {
+    for (index, change) in changes.into_iter().enumerate() {
         bench.build();
         bench.script.freeze();
+        let before = bench.script.player.state.clone();
         change(bench.script);
         assert!(!is_sound(&bench.script.player.state));
+        bench.script.print_sound();
+        bench.script.fresh(8, 9, [1, 0, 0, 0, 0]);
+        bench.script.fresh(2, 3, [1, 0, 1_024, 0, 0]);
+        bench.script.fresh(9, 6, [31, 12, 1, 0, 0]);
+        bench.script.fresh(2, 3, [1, 0, 0, 0, 512]);
+        bench.script.print_state();
+        if index % 2 == 0 {
+            bench.script.set_state(&before);
+        } else {
+            bench.script.start_over();
+        }
         bench.script.print_sound();
         bench.script.fresh(8, 9, [1, 0, 0, 0, 0]);
         bench.script.print_state();

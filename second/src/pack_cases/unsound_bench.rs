@@ -27,19 +27,26 @@ pub const CALLS: [&[u64]; 10] = [
     &[10],
 ];
 
+/// A fresh start that every sound state accepts.
+const FRESH_START: &[u64] = &[0, 2, 3, 1, 0, 0, 0, 512];
+
 /// Every so many unsound states, what the refused calls left is printed.
 const PRINTED: usize = 12;
+
+/// Every so many sound states are met by a fresh start.
+const STARTED: usize = 6;
 
 /// A pack with a file of each sort, all of its calls open to it.
 pub struct Bench<'a> {
     pub script: &'a mut Script,
-    /// The unsound states so far.
+    /// The unsound states so far, and the sound ones.
     states: usize,
+    sound_states: usize,
 }
 
 impl<'a> Bench<'a> {
     pub fn new(script: &'a mut Script) -> Bench<'a> {
-        Bench { script, states: 0 }
+        Bench { script, states: 0, sound_states: 0 }
     }
 
     /// Nine buffers of six words. File 0: double input with a block. 1: double output, part-filled.
@@ -60,12 +67,14 @@ impl<'a> Bench<'a> {
         script.ask(READING, READ);
     }
 
-    /// A change that makes the state unsound: asked for, met by two calls, taken back.
+    /// A change that makes the state unsound: asked for, met by a fresh start and two other calls, taken
+    /// back.
     pub fn unsound(&mut self, change: impl FnOnce(&mut Script)) {
         let before = self.script.player.state.clone();
         change(self.script);
         assert!(!is_sound(&self.script.player.state));
         self.script.print_sound();
+        self.script.add(FRESH_START);
         for step in 0..2 {
             self.script.add(CALLS[(2 * self.states + step) % CALLS.len()]);
         }
@@ -76,12 +85,17 @@ impl<'a> Bench<'a> {
         self.script.set_state(&before);
     }
 
-    /// A change that leaves the state sound.
+    /// A change that leaves the state sound: asked for, now and then met by a fresh start, taken back.
     pub fn sound(&mut self, change: impl FnOnce(&mut Script)) {
         let before = self.script.player.state.clone();
         change(self.script);
         assert!(is_sound(&self.script.player.state));
         self.script.print_sound();
+        if self.sound_states.is_multiple_of(STARTED) {
+            self.script.add(FRESH_START);
+            self.script.print_state();
+        }
+        self.sound_states += 1;
         self.script.set_state(&before);
     }
 
