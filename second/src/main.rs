@@ -19,6 +19,9 @@ use second::plan_cases::write_plan_cases;
 use second::plan_check::check_texts;
 use second::profile::Profile;
 use second::program::play_with;
+use second::reel::{show_image, Form, Written};
+use second::reel_cases::write_reel_cases;
+use second::reel_make::{make_image, Parity};
 use second::session::play;
 use second::text::lines_of;
 use second::word_cases::word_cases;
@@ -40,11 +43,13 @@ second: documents 01 and 02 of Plorrettix, written a second time
   bench PROGRAM ..               times the program and this one on one session
   words, channel, files, pack    answer cases of check words, of one channel,
       of one file and its buffers, of calls on a state and an area by hand
-  word-cases, channel-events, file-walks, pack-cases
-                                 print the fixed lists of such cases
+  word-cases, channel-events, file-walks, pack-cases   print fixed cases
   plan                           proposes buffers for a list of openings
   plan-check LIST PROPOSAL       accepts a proposal for a list, or says why not
   plan-cases DIR SEED COUNT      writes random cases N.list and N.proposal
+  reel list|words|octal          shows a tape image, standard input to output
+  reel make [--bcd]              makes a tape image of what `reel words` shows
+  reel-cases DIR SEED COUNT      writes random cases N.tap and N.text
   help                           prints this
 
 Exit status: 0 all well, 1 a refusal, a difference or a thing never reached,
@@ -80,6 +85,14 @@ fn run(arguments: &[String]) -> Result<ExitCode, String> {
         }
         ["plan-cases", folder, seed, count] => {
             write_plan_cases(Path::new(folder), number(seed)?, number(count)?)?;
+        }
+        ["reel", "list"] => return written(&show_image(&standard_bytes()?, Form::List)),
+        ["reel", "words"] => return written(&show_image(&standard_bytes()?, Form::Words)),
+        ["reel", "octal"] => return written(&show_image(&standard_bytes()?, Form::Octal)),
+        ["reel", "make"] => return written(&make_image(&standard_bytes()?, Parity::Odd)),
+        ["reel", "make", "--bcd"] => return written(&make_image(&standard_bytes()?, Parity::Even)),
+        ["reel-cases", folder, seed, count] => {
+            write_reel_cases(Path::new(folder), number(seed)?, number(count)?)?;
         }
         ["help"] => print(HELP)?,
         _ => return Err("what shall be done? See `second help`".to_string()),
@@ -185,9 +198,26 @@ fn answer(answer: &Answer) -> Result<ExitCode, String> {
     Ok(if answer.well { ExitCode::SUCCESS } else { ExitCode::from(1) })
 }
 
+/// Writes what was made of a reel, then the refusal, if there is one, to standard error with status 1.
+fn written(written: &Written) -> Result<ExitCode, String> {
+    print_bytes(&written.output)?;
+    Ok(match &written.refusal {
+        None => ExitCode::SUCCESS,
+        Some(refusal) => {
+            eprintln!("{refusal}");
+            ExitCode::from(1)
+        }
+    })
+}
+
 /// Prints to standard output.
 fn print(output: &str) -> Result<(), String> {
-    io::stdout().write_all(output.as_bytes()).map_err(|error| error.to_string())
+    print_bytes(output.as_bytes())
+}
+
+fn print_bytes(output: &[u8]) -> Result<(), String> {
+    let mut writer = io::stdout().lock();
+    writer.write_all(output).and_then(|()| writer.flush()).map_err(|error| error.to_string())
 }
 
 #[cfg(test)]
