@@ -2,6 +2,7 @@
 //! time, so that another program can be compared with it.
 
 pub mod bench;
+pub mod blocks;
 pub mod channel;
 pub mod channel_events;
 pub mod channel_player;
