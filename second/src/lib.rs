@@ -1,7 +1,8 @@
-//! Plorrettix, second program: document 01 read as plainly as possible and written a second time,
-//! so that another program can be compared with it.
+//! Plorrettix, second program: documents 01 and 02 read as plainly as possible and written a second
+//! time, so that another program can be compared with it.
 
 pub mod bench;
+pub mod blocks;
 pub mod channel;
 pub mod channel_events;
 pub mod channel_player;
@@ -10,15 +11,23 @@ pub mod faults;
 pub mod file;
 pub mod file_player;
 pub mod file_walks;
+pub mod folder;
 pub mod frame;
 pub mod generate;
 pub mod pack;
 pub mod pack_cases;
 pub mod pack_player;
+pub mod plan;
+pub mod plan_cases;
+pub mod plan_check;
+pub mod plan_list;
 pub mod profile;
 pub mod program;
 pub mod random;
 pub mod reach;
+pub mod reel;
+pub mod reel_cases;
+pub mod reel_make;
 pub mod refusals;
 pub mod session;
 pub mod shorten;
@@ -28,6 +37,7 @@ pub mod state_calls;
 pub mod state_fields;
 pub mod state_pack;
 pub mod text;
+pub mod text_faults;
 pub mod word;
 pub mod word_cases;
 pub mod words;

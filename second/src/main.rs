@@ -1,6 +1,7 @@
 //! The program `second`: one subcommand a task.
 
 use std::io::{self, BufReader, BufWriter, Read, Write};
+use std::path::Path;
 use std::process::ExitCode;
 
 use second::bench::{bench, BENCH_FRAMES};
@@ -9,43 +10,50 @@ use second::channel_player::answer_events;
 use second::compare::{compare, Options};
 use second::file_player::answer_walks;
 use second::file_walks::file_walks;
+use second::folder::read_file;
 use second::generate::Generator;
 use second::pack_cases::pack_cases;
 use second::pack_player::answer_script;
+use second::plan::{plan_text, Answer};
+use second::plan_cases::write_plan_cases;
+use second::plan_check::check_texts;
 use second::profile::Profile;
 use second::program::play_with;
+use second::reel::{show_image, Form, Written};
+use second::reel_cases::write_reel_cases;
+use second::reel_make::{make_image, Parity};
 use second::session::play;
 use second::text::lines_of;
 use second::word_cases::word_cases;
 use second::words::answer_cases;
 
 const HELP: &str = "\
-second: document 01 of Plorrettix, written a second time
+second: documents 01 and 02 of Plorrettix, written a second time
 
   play                           plays a session, standard input to output
   generate PROFILE SEED FRAMES   prints a random session; the profiles are
       mixed, retries, turns (priority and freeze), blocks (check words),
       malformed, refusals, wrap (passes block number 32,767 in 205,000 frames)
   compare [OPTIONS] PROGRAM ..   plays random sessions against a program that
-      reads a session on standard input and writes the answers on standard
-      output; names the first frame that differs and shortens the session;
-      counts what was reached and fails if something never was
+      reads a session and writes the answers; names the first frame that
+      differs and shortens the session; fails if something was never reached
       --profile NAME (all)  --seed N (1)  --count N (5 of each profile)
       --frames N (4000 each)  --partial (what is never reached does not fail)
       --budget N (5000000 frames are played at most to shorten a session)
-  bench PROGRAM ..               times the program and this one on the same
-      session of a million frames and prints the ratio
-  words                          answers cases of sums and check words
-  word-cases                     prints a fixed list of such cases
-  channel                        plays events on one channel
-  channel-events                 prints a fixed list of such events
-  files                          plays events on one file and its buffers
-  file-walks                     prints a fixed list of such events
-  pack                           plays calls on a state and an area by hand
-  pack-cases                     prints a fixed script of such calls
+  bench PROGRAM ..               times the program and this one on one session
+  words, channel, files, pack    answer cases of check words, of one channel,
+      of one file and its buffers, of calls on a state and an area by hand
+  word-cases, channel-events, file-walks, pack-cases   print fixed cases
+  plan                           proposes buffers for a list of openings
+  plan-check LIST PROPOSAL       accepts a proposal for a list, or says why not
+  plan-cases DIR SEED COUNT      writes random cases N.list and N.proposal
+  reel list|words|octal          shows a tape image, standard input to output
+  reel make [--bcd]              makes a tape image of what `reel words` shows
+  reel-cases DIR SEED COUNT      writes random cases N.tap and N.text
   help                           prints this
 
-Exit status: 0 all well, 1 a difference or a thing never reached, 2 a complaint
+Exit status: 0 all well, 1 a refusal, a difference or a thing never reached,
+2 a complaint
 ";
 
 fn main() -> ExitCode {
@@ -71,6 +79,21 @@ fn run(arguments: &[String]) -> Result<ExitCode, String> {
         ["file-walks"] => print(&lines_of(&file_walks()))?,
         ["pack"] => print(&answer_script(&standard_input()?)?)?,
         ["pack-cases"] => print(&lines_of(&pack_cases()))?,
+        ["plan"] => return answer(&plan_text(&standard_bytes()?)),
+        ["plan-check", list, proposal] => {
+            return answer(&check_texts(&read_file(list)?, &read_file(proposal)?));
+        }
+        ["plan-cases", folder, seed, count] => {
+            write_plan_cases(Path::new(folder), number(seed)?, number(count)?)?;
+        }
+        ["reel", "list"] => return written(&show_image(&standard_bytes()?, Form::List)),
+        ["reel", "words"] => return written(&show_image(&standard_bytes()?, Form::Words)),
+        ["reel", "octal"] => return written(&show_image(&standard_bytes()?, Form::Octal)),
+        ["reel", "make"] => return written(&make_image(&standard_bytes()?, Parity::Odd)),
+        ["reel", "make", "--bcd"] => return written(&make_image(&standard_bytes()?, Parity::Even)),
+        ["reel-cases", folder, seed, count] => {
+            write_reel_cases(Path::new(folder), number(seed)?, number(count)?)?;
+        }
         ["help"] => print(HELP)?,
         _ => return Err("what shall be done? See `second help`".to_string()),
     }
@@ -162,9 +185,39 @@ fn standard_input() -> Result<String, String> {
     Ok(input)
 }
 
+/// All of standard input, whatever its bytes are.
+fn standard_bytes() -> Result<Vec<u8>, String> {
+    let mut input = Vec::new();
+    io::stdin().read_to_end(&mut input).map_err(|error| error.to_string())?;
+    Ok(input)
+}
+
+/// Prints an answer; one that is no good news has status 1.
+fn answer(answer: &Answer) -> Result<ExitCode, String> {
+    print(&answer.text)?;
+    Ok(if answer.well { ExitCode::SUCCESS } else { ExitCode::from(1) })
+}
+
+/// Writes what was made of a reel, then the refusal, if there is one, to standard error with status 1.
+fn written(written: &Written) -> Result<ExitCode, String> {
+    print_bytes(&written.output)?;
+    Ok(match &written.refusal {
+        None => ExitCode::SUCCESS,
+        Some(refusal) => {
+            eprintln!("{refusal}");
+            ExitCode::from(1)
+        }
+    })
+}
+
 /// Prints to standard output.
 fn print(output: &str) -> Result<(), String> {
-    io::stdout().write_all(output.as_bytes()).map_err(|error| error.to_string())
+    print_bytes(output.as_bytes())
+}
+
+fn print_bytes(output: &[u8]) -> Result<(), String> {
+    let mut writer = io::stdout().lock();
+    writer.write_all(output).and_then(|()| writer.flush()).map_err(|error| error.to_string())
 }
 
 #[cfg(test)]

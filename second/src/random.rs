@@ -13,6 +13,12 @@ impl Random {
         Random { state: seed }
     }
 
+    /// The generator of one of many cases of a seed, unlike that of every other case.
+    pub fn of(seed: u64, case: u64) -> Random {
+        let of_seed = Random::new(seed).number();
+        Random::new(Random::new(of_seed.wrapping_add(case)).number())
+    }
+
     /// The next number, 0 to 2^64 - 1.
     pub fn number(&mut self) -> u64 {
         self.state = self.state.wrapping_add(0x9E37_79B9_7F4A_7C15);
@@ -61,6 +67,14 @@ mod tests {
         let others: Vec<u64> = (0..20).map(|_| other.number()).collect();
         assert_eq!(numbers, again);
         assert_ne!(numbers, others);
+    }
+
+    #[test]
+    fn cases_of_a_seed_have_numbers_of_their_own() {
+        let first = |seed, case| Random::of(seed, case).number();
+        assert_eq!(first(1, 2), first(1, 2));
+        let others = [first(1, 1), first(1, 2), first(2, 1), first(2, 2)];
+        assert!((0..4).all(|at| !others[..at].contains(&others[at])));
     }
 
     #[test]

@@ -1,4 +1,5 @@
-//! Lines of decimal numbers, the form of the stored cases and events.
+//! Texts: lines of decimal numbers, the form of the stored cases and events, and the lines, words and
+//! numbers of texts that may hold any bytes.
 
 /// The numbers of a line, or nothing if something else stands on it.
 pub fn numbers_of(line: &str) -> Option<Vec<u64>> {
@@ -30,9 +31,70 @@ pub fn answer_lines(
     Ok(output)
 }
 
+/// The lines of a text of any bytes, without their line feeds. A last line without a line feed counts;
+/// nothing after the last line feed is no line, so that an empty text has none.
+pub fn byte_lines(text: &[u8]) -> Vec<&[u8]> {
+    let mut lines: Vec<&[u8]> = text.split(|&byte| byte == b'\n').collect();
+    if lines.last().is_some_and(|line| line.is_empty()) {
+        lines.pop();
+    }
+    lines
+}
+
+/// What stands on a line between single blanks; two blanks have an empty word between them.
+pub fn blank_words(line: &[u8]) -> Vec<&[u8]> {
+    line.split(|&byte| byte == b' ').collect()
+}
+
+/// A decimal number: digits alone and no leading zeros. One that 64 bits cannot hold is read as the
+/// largest that they can.
+pub fn decimal(digits: &[u8]) -> Option<u64> {
+    let (first, others) = digits.split_first()?;
+    if !digits.iter().all(u8::is_ascii_digit) || (*first == b'0' && !others.is_empty()) {
+        return None;
+    }
+    let next = |number: u64, digit: &u8| number.saturating_mul(10).saturating_add(u64::from(digit - b'0'));
+    Some(digits.iter().fold(0, next))
+}
+
 #[cfg(test)]
 mod tests {
     use super::*;
+
+    #[test]
+    fn lines_of_any_bytes() {
+        let cases: [(&[u8], &[&[u8]]); 6] = [
+            (b"", &[]),
+            (b"\n", &[b""]),
+            (b"a", &[b"a"]),
+            (b"a\n", &[b"a"]),
+            (b"a\n\n", &[b"a", b""]),
+            (b"\xFF\r\n\0", &[b"\xFF\r", b"\0"]),
+        ];
+        for (text, lines) in cases {
+            assert_eq!(byte_lines(text), lines);
+        }
+    }
+
+    #[test]
+    fn words_between_single_blanks() {
+        assert_eq!(blank_words(b"a bc"), [&b"a"[..], b"bc"]);
+        assert_eq!(blank_words(b"a  b "), [&b"a"[..], b"", b"b", b""]);
+        assert_eq!(blank_words(b""), [b""]);
+    }
+
+    #[test]
+    fn decimal_numbers() {
+        for (digits, number) in [("0", 0), ("7", 7), ("10", 10), ("18446744073709551615", u64::MAX)] {
+            assert_eq!(decimal(digits.as_bytes()), Some(number));
+        }
+        for huge in ["18446744073709551616", "18446744073709551617", "99999999999999999999999999999999"] {
+            assert_eq!(decimal(huge.as_bytes()), Some(u64::MAX));
+        }
+        for wrong in ["", "00", "01", "-1", "+1", "1 ", "1x", "x", "1\r", "0x1", "1.0", "1,000"] {
+            assert_eq!(decimal(wrong.as_bytes()), None, "{wrong}");
+        }
+    }
 
     #[test]
     fn numbers_and_lines() {
