@@ -195,6 +195,21 @@ mod tests {
         assert_eq!(judge(&words[..3], 1, true, true), Ok(0));
     }
 
+    /// A sum that is not 0 folds to what it is modulo 2^18 - 1, and to that number instead of 0; also sums
+    /// of more words than a block has, in which a carry carries once more.
+    #[test]
+    fn sums_of_up_to_2_to_28_words() {
+        let folded = |sum| Totals { sum, bits: 0 }.folded();
+        let mut random = Random::new(110);
+        for high in [0, 1, 1_023, 1 << 18, (1 << 18) + 1, (1 << 28) - 1] {
+            for low in [0, 1, 262_143, 262_144, ALL_ONES - 1, ALL_ONES, random.word()] {
+                let sum: u64 = high << WORD_BITS | low;
+                let expected = if sum == 0 { 0 } else { (sum - 1) % ones(HALF_BITS) + 1 };
+                assert_eq!(folded(sum), expected, "{high} {low}");
+            }
+        }
+    }
+
     /// As many carries as 1,024 words can have, and sums near every power of two that a sum can meet.
     #[test]
     fn carries_are_put_back() {
