@@ -34,11 +34,7 @@ module _ (c : ℕ) where
 
   shown-if : (event : history.Event → history.Answer → Bool) (b : Bool) (e : history.Event) (a : history.Answer)
       → countShown event (eventIf b e a) ≡ oneIf (b && event e a)
-  shown-if event true e a = go (event e a)
-    where
-      go : (b : Bool) → history.oneIf b ≡ oneIf b
-      go true = refl
-      go false = refl
+  shown-if event true e a = refl
   shown-if event false e a = refl
 
   split : (a b x y : Bool) → (a ≡ true → (b && x) ≡ y) → oneIf ((a && b) && x) ≡ oneIf (a && y)
