@@ -1,0 +1,7 @@
+pub mod Characters
+pub mod Faults
+pub mod Lengths
+pub mod Reading
+pub mod Records
+pub mod Reels
+pub mod Writing
