@@ -1,6 +1,9 @@
+pub mod Exact
 pub mod Lengths
 pub mod Nexts
 pub mod Numbers
+pub mod Seen
 pub mod Stores
+pub mod Windows
 pub mod Words
 pub mod Writes

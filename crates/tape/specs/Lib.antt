@@ -1,5 +1,6 @@
 pub mod Characters
 pub mod Faults
+pub mod Images
 pub mod Lengths
 pub mod Reading
 pub mod Records
