@@ -2,6 +2,7 @@ pub mod Exact
 pub mod Lengths
 pub mod Nexts
 pub mod Numbers
+pub mod Reading
 pub mod Seen
 pub mod Stores
 pub mod Windows

@@ -2,7 +2,7 @@
 use mathlib.Core.Path.{_≡_}
 use mathlib.Core.Bool.{Bool, true, _&&_}
 use mathlib.Core.List.{List, [], _∷_, _++_}
-use Prim.Native.Nat.{ℕ, _*_, _/_, _%_, _^_, _≤_, _<_}
+use Prim.Native.Nat.{ℕ, _+_, _*_, _/_, _%_, _^_, _≤_, _<_}
 use lib.Dec.{ltb}
 use lib.ListN.{length}
 use Rattle.area.specs.Lists.{allOf}
@@ -42,6 +42,7 @@ pub record IsReel (bs : List ℕ) (at : ℕ) (r : Reel) : Type 0 where
   pub back : List ℕ
   pub split : bs ≡ front ++ back
   pub records : IsImage front (r .pieces)
+  pub place : r .place ≡ at + length front
   pub stops : Stops back (r .place) (r .ending)
 
 -- ---- what is written

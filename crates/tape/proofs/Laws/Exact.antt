@@ -67,7 +67,7 @@ length-first n bs h = length-back n h
 byte-from : (bs : List ℕ) (k i j : ℕ) → k + i ≡ j → getD (drop k bs) i 0 ≡ getD bs j 0
 byte-from bs k i j e = getD-drop k bs i 0 ∙ ap (λ (m : ℕ). getD bs m 0) e
 
-words-from : (bs : List ℕ) (k i j n : ℕ) → k + i ≡ j → wordsFrom (drop k bs) i n ≡ wordsFrom bs j n
+pub words-from : (bs : List ℕ) (k i j n : ℕ) → k + i ≡ j → wordsFrom (drop k bs) i n ≡ wordsFrom bs j n
 unfolding wordsFrom
 words-from bs k i j zero h = refl
 words-from bs k i j (suc n) h =
@@ -119,12 +119,12 @@ characters a b c d e f p q r s t u =
 
 -- ---- bytes that hold words
 
-holds-length : {bs ws : List ℕ} → Holds bs ws → length bs ≡ 6 * length ws
+pub holds-length : {bs ws : List ℕ} → Holds bs ws → length bs ≡ 6 * length ws
 holds-length none = refl
 holds-length (six a b c d e f w h p q r s t u rest) = let k = holds-length rest in omega arith
 
 -- read, they are the words
-holds-read : {bs ws : List ℕ} (more : List ℕ) → Holds bs ws → wordsFrom (bs ++ more) 0 (length ws) ≡ ws
+pub holds-read : {bs ws : List ℕ} (more : List ℕ) → Holds bs ws → wordsFrom (bs ++ more) 0 (length ws) ≡ ws
 unfolding wordsFrom
 holds-read more none = refl
 holds-read more (six {bs} {ws} a b c d e f w h p q r s t u rest) =
@@ -133,7 +133,7 @@ holds-read more (six {bs} {ws} a b c d e f w h p q r s t u rest) =
     (sym (words-from (a ∷ b ∷ c ∷ d ∷ e ∷ f ∷ (bs ++ more)) 6 0 6 (length ws) refl) ∙ holds-read more rest)
 
 -- and any bytes hold the words that are read
-read-holds : (n : ℕ) (bs : List ℕ) → 6 * n ≤ length bs → Holds (take (6 * n) bs) (wordsFrom bs 0 n)
+pub read-holds : (n : ℕ) (bs : List ℕ) → 6 * n ≤ length bs → Holds (take (6 * n) bs) (wordsFrom bs 0 n)
 unfolding wordsFrom
 read-holds zero bs h = none
 read-holds (suc n) [] h = absurd (omega arith)
