@@ -2,9 +2,11 @@ pub mod Exact
 pub mod Lengths
 pub mod Nexts
 pub mod Numbers
+pub mod Parity
 pub mod Reading
 pub mod Seen
 pub mod Stores
+pub mod Table
 pub mod Windows
 pub mod Words
 pub mod Writes

@@ -17,9 +17,18 @@ pub enum Next {
     // The end of the image.
     End,
     // A tape mark; `next` is the place after it.
-    Mark { next: usize },
+    Mark {
+        next: usize,
+    },
     // A block: where its data begins, how many words it has, and the place after it.
-    Block { place: usize, words: usize, next: usize },
+    Block {
+        place: usize,
+        words: usize,
+        next: usize,
+    },
     // The first faulty record: the number of its fault, and its place.
-    Fault { number: u8, place: usize },
+    Fault {
+        number: u8,
+        place: usize,
+    },
 }

@@ -302,13 +302,24 @@ fn more(v: View, room: &mut [u8], out: &[u8]) -> View {
 }
 
 // One record, or more bytes.
-fn turn(v: View, room: &mut [u8], words: &mut [u64], out: &mut [u8], list: bool, octal: bool) -> View {
+fn turn(
+    v: View,
+    room: &mut [u8],
+    words: &mut [u64],
+    out: &mut [u8],
+    list: bool,
+    octal: bool,
+) -> View {
     let found = tape::next_record(front(&room[..], v.to), v.from, v.ended);
     match found {
         Next::More => more(v, room, &out[..]),
         Next::End => show_end(v, out, list),
         Next::Mark { next } => show_mark(v, next, out, list),
-        Next::Block { place, words: n, next } => {
+        Next::Block {
+            place,
+            words: n,
+            next,
+        } => {
             if list {
                 return list_block(v, n, next, out);
             }

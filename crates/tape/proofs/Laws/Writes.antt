@@ -7,13 +7,13 @@ use native.Mathlib.Numerals.{add-one}
 use native.Mathlib.Omega.{arith}
 use borrow.Author.Tests.{leb-true, lt-leb, le-leb, eq-eqb, ne-eqb}
 use lib.Dec.{eqb, leb}
-use lib.ListN.{length, getD, drop, length-append, drop-of-length-le}
+use lib.ListN.{length, getD, take, drop, length-append, drop-of-length-le}
 use lib.Seq.{drop-cons}
 use Rattle.area.specs.Lists.{allOf}
-use Rattle.area.specs.Parts.{isWord, paste}
+use Rattle.area.specs.Parts.{isWord, partOf, paste}
 use Rattle.area.specs.Refusals.{lowest}
 use Rattle.area.proofs.Marks.{cond-true, cond-false}
-use Rattle.area.proofs.Pastes.{paste-nothing, length-paste}
+use Rattle.area.proofs.Pastes.{paste-nothing, length-paste, paste-before, paste-after, paste-part}
 use Rattle.area.proofs.Joins.{paste-paste}
 use Rattle.area.proofs.Walks.{and-left, and-right}
 use Rattle.tape.specs.Lengths.{lengthBytes, recordSize}
@@ -157,8 +157,7 @@ module _ (start : List ℕ) (at : ℕ) (bcd : Bool) (ws : List ℕ) where
       let long : length (l ++ d) ≡ 4 + n = length-append l d ∙ omega (arith, length-lengths n, length-data bcd ws) in
       let p : at + 4 + n ≡ at + (4 + n) = omega arith in
       let all : three ≡ paste at ((l ++ d) ++ l) start =
-      paste-more at (4 + n) (l ++ d) l start two three long (omega (arith, a .fits)) both (t ∙ ap (λ (k : ℕ). paste k l two) p) in
-      (
+      paste-more at (4 + n) (l ++ d) l start two three long (omega (arith, a .fits)) both (t ∙ ap (λ (k : ℕ). paste k l two) p) in (
         sym z ∙ e,
         all ∙ ap (λ (x : List ℕ). paste at x start) (append-assoc l d l) ∙ sym (cond-true _ _ (eq-eqb (blockRefusal (length start) at ws) 0 (sym e ∙ z))),
       )
@@ -166,6 +165,36 @@ module _ (start : List ℕ) (at : ℕ) (bcd : Bool) (ws : List ℕ) where
   -- the room of each of its three parts
   pub block-room : (r : ℕ) → r ≡ blockRefusal (length start) at ws → r ≡ 0 → (at + (6 * length ws + 8) ≤ length start) × (length ws ≤ 1024)
   block-room r e z = let a = accepted (length start) at ws (sym e ∙ z) in (a .fits, a .most)
+
+  -- "an accepted one only the bytes of its record": what lies before and after stays, and the record stands between
+  pub record OnlyRecord (new : List ℕ) : Type 0 where
+    pub long : length new ≡ length start
+    pub before : take at new ≡ take at start
+    pub after : drop (at + length (blockBytes bcd ws)) new ≡ drop (at + length (blockBytes bcd ws)) start
+    pub stands : partOf at (length (blockBytes bcd ws)) new ≡ blockBytes bcd ws
+
+  pub length-block : length (blockBytes bcd ws) ≡ 6 * length ws + 8
+  unfolding blockBytes
+  length-block =
+      let l = lengthBytes (6 * length ws) in
+      length-append l (dataBytes bcd ws ++ l) ∙ omega (arith, length-append (dataBytes bcd ws) l, length-lengths (6 * length ws), length-data bcd ws)
+
+  pub block-only : blockRefusal (length start) at ws ≡ 0 → OnlyRecord (blockWritten at bcd ws start)
+  unfolding blockWritten
+  block-only z =
+      let a = accepted (length start) at ws z in
+      let fit : at + length (blockBytes bcd ws) ≤ length start = omega (arith, a .fits, length-block) in
+      let is : blockWritten at bcd ws start ≡ paste at (blockBytes bcd ws) start = cond-true _ _ (eq-eqb (blockRefusal (length start) at ws) 0 z) in
+      record {
+        long = ap length is ∙ length-paste at (blockBytes bcd ws) start fit;
+        before = ap (take at) is ∙ paste-before at (blockBytes bcd ws) start (omega arith);
+        after = ap (drop (at + length (blockBytes bcd ws))) is ∙ paste-after at (blockBytes bcd ws) start (omega arith);
+        stands = ap (λ (l : List ℕ). partOf at (length (blockBytes bcd ws)) l) is ∙ paste-part at (blockBytes bcd ws) start fit;
+      }
+
+  pub block-refused : (blockRefusal (length start) at ws ≡ 0 → ⊥) → blockWritten at bcd ws start ≡ start
+  unfolding blockWritten
+  block-refused h = cond-false _ _ (ne-eqb (blockRefusal (length start) at ws) 0 h)
 
 -- ---- a mark
 

@@ -1,13 +1,9 @@
-use mathlib.Core.Path.{_≡_, refl}
-use Prim.Native.Nat.{_-_, _≤_}
+-- `tape_make::make` meets its contract, with the lengths of the lent rooms as invariant. Assumes nothing.
+use mathlib.Core.Path.{_≡_}
 use lib.ListN.{length}
 use borrow.Author.Needs.{needs}
 use Rattle.tape_make.proofs.make.Statement.{statement}
 use Rattle.tape_make.proofs.make.Tie as tie
-use Rattle.tape_make.proofs.make.Reads as reads
-use Rattle.tape_make.proofs.make.Lts as lts
-use Rattle.tape_make.proofs.no_line.Reads as no-line-reads
-use Rattle.tape_make.proofs.once.Reads as once-reads
 
 abbrev Inv-loop : tie.InvT-loop
 Inv-loop input₀ room₀ out₀ bcd p₀ turns₀ input room out p turns = (length input ≡ length input₀) × (length room ≡ length room₀) × (length out ≡ length out₀)
@@ -15,59 +11,45 @@ Inv-loop input₀ room₀ out₀ bcd p₀ turns₀ input room out p turns = (len
 abbrev μ-loop : tie.MeasureT-loop
 μ-loop input₀ room₀ out₀ bcd p₀ turns₀ input room out p turns = turns
 
--- src/main.rt:307:9
 no-line-requires : tie.Need-no-line-requires Inv-loop μ-loop
 no-line-requires c κs = search needs
 
--- src/main.rt:315:5
 loop-holds : tie.Need-loop-holds Inv-loop μ-loop
 loop-holds c = search needs
 
--- src/main.rt:316:9
 once-requires : tie.Need-once-requires Inv-loop μ-loop
 once-requires c κs = search needs
 
--- src/main.rt:319:13
 same-length : tie.Need-same-length Inv-loop μ-loop
 same-length c = search needs
 
--- src/main.rt:319:13
 same-length-2 : tie.Need-same-length-2 Inv-loop μ-loop
 same-length-2 c = search needs
 
--- src/main.rt:319:13
 same-length-3 : tie.Need-same-length-3 Inv-loop μ-loop
 same-length-3 c = search needs
 
--- src/main.rt:319:13
 returns : tie.Need-returns Inv-loop μ-loop
 returns c = search needs
 
--- src/main.rt:321:9
 sub-turns : tie.Need-sub-turns Inv-loop μ-loop
 sub-turns c = search needs
 
--- src/main.rt:315:5
 loop-less : tie.Need-loop-less Inv-loop μ-loop
 loop-less c = search needs
 
--- src/main.rt:315:5
 loop-again : tie.Need-loop-again Inv-loop μ-loop
 loop-again c = search needs
 
--- src/main.rt:306:1
 same-length-4 : tie.Need-same-length-4 Inv-loop μ-loop
 same-length-4 c = search needs
 
--- src/main.rt:306:1
 same-length-5 : tie.Need-same-length-5 Inv-loop μ-loop
 same-length-5 c = search needs
 
--- src/main.rt:306:1
 same-length-6 : tie.Need-same-length-6 Inv-loop μ-loop
 same-length-6 c = search needs
 
--- src/main.rt:306:1
 returns-2 : tie.Need-returns-2 Inv-loop μ-loop
 returns-2 c = search needs
 

@@ -1,11 +1,10 @@
-use mathlib.Core.Path.{_≡_, refl}
-use Prim.Native.Nat.{_-_, _≤_}
+-- `tape_show::moved` meets its contract, with the lengths of the lent rooms as invariant. Assumes nothing.
+use mathlib.Core.Path.{_≡_}
+use Prim.Native.Nat.{_-_}
 use lib.ListN.{length}
 use borrow.Author.Needs.{needs}
 use Rattle.tape_show.proofs.moved.Statement.{statement}
 use Rattle.tape_show.proofs.moved.Tie as tie
-use Rattle.tape_show.proofs.moved.Reads as reads
-use Rattle.tape_show.proofs.moved.Lts as lts
 
 abbrev Inv-loop : tie.InvT-loop
 Inv-loop room₀ from to i₀ k₀ room i k = (length room ≡ length room₀)
@@ -13,55 +12,42 @@ Inv-loop room₀ from to i₀ k₀ room i k = (length room ≡ length room₀)
 abbrev μ-loop : tie.MeasureT-loop
 μ-loop room₀ from to i₀ k₀ room i k = to - k
 
--- src/main.rt:252:5
 loop-holds : tie.Need-loop-holds Inv-loop μ-loop
 loop-holds c = search needs
 
--- src/main.rt:254:13
 same-length : tie.Need-same-length Inv-loop μ-loop
 same-length c = search needs
 
--- src/main.rt:254:13
 returns : tie.Need-returns Inv-loop μ-loop
 returns c = search needs
 
--- src/main.rt:257:13
 same-length-2 : tie.Need-same-length-2 Inv-loop μ-loop
 same-length-2 c = search needs
 
--- src/main.rt:257:13
 returns-2 : tie.Need-returns-2 Inv-loop μ-loop
 returns-2 c = search needs
 
--- src/main.rt:259:19
 slice-read-room : tie.Need-slice-read-room Inv-loop μ-loop
 slice-read-room c = search needs
 
--- src/main.rt:259:9
 slice-write-room : tie.Need-slice-write-room Inv-loop μ-loop
 slice-write-room c = search needs
 
--- src/main.rt:260:9
 add-i : tie.Need-add-i Inv-loop μ-loop
 add-i c = search needs
 
--- src/main.rt:261:9
 add-k : tie.Need-add-k Inv-loop μ-loop
 add-k c = search needs
 
--- src/main.rt:252:5
 loop-less : tie.Need-loop-less Inv-loop μ-loop
 loop-less c = search needs
 
--- src/main.rt:252:5
 loop-again : tie.Need-loop-again Inv-loop μ-loop
 loop-again c = search needs
 
--- src/main.rt:249:1
 same-length-3 : tie.Need-same-length-3 Inv-loop μ-loop
 same-length-3 c = search needs
 
--- src/main.rt:249:1
 returns-3 : tie.Need-returns-3 Inv-loop μ-loop
 returns-3 c = search needs
 

@@ -1,12 +1,10 @@
-use mathlib.Core.Path.{_≡_, refl}
-use Prim.Native.Nat.{_-_, _≤_}
+-- `tape_show::put_text` meets its contract, with the lengths of the lent rooms as invariant. Assumes nothing.
+use mathlib.Core.Path.{_≡_}
+use Prim.Native.Nat.{_-_}
 use lib.ListN.{length}
 use borrow.Author.Needs.{needs}
 use Rattle.tape_show.proofs.put_text.Statement.{statement}
 use Rattle.tape_show.proofs.put_text.Tie as tie
-use Rattle.tape_show.proofs.put_text.Reads as reads
-use Rattle.tape_show.proofs.put_text.Lts as lts
-use Rattle.tape_show.proofs.put.Reads as put-reads
 
 abbrev Inv-loop : tie.InvT-loop
 Inv-loop out₀ at text to₀ i₀ out to i = (length out ≡ length out₀)
@@ -14,35 +12,27 @@ Inv-loop out₀ at text to₀ i₀ out to i = (length out ≡ length out₀)
 abbrev μ-loop : tie.MeasureT-loop
 μ-loop out₀ at text to₀ i₀ out to i = length text - i
 
--- src/main.rt:51:5
 loop-holds : tie.Need-loop-holds Inv-loop μ-loop
 loop-holds c = search needs
 
--- src/main.rt:52:27
 shared-slice-read-put : tie.Need-shared-slice-read-put Inv-loop μ-loop
 shared-slice-read-put c = search needs
 
--- src/main.rt:52:9
 put-requires : tie.Need-put-requires Inv-loop μ-loop
 put-requires c κs = search needs
 
--- src/main.rt:53:9
 add-i : tie.Need-add-i Inv-loop μ-loop
 add-i c = search needs
 
--- src/main.rt:51:5
 loop-less : tie.Need-loop-less Inv-loop μ-loop
 loop-less c = search needs
 
--- src/main.rt:51:5
 loop-again : tie.Need-loop-again Inv-loop μ-loop
 loop-again c = search needs
 
--- src/main.rt:48:1
 same-length : tie.Need-same-length Inv-loop μ-loop
 same-length c = search needs
 
--- src/main.rt:48:1
 returns : tie.Need-returns Inv-loop μ-loop
 returns c = search needs
 
