@@ -7,7 +7,6 @@ use lib.Dec.{ltb}
 use lib.ListN.{length}
 use Rattle.area.specs.Lists.{allOf}
 use Rattle.area.specs.Parts.{isWord}
-use Rattle.tape.specs.declared.Next.{Next}
 use Rattle.tape.specs.declared.Next.the-variants.{Fault}
 use Rattle.tape.specs.Lengths.{lengthBytes}
 use Rattle.tape.specs.Characters.{character}

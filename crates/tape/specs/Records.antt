@@ -7,7 +7,7 @@ use lib.ListN.{length}
 use Rattle.tape.specs.declared.Next.{Next}
 use Rattle.tape.specs.declared.Next.the-variants.{More, End, Mark, Block, Fault}
 use Rattle.tape.specs.Lengths.{lengthAt, recordSize}
-use Rattle.tape.specs.Faults.{mostBytes, differAt, faultOf}
+use Rattle.tape.specs.Faults.{differAt, faultOf}
 
 -- the bytes of the largest record
 abbrev pub largest : ℕ

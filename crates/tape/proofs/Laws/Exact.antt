@@ -1,34 +1,22 @@
 -- Reading is exact: any bytes are the records that are given, up to the ignored bits, and then the end or the one fault; and bytes that are
 -- records are given as those. What is written is read back. Assumes nothing.
 use mathlib.Core.Path.{_≡_, refl, sym, ap, ap₂, _∙_, subst}
-use mathlib.Core.Bool.{Bool, true, false, not, cond, _&&_}
-use mathlib.Core.List.{List, [], _∷_, _++_, append-assoc, append-nil}
-use Prim.Native.Nat.{ℕ, zero, suc, _+_, _-_, _*_, _/_, _%_, _^_, _≤_, _<_}
+use mathlib.Core.Bool.{Bool, true}
+use mathlib.Core.List.{List, [], _∷_, _++_}
+use Prim.Native.Nat.{ℕ, zero, suc, _+_, _*_, _/_, _%_, _^_, _≤_, _<_}
 use native.Mathlib.Nat.{div-add-mod', div-div-eq-div-mul, mod-eq-of-lt}
 use native.Mathlib.Omega.{arith}
-use borrow.Author.Tests.{ltb-true, leb-true, eq-eqb, ne-eqb, le-leb}
-use lib.Dec.{eqb, leb, ltb}
-use lib.ListN.{length, getD, take, drop, length-append, length-drop, take-append-drop}
-use lib.Seq.{getD-drop, drop-drop, drop-at, take-at}
+use borrow.Author.Tests.{ltb-true}
+use lib.ListN.{length, getD, take, drop}
+use lib.Seq.{getD-drop}
 use Rattle.area.specs.Lists.{allOf}
 use Rattle.area.specs.Parts.{isWord}
-use Rattle.area.proofs.Walks.{by-test, and-left, and-right, true-not-false}
-use Rattle.tape.specs.declared.Next.{Next}
-use Rattle.tape.specs.declared.Next.the-variants.{More, End, Mark, Block, Fault}
-use Rattle.tape.specs.Lengths.{lengthOf, lengthAt, lengthBytes, padded, recordSize}
-use Rattle.tape.specs.Characters.{character, wordOf, wordAt, wordsFrom, parityOf, withParity, wordBytes, dataBytes}
-use Rattle.tape.specs.Faults.{differAt, faultOf}
-use Rattle.tape.specs.Records.{recordAt, nextIn}
-use Rattle.tape.specs.Reels.{Piece, Words, TapeMark, Ending, Open, Ended, Faulty, Reel, onto, readNext, readOn, readAll, reelOf}
-use Rattle.tape.specs.Images.{isByte, Holds, none, six, IsImage, nothing, Stops, IsReel, isPiece, imageBytes}
+use Rattle.area.proofs.Walks.{and-left, and-right}
+use Rattle.tape.specs.Lengths.{lengthOf, lengthAt, lengthBytes}
+use Rattle.tape.specs.Characters.{character, wordOf, wordAt, wordsFrom, withParity, wordBytes, dataBytes}
+use Rattle.tape.specs.Images.{Holds, none, six, nothing}
 use Rattle.tape.specs.Images as images
-use Rattle.tape.specs.Writing.{blockBytes, isSized}
-use Rattle.tape.proofs.Laws.Lengths.{length-from}
-use Rattle.tape.proofs.Laws.Numbers.{fault-none}
-use Rattle.tape.proofs.Laws.Nexts.{record-end, record-mark, record-block}
-use Rattle.tape.proofs.Laws.Seen.{Seen, end, mark, block, fault, seen-record}
-use Rattle.tape.proofs.Laws.Windows.{enough}
-use Rattle.tape.proofs.Laws.Writes.{length-lengths, length-data}
+use Rattle.tape.proofs.Laws.Seen.{end, fault}
 
 -- ---- lengths
 

@@ -1,14 +1,14 @@
 -- Laws of the lengths in an image. Assumes nothing.
-use mathlib.Core.Path.{_≡_, refl, sym, ap, ap₂, _∙_}
-use mathlib.Core.Bool.{Bool, true, false, not, _&&_}
-use mathlib.Core.List.{List, [], _∷_}
-use Prim.Native.Nat.{ℕ, _+_, _-_, _*_, _/_, _%_, _^_, _≤_, _<_}
+use mathlib.Core.Path.{_≡_, sym, ap, _∙_}
+use mathlib.Core.Bool.{Bool, false, not, _&&_}
+use mathlib.Core.List.{List}
+use Prim.Native.Nat.{ℕ, _+_, _-_, _≤_, _<_}
 use native.Mathlib.Omega.{arith}
 use borrow.Author.Tests.{lt-leb, le-leb}
-use lib.Dec.{eqb, leb}
+use lib.Dec.{eqb}
 use lib.ListN.{length, getD, drop, length-drop}
 use lib.Seq.{getD-drop, drop-drop}
-use Rattle.tape.specs.Lengths.{lengthOf, lengthAt, padded, recordSize}
+use Rattle.tape.specs.Lengths.{lengthAt, padded, recordSize}
 use Rattle.tape.specs.Faults.{differAt}
 
 byte-from : (xs : List ℕ) (k i j : ℕ) → k + i ≡ j → getD (drop k xs) i 0 ≡ getD xs j 0

@@ -1,15 +1,14 @@
 -- Laws of the numbers that a record is judged by. Assumes nothing.
-use mathlib.Core.Path.{_≡_, refl, sym, ap, _∙_}
-use mathlib.Core.Bool.{Bool, true, false, not, cond, _&&_}
-use mathlib.Core.List.{List, [], _∷_}
-use Prim.Native.Nat.{ℕ, _+_, _-_, _/_, _%_, _≤_, _<_, _^_}
+use mathlib.Core.Path.{_≡_, refl, ap, _∙_}
+use mathlib.Core.Bool.{Bool, true, false, cond}
+use mathlib.Core.List.{[], _∷_}
+use Prim.Native.Nat.{ℕ, _%_, _≤_, _<_}
 use native.Mathlib.Decide.{decLt}
 use native.Mathlib.Omega.{arith}
 use borrow.Author.Tests.{eq-eqb, ne-eqb, lt-ltb, le-ltb, lt-leb, le-leb}
-use lib.Dec.{eqb, leb, ltb}
-use Rattle.area.proofs.Walks.{by-test, and-both, true-not-false}
+use Rattle.area.proofs.Walks.{by-test}
 use Rattle.tape.specs.Lengths.{recordSize}
-use Rattle.tape.specs.Faults.{mostBytes, highest, faultRows, faultOf}
+use Rattle.tape.specs.Faults.{mostBytes, highest, faultOf}
 
 -- ---- the highest of the four rows
 

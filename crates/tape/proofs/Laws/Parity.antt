@@ -1,6 +1,6 @@
 -- Parity as it is written: with it the count of ones in the low seven bits is odd, or even for BCD. Assumes nothing.
 use mathlib.Core.Path.{_≡_, ap₂, _∙_}
-use mathlib.Core.Bool.{Bool, true, false}
+use mathlib.Core.Bool.{true, false}
 use Prim.Native.Nat.{ℕ, _+_, _*_, _/_, _%_, _<_}
 use native.Mathlib.Omega.{arith}
 use Rattle.tape.specs.Characters.{character, ones, parityOf, withParity}

@@ -1,25 +1,25 @@
 -- Reading is exact: any bytes are the records that are given, up to the ignored bits, and then the end or the one fault; and bytes that are
 -- records are given as those. What is written is read back. Assumes nothing.
 use mathlib.Core.Path.{_≡_, refl, sym, ap, ap₂, _∙_, subst}
-use mathlib.Core.Bool.{Bool, true, false, not, cond, _&&_}
-use mathlib.Core.List.{List, [], _∷_, _++_, append-assoc, append-nil}
-use Prim.Native.Nat.{ℕ, zero, suc, _+_, _-_, _*_, _/_, _%_, _^_, _≤_, _<_}
+use mathlib.Core.Bool.{Bool, true, false, not, _&&_}
+use mathlib.Core.List.{List, [], _∷_, _++_, append-assoc}
+use Prim.Native.Nat.{ℕ, zero, suc, _+_, _-_, _*_, _/_, _^_, _≤_, _<_}
 use native.Mathlib.Omega.{arith}
-use borrow.Author.Tests.{ltb-true, leb-true, eq-eqb, ne-eqb, le-leb, eqb-true}
-use lib.Dec.{eqb, leb, ltb}
+use borrow.Author.Tests.{ltb-true, leb-true, eq-eqb, le-leb, eqb-true}
+use lib.Dec.{eqb, leb}
 use lib.ListN.{length, take, drop, length-append, length-drop, take-append-drop}
-use lib.Seq.{drop-drop, drop-at, take-add}
+use lib.Seq.{drop-drop, drop-at}
 use Rattle.area.specs.Lists.{allOf}
 use Rattle.area.specs.Parts.{isWord}
-use Rattle.area.proofs.Walks.{by-test, and-left, and-right, true-not-false}
+use Rattle.area.proofs.Walks.{and-left, and-right, true-not-false}
 use Rattle.tape.specs.declared.Next.{Next}
-use Rattle.tape.specs.declared.Next.the-variants.{More, End, Mark, Block, Fault}
-use Rattle.tape.specs.Lengths.{lengthOf, lengthAt, lengthBytes, padded, recordSize}
+use Rattle.tape.specs.declared.Next.the-variants.{End, Mark, Block, Fault}
+use Rattle.tape.specs.Lengths.{lengthAt, lengthBytes, padded, recordSize}
 use Rattle.tape.specs.Characters.{wordsFrom, dataBytes}
 use Rattle.tape.specs.Faults.{differAt, faultOf}
 use Rattle.tape.specs.Records.{recordOf, recordAt, nextIn}
-use Rattle.tape.specs.Reels.{Piece, Words, TapeMark, Ending, Open, Ended, Faulty, Reel, onto, readNext, readOn, readAll, reelOf}
-use Rattle.tape.specs.Images.{isByte, Holds, IsImage, nothing, Stops, IsReel, isPiece, pieceBytes, imageBytes}
+use Rattle.tape.specs.Reels.{Piece, Words, TapeMark, Ending, Ended, Faulty, Reel, onto, readNext, readOn, readAll, reelOf}
+use Rattle.tape.specs.Images.{isByte, Holds, IsImage, nothing, Stops, IsReel, isPiece, imageBytes}
 use Rattle.tape.specs.Images as images
 use Rattle.tape.specs.Writing.{blockBytes, isSized}
 use Rattle.tape.proofs.Laws.Exact.{length-first, bytes-back, words-from, holds-length, holds-read, read-holds, data-holds}

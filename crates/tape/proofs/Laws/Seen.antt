@@ -1,21 +1,20 @@
 -- What can stand at a place, and that it does not depend on bytes after the largest record. Assumes nothing.
-use mathlib.Core.Path.{_≡_, refl, sym, ap, ap₂, _∙_, subst}
-use mathlib.Core.Bool.{Bool, true, false, not, cond, _&&_}
-use mathlib.Core.List.{List, [], _∷_, _++_}
-use Prim.Native.Nat.{ℕ, zero, suc, _+_, _-_, _*_, _/_, _%_, _≤_, _<_}
+use mathlib.Core.Path.{_≡_, refl, sym, ap, _∙_, subst}
+use mathlib.Core.Bool.{Bool, false, not, cond, _&&_}
+use mathlib.Core.List.{List, _++_}
+use Prim.Native.Nat.{ℕ, _+_, _*_, _/_, _≤_, _<_}
 use native.Mathlib.Decide.{decLt}
 use native.Mathlib.Omega.{arith}
-use borrow.Author.Tests.{eq-eqb, ne-eqb, lt-ltb, le-ltb, lt-leb, le-leb}
-use lib.Dec.{eqb, leb, ltb}
+use borrow.Author.Tests.{ne-eqb, le-ltb, le-leb}
+use lib.Dec.{ltb}
 use lib.ListN.{length, getD, List·getD-append, length-append}
 use Rattle.area.proofs.Walks.{by-test}
-use Rattle.area.proofs.Marks.{cond-true, cond-false}
 use Rattle.tape.specs.declared.Next.{Next}
 use Rattle.tape.specs.declared.Next.the-variants.{More, End, Mark, Block, Fault}
-use Rattle.tape.specs.Lengths.{lengthOf, lengthAt, padded, recordSize}
+use Rattle.tape.specs.Lengths.{lengthAt, padded, recordSize}
 use Rattle.tape.specs.Faults.{mostBytes, differAt, faultOf}
 use Rattle.tape.specs.Records.{largest, recordOf, recordAt, nextIn}
-use Rattle.tape.proofs.Laws.Numbers.{fault-over, fault-last, fault-short, fault-zero, fault-six}
+use Rattle.tape.proofs.Laws.Numbers.{fault-over, fault-zero}
 use Rattle.tape.proofs.Laws.Nexts.{record-end, record-short, record-mark, record-fault, record-block}
 
 -- ---- the cases

@@ -1,13 +1,13 @@
 -- Laws of bytes stored one after the other, and of tests of room. Assumes nothing.
 use mathlib.Core.Path.{_≡_, refl, sym, ap, _∙_}
-use mathlib.Core.Bool.{Bool, true, false, _&&_}
+use mathlib.Core.Bool.{false}
 use mathlib.Core.List.{List, [], _∷_, _++_, append-assoc}
-use Prim.Native.Nat.{ℕ, suc, _+_, _-_, _*_, _/_, _≤_, _<_}
+use Prim.Native.Nat.{ℕ, suc, _+_, _-_, _*_, _/_, _≤_}
 use native.Mathlib.Omega.{arith}
 use borrow.Author.Tests.{leb-true, le-leb}
 use lib.Dec.{leb}
-use lib.ListN.{length, take, drop, set}
-use lib.Seq.{sets, sets-eq}
+use lib.ListN.{length, set}
+use lib.Seq.{sets-eq}
 use Rattle.area.specs.Parts.{paste}
 use Rattle.area.proofs.Joins.{paste-paste}
 use Rattle.area.proofs.Walks.{by-test, true-not-false}

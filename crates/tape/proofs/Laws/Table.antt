@@ -1,12 +1,11 @@
 -- The number of a fault is the highest of its rows that applies. Assumes nothing.
-use mathlib.Core.Path.{_≡_, refl, sym, ap, _∙_, subst}
+use mathlib.Core.Path.{_≡_, refl, ap, subst}
 use mathlib.Core.Bool.{Bool, true, false, cond}
-use mathlib.Core.List.{List, [], _∷_}
+use mathlib.Core.List.{[], _∷_}
 use Prim.Native.Nat.{ℕ, _<_, _≤_, max}
 use native.Mathlib.Decide.{decLt}
 use native.Mathlib.Omega.{arith}
 use Rattle.area.specs.Refusals.{Rows, Row, here, later}
-use Rattle.area.proofs.Walks.{true-not-false}
 use Rattle.tape.specs.Faults.{highest}
 
 -- the row n applies, and no row with a higher number does

@@ -1,19 +1,17 @@
 -- What a reader gives does not depend on where the image is cut into windows. Assumes nothing.
-use mathlib.Core.Path.{_≡_, refl, sym, ap, ap₂, _∙_, subst}
-use mathlib.Core.Bool.{Bool, true, false, not, cond, _&&_}
+use mathlib.Core.Path.{_≡_, refl, sym, ap, ap₂, _∙_}
+use mathlib.Core.Bool.{Bool, true, false, not}
 use mathlib.Core.List.{List, [], _∷_, _++_, append-assoc, append-nil}
 use Prim.Native.Nat.{ℕ, zero, suc, _+_, _-_, _*_, _≤_, _<_}
 use native.Mathlib.Decide.{decLt}
 use native.Mathlib.Omega.{arith}
-use borrow.Author.Tests.{ltb-true, ltb-false, lt-ltb, le-ltb}
-use lib.Dec.{ltb}
-use lib.ListN.{length, getD, drop, length-append, length-drop}
+use borrow.Author.Tests.{lt-ltb, le-ltb}
+use lib.ListN.{length, drop, length-append, length-drop}
 use lib.Seq.{drop-append-le}
-use Rattle.area.proofs.Walks.{by-test}
 use Rattle.area.proofs.Marks.{cond-true, cond-false}
 use Rattle.tape.specs.declared.Next.{Next}
 use Rattle.tape.specs.declared.Next.the-variants.{More, End, Mark, Block, Fault}
-use Rattle.tape.specs.Characters.{wordAt, wordsFrom, character}
+use Rattle.tape.specs.Characters.{wordAt, wordsFrom}
 use Rattle.tape.specs.Records.{largest, recordAt, nextIn}
 use Rattle.tape.specs.Reels.{Piece, Words, TapeMark, Ending, Open, Ended, Faulty, Reel, onto, readNext, readOn, readAll, reelOf, andThen, inWindows, joined}
 use Rattle.tape.proofs.Laws.Seen.{Seen, end, mark, block, fault, SeenIn, waits, sees, seen, seen-record, record-same, byte-same}
