@@ -5,6 +5,7 @@ pub mod Numbers
 pub mod Parity
 pub mod Reading
 pub mod Seen
+pub mod Series
 pub mod Stores
 pub mod Table
 pub mod Windows

@@ -12,7 +12,7 @@ use Rattle.tape.specs.Lengths.{lengthBytes}
 use Rattle.tape.specs.Characters.{character}
 use Rattle.tape.specs.Records.{recordAt}
 use Rattle.tape.specs.Reels.{Piece, Words, TapeMark, Ending, Ended, Faulty, Reel}
-use Rattle.tape.specs.Writing.{blockBytes, isSized}
+use Rattle.tape.specs.Writing.{blockBytes, isSized, blockWritten, markWritten}
 
 abbrev pub isByte : ℕ → Bool
 isByte b = ltb b (2 ^ 8)
@@ -59,3 +59,12 @@ pieceBytes bcd TapeMark = lengthBytes 0
 unfoldable pub imageBytes : Bool → List Piece → List ℕ
 imageBytes bcd [] = []
 imageBytes bcd (p ∷ ps) = pieceBytes bcd p ++ imageBytes bcd ps
+
+-- the bytes after calls of `write_block` and `write_mark`, one record after the other, from a place on
+abbrev pub pieceWritten : ℕ → Bool → Piece → List ℕ → List ℕ
+pieceWritten at bcd (Words ws) area = blockWritten at bcd ws area
+pieceWritten at bcd TapeMark area = markWritten at area
+
+unfoldable pub writtenFrom : ℕ → Bool → List Piece → List ℕ → List ℕ
+writtenFrom at bcd [] area = area
+writtenFrom at bcd (p ∷ ps) area = writtenFrom (at + length (pieceBytes bcd p)) bcd ps (pieceWritten at bcd p area)

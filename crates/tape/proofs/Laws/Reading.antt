@@ -87,7 +87,7 @@ module _ (held bs : List ℕ) (n at : ℕ) (some : 1 ≤ n) (most : n ≤ 1024) 
       ap (λ (j : ℕ). wordsFrom xs j n) e ∙ sym (words-from xs 4 0 4 n refl)
       ∙ ap (wordsFrom (held ++ (lengthBytes (6 * n) ++ bs)) 0) (sym l) ∙ holds-read (lengthBytes (6 * n) ++ bs) h
 
-abbrev finished : List Piece → ℕ → Reel
+abbrev pub finished : List Piece → ℕ → Reel
 finished ps place = record { pieces = ps; ending = Ended; place = place; left = [] }
 
 next-end : (at : ℕ) → recordAt [] at ≡ End
