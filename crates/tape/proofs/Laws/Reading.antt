@@ -2,7 +2,7 @@
 -- records are given as those. What is written is read back. Assumes nothing.
 use mathlib.Core.Path.{_≡_, refl, sym, ap, ap₂, _∙_, subst}
 use mathlib.Core.Bool.{Bool, true, false, not, _&&_}
-use mathlib.Core.List.{List, [], _∷_, _++_, append-assoc}
+use mathlib.Core.List.{List, [], _∷_, _++_, append-assoc, append-nil}
 use Prim.Native.Nat.{ℕ, zero, suc, _+_, _-_, _*_, _/_, _^_, _≤_, _<_}
 use native.Mathlib.Omega.{arith}
 use borrow.Author.Tests.{ltb-true, leb-true, eq-eqb, le-leb, eqb-true}
@@ -27,6 +27,7 @@ use Rattle.tape.proofs.Laws.Lengths.{length-from}
 use Rattle.tape.proofs.Laws.Numbers.{fault-none}
 use Rattle.tape.proofs.Laws.Nexts.{record-end, record-mark, record-block}
 use Rattle.tape.proofs.Laws.Seen.{Seen, end, mark, block, fault, seen-record}
+use Rattle.tape.proofs.Laws.Windows.{enough}
 use Rattle.tape.proofs.Laws.Words.{length-words}
 use Rattle.tape.proofs.Laws.Writes.{length-lengths}
 
@@ -103,35 +104,69 @@ next-mark bs at =
 rest-mark : (bs : List ℕ) (k : ℕ) → k ≡ 4 → drop k (lengthBytes 0 ++ bs) ≡ bs
 rest-mark bs k e = drop-at (lengthBytes 0) bs k (length-lengths 0 ∙ sym e)
 
-image-read : (k : ℕ) (xs : List ℕ) (rs : List Piece) (at : ℕ) → IsImage xs rs → length xs < k → readOn k true xs at ≡ finished rs (at + length xs)
-unfolding readOn readNext nextIn onto
-image-read zero xs rs at i h = absurd (omega arith)
-image-read (suc k) xs rs at nothing h =
-    let z : at + 0 ≡ at = omega arith in
-    ap (readNext (readOn k true) [] at) (next-end at) ∙ ap (finished []) (sym z)
-image-read (suc k) xs rs at (images.mark {bs} {ps} i) h =
+-- records before what else is read
+abbrev before : List Piece → Reel → Reel
+before ps r = record { pieces = ps ++ r .pieces; ending = r .ending; place = r .place; left = r .left }
+
+image-then : (back : List ℕ) (k : ℕ) (xs : List ℕ) (rs : List Piece) (at : ℕ) → IsImage xs rs → length (xs ++ back) < k
+    → readOn k true (xs ++ back) at ≡ before rs (readAll true back (at + length xs))
+unfolding readOn readNext nextIn onto readAll
+image-then back zero xs rs at i h = absurd (omega arith)
+image-then back (suc k) xs rs at nothing h =
+    let z : at ≡ at + 0 = omega arith in
+    enough true (suc k) (suc (length back)) back at h (omega arith) ∙ ap (readAll true back) z
+image-then back (suc k) xs rs at (images.mark {bs} {ps} i) h =
+    let cs = bs ++ back in
     let long : length (lengthBytes 0 ++ bs) ≡ 4 + length bs = length-append (lengthBytes 0) bs ∙ omega (arith, length-lengths 0) in
+    let all : length ((lengthBytes 0 ++ bs) ++ back) ≡ 4 + length cs = length-append (lengthBytes 0 ++ bs) back ∙ omega (arith, length-append bs back) in
     let place : at + 4 + length bs ≡ at + length (lengthBytes 0 ++ bs) = omega arith in
-    ap (readNext (readOn k true) (lengthBytes 0 ++ bs) at) (next-mark bs at)
-    ∙ ap (λ (l : List ℕ). onto TapeMark (readOn k true l (at + 4))) (rest-mark bs (at + 4 - at) (omega arith))
-    ∙ ap (onto TapeMark) (image-read k bs ps (at + 4) i (omega arith)) ∙ ap (finished (TapeMark ∷ ps)) place
-image-read (suc k) xs rs at (images.block {bs} {ps} held ws some most holds i) h =
+    ap (λ (l : List ℕ). readOn (suc k) true l at) (append-assoc (lengthBytes 0) bs back)
+    ∙ ap (readNext (readOn k true) (lengthBytes 0 ++ cs) at) (next-mark cs at)
+    ∙ ap (λ (l : List ℕ). onto TapeMark (readOn k true l (at + 4))) (rest-mark cs (at + 4 - at) (omega arith))
+    ∙ ap (onto TapeMark) (image-then back k bs ps (at + 4) i (omega arith)) ∙ ap (λ (p : ℕ). before (TapeMark ∷ ps) (readAll true back p)) place
+image-then back (suc k) xs rs at (images.block {bs} {ps} held ws some most holds i) h =
     let n = length ws in
-    let zs = lengthBytes (6 * n) ++ (held ++ (lengthBytes (6 * n) ++ bs)) in
+    let l = lengthBytes (6 * n) in
+    let cs = bs ++ back in
+    let zs = l ++ (held ++ (l ++ bs)) in
     let full : length zs ≡ 6 * n + 8 + length bs = long-xs held bs n at some most (holds-length holds) in
+    let all : length (zs ++ back) ≡ 6 * n + 8 + length cs = length-append zs back ∙ omega (arith, length-append bs back) in
     let place : at + (6 * n + 8) + length bs ≡ at + length zs = omega arith in
-    ap (readNext (readOn k true) zs at) (block-is held bs n at some most (holds-length holds))
-    ∙ ap₂ (λ (vs l : List ℕ). onto (Words vs) (readOn k true l (at + (6 * n + 8))))
-    (words-are held bs n at some most (holds-length holds) (at + 4 - at) (omega arith) ws refl holds)
-    (rest-is held bs n at some most (holds-length holds) (at + (6 * n + 8) - at) (omega arith))
-    ∙ ap (onto (Words ws)) (image-read k bs ps (at + (6 * n + 8)) i (omega arith)) ∙ ap (finished (Words ws ∷ ps)) place
+    let joins : zs ++ back ≡ l ++ (held ++ (l ++ cs)) =
+    append-assoc l (held ++ (l ++ bs)) back ∙ ap (λ (x : List ℕ). l ++ x) (append-assoc held (l ++ bs) back ∙ ap (λ (x : List ℕ). held ++ x) (append-assoc l bs back)) in
+    ap (λ (x : List ℕ). readOn (suc k) true x at) joins
+    ∙ ap (readNext (readOn k true) (l ++ (held ++ (l ++ cs))) at) (block-is held cs n at some most (holds-length holds))
+    ∙ ap₂ (λ (vs x : List ℕ). onto (Words vs) (readOn k true x (at + (6 * n + 8))))
+    (words-are held cs n at some most (holds-length holds) (at + 4 - at) (omega arith) ws refl holds)
+    (rest-is held cs n at some most (holds-length holds) (at + (6 * n + 8) - at) (omega arith))
+    ∙ ap (onto (Words ws)) (image-then back k bs ps (at + (6 * n + 8)) i (omega arith)) ∙ ap (λ (p : ℕ). before (Words ws ∷ ps) (readAll true back p)) place
+
+-- after its records a reel has what stands there
+stop-read : (back : List ℕ) (at : ℕ) (e : Ending) → Stops back at e → readAll true back at ≡ record { pieces = []; ending = e; place = at; left = [] }
+unfolding readAll readOn readNext nextIn
+stop-read back at Ended (images.end z) = ap (λ (l : List ℕ). readAll true l at) z ∙ ap (readNext (readOn 0 true) [] at) (next-end at)
+stop-read back at (Faulty n) (images.fault m e) = ap (readNext (readOn (length back) true) back at) e
+
+nil-right : (ps : List Piece) → ps ++ [] ≡ ps
+nil-right [] = refl
+nil-right (p ∷ ps) = ap (λ (l : List Piece). p ∷ l) (nil-right ps)
+
+-- the reel of bytes is the only one: whatever is their records and then the end or a fault is what is read
+pub reel-only : (bs : List ℕ) (r : Reel) → IsReel bs 0 r → r .left ≡ [] → reelOf bs ≡ r
+unfolding reelOf readAll
+reel-only bs r i none =
+    let z : 0 + length (i .front) ≡ r .place = sym (i .place) in
+    ap reelOf (i .split) ∙ image-then (i .back) (suc (length (i .front ++ i .back))) (i .front) (r .pieces) 0 (i .records) (omega arith)
+    ∙ ap (λ (p : ℕ). before (r .pieces) (readAll true (i .back) p)) z
+    ∙ ap (before (r .pieces)) (stop-read (i .back) (r .place) (r .ending) (i .stops))
+    ∙ ap (λ (ps : List Piece). record { pieces = ps; ending = r .ending; place = r .place; left = [] }) (nil-right (r .pieces))
+    ∙ ap (λ (l : List ℕ). record { pieces = r .pieces; ending = r .ending; place = r .place; left = l }) (sym none)
 
 -- bytes that are records, up to the ignored bits, are read as those records, to the end
 pub image-gives : (bs : List ℕ) (ps : List Piece) → IsImage bs ps → reelOf bs ≡ finished ps (length bs)
-unfolding reelOf readAll
 image-gives bs ps i =
-    let z : 0 + length bs ≡ length bs = omega arith in
-    image-read (suc (length bs)) bs ps 0 i (omega arith) ∙ ap (finished ps) z
+    reel-only bs (finished ps (length bs))
+    (record { front = bs; back = []; split = sym (append-nil bs); records = i; place = omega arith; stops = images.end refl }) refl
 
 -- ---- what is written is read back
 

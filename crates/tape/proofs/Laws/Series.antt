@@ -1,11 +1,11 @@
 -- Records written one after the other into bytes are their image there, and are read back from it. Assumes nothing.
 use mathlib.Core.Path.{_≡_, refl, sym, ap, _∙_}
-use mathlib.Core.Bool.{Bool, true, _&&_}
+use mathlib.Core.Bool.{Bool, true}
 use mathlib.Core.List.{List, [], _∷_, _++_}
 use Prim.Native.Nat.{ℕ, _+_, _*_, _≤_}
 use native.Mathlib.Omega.{arith}
 use borrow.Author.Tests.{leb-true, le-leb, eq-eqb}
-use lib.Dec.{eqb, leb}
+use lib.Dec.{leb}
 use lib.ListN.{length, length-append}
 use Rattle.area.specs.Lists.{allOf}
 use Rattle.area.specs.Parts.{isWord, partOf, paste}
@@ -16,7 +16,7 @@ use Rattle.area.proofs.Walks.{and-left, and-right}
 use Rattle.tape.specs.Lengths.{lengthBytes}
 use Rattle.tape.specs.Reels.{Piece, Words, TapeMark, reelOf}
 use Rattle.tape.specs.Images.{isPiece, pieceBytes, imageBytes, pieceWritten, writtenFrom}
-use Rattle.tape.specs.Writing.{isSized, blockRefusal, blockWritten, markRefusal, markWritten}
+use Rattle.tape.specs.Writing.{blockRefusal, blockWritten}
 use Rattle.tape.proofs.Laws.Reading.{finished, written-read}
 use Rattle.tape.proofs.Laws.Writes.{length-block, length-lengths, refused-not, mark-put}
 
