@@ -1,4 +1,3 @@
-pub mod Exact
 pub mod Lengths
 pub mod Nexts
 pub mod Numbers
@@ -8,6 +7,7 @@ pub mod Seen
 pub mod Series
 pub mod Stores
 pub mod Table
+pub mod Trips
 pub mod Windows
 pub mod Words
 pub mod Writes

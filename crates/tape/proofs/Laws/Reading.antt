@@ -22,7 +22,7 @@ use Rattle.tape.specs.Reels.{Piece, Words, TapeMark, Ending, Ended, Faul
 use Rattle.tape.specs.Images.{isByte, Holds, IsImage, nothing, Stops, IsReel, isPiece, imageBytes}
 use Rattle.tape.specs.Images as images
 use Rattle.tape.specs.Writing.{blockBytes, isSized}
-use Rattle.tape.proofs.Laws.Exact.{length-first, bytes-back, words-from, holds-length, holds-read, read-holds, data-holds}
+use Rattle.tape.proofs.Laws.Trips.{length-first, bytes-back, words-from, holds-length, holds-read, read-holds, data-holds}
 use Rattle.tape.proofs.Laws.Lengths.{length-from}
 use Rattle.tape.proofs.Laws.Numbers.{fault-none}
 use Rattle.tape.proofs.Laws.Nexts.{record-end, record-mark, record-block}

@@ -1,5 +1,5 @@
--- Reading is exact: any bytes are the records that are given, up to the ignored bits, and then the end or the one fault; and bytes that are
--- records are given as those. What is written is read back. Assumes nothing.
+-- There and back: a length and its bytes, a word and its characters, bytes that hold words and the words that are read from them.
+-- Assumes nothing.
 use mathlib.Core.Path.{_≡_, refl, sym, ap, ap₂, _∙_, subst}
 use mathlib.Core.Bool.{Bool, true}
 use mathlib.Core.List.{List, [], _∷_, _++_}
