@@ -1,0 +1,13 @@
+pub mod Lengths
+pub mod Nexts
+pub mod Numbers
+pub mod Parity
+pub mod Reading
+pub mod Seen
+pub mod Series
+pub mod Stores
+pub mod Table
+pub mod Trips
+pub mod Windows
+pub mod Words
+pub mod Writes
