@@ -1,7 +1,6 @@
-// Put and seal on the one file that they concern: their rows of the refusal table, the words that go into the lent area, and what changes.
-// A block is sealed where it lies. It knows nothing of states.
-// Get and skip on the one file that they concern: their rows of the refusal table, and what changes. The words that get finds are shown as
-// a part of the lent area and are never copied. It knows nothing of states.
+// Get, skip, put and seal on the one file that they concern: their rows of the refusal table, and what changes. The words that get finds are
+// shown as a part of the lent area and are never copied; those of a put go into a part of it, and a block is sealed where it lies.
+// It knows nothing of states.
 mod blocks;
 mod get;
 mod put;

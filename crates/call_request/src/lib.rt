@@ -1,6 +1,5 @@
-// Ask on the one file and the one channel that it concerns: its rows of the refusal table, and what changes. It knows nothing of states.
-// Report on the one file and the one channel that it concerns: its rows of the refusal table, the words that it brings or hands out, and what
-// changes. It knows nothing of states.
+// Ask and report on the one file and the one channel that they concern: their rows of the refusal table, the words that a report brings or hands
+// out, and what changes. It knows nothing of states.
 mod asks;
 mod blocks;
 mod effects;

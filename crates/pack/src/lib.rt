@@ -1,8 +1,7 @@
-// The pack: the eleven calls under one roof, with the state that they take and hand back and what each of them answers.
-// This is all that a caller needs to name in its code; its line of crates.txt also lists the crates below, which declare the types, and hold the code,
-// the definitions and the proofs.
-// Histories of the pack: the eleven calls as values, what each makes of a state and an area, and what is promised of call after call.
-// It has no code: its definitions say what a history is, and its theorems are what the crate `demands` cites.
+// The pack: the eleven calls under one roof, with the state that they take and hand back and what each of them answers. This is all that a
+// caller names in its code; its line of crates.txt also lists the crates that declare the types.
+// In `specs/` are the eleven calls as values, what each makes of a state and an area, the refusal table, and histories of calls; the theorems over
+// them are what the crate `demands` cites.
 
 pub use call_record::got_words;
 pub use file::File;

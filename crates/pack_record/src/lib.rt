@@ -1,8 +1,5 @@
-// Row 1 of a call on a file that is lent the area. It knows nothing of what a call does.
-// The two calls that a job makes of its input file without a channel, get and skip, on a whole state: each judges the state, looks the file
-// up and stores what changes.
-// The two calls that a job makes of its output file without a channel, put and seal, on a whole state: each judges the state, looks the file
-// up and stores what changes.
+// The calls that a job makes of its files without a channel, get, skip, put and seal, on a whole state: each judges the state and the area that
+// it is lent (row 1), looks the file up and stores what changes.
 mod gets;
 mod misuse;
 mod puts;

@@ -1,5 +1,5 @@
-// When the files over one pool are sound, each by itself and every two of them. It knows nothing of channels and requests.
-// Whether a state that a caller passes back is sound: document 01's paragraph, for any state.
+// Whether a state that a caller passes back is sound: document 01's paragraph, for any state. The files are judged each by itself and every two
+// of them, then the channels, and each request against its file. It knows nothing of what a call does.
 mod channels;
 mod clauses;
 mod files;

@@ -1,4 +1,4 @@
-// Plays cases of `word`, `checkword` and `sealing`: sums, check words, seals and judgements. Each line of the input is a case: its kind, its numbers
+// Plays cases of `word` and `block`: sums, check words, seals and judgements. Each line of the input is a case: its kind, its numbers
 // and its words. Each gives a line of output; the stored output is that of the second program.
 ghost use Prim.Native.Nat.{_≤_, _<_};
 ghost use lib.ListN.{length};
