@@ -11,6 +11,7 @@ use file_input::taken_start;
 use file_output::after_write;
 use file_output::send_start;
 use file_output::send_words;
+use word::LAST_NUMBER;
 use word::extra;
 ghost use mathlib.Core.Path.{_≡_};
 ghost use mathlib.Core.Bool.{true};
@@ -21,9 +22,6 @@ ghost use Rattle.area.specs.Parts.{isWord};
 ghost use Rattle.file_input.specs.Delivers.{blockFits};
 ghost use Rattle.call_request.specs.Effects.{isDelivery};
 ghost use Rattle.call_request.specs.Report.{shownStart, shownCount, deliveryError, reportedFile, reportedArea};
-
-// The highest block number.
-const LAST_NUMBER: u16 = 32767;
 
 // What one pass over the given words tells: whether each is below 2^36, and the check error if they are a delivered block.
 pub struct Looked {

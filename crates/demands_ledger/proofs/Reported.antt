@@ -5,7 +5,7 @@ use mathlib.Core.Bool.{Bool, true, false, not, cond, _&&_, _||_}
 use mathlib.Core.List.{List, []}
 use Prim.Native.Nat.{ℕ, _*_, _≤_}
 use native.Mathlib.Omega.{arith}
-use lib.Dec.{eqb, ltb}
+use lib.Dec.{eqb, ltb, leb}
 use lib.ListN.{length}
 use borrow.Author.Tests.{eq-eqb, ltb-false}
 use Rattle.area.specs.Parts.{partOf, pastedIn}
@@ -14,9 +14,9 @@ use Rattle.area.proofs.Marks.{cond-true, cond-false}
 use Rattle.area.specs.Refusals.{here}
 use Rattle.block.specs.Blocks.{judgedBlock}
 use Rattle.channel.specs.declared.Channel.{Channel}
-use Rattle.channel_outcomes.specs.Rules.{resultNumber}
+use Rattle.channel_outcomes.specs.Rules.{resultNumber, outcomeCount}
 use Rattle.channel_turns.specs.Scans.{workingIn, unitNumber}
-use Rattle.channel.specs.Units.{turnAt, operationAt}
+use Rattle.channel.specs.Units.{turnAt, operationAt, unitCount}
 use Rattle.channel_turns.specs.Turns.{judgeOf, bookOf}
 use Rattle.file.specs.declared.Side.{Side}
 use Rattle.file.specs.declared.File.{File}
@@ -92,7 +92,7 @@ module _ (s : State) (area : List ℕ) (ledgers : ℕ → Ledger) (K : Kept s ar
   no-words =
       let x = report-exactly s area channel unit outcome words in
       let row = x .table .none (sym (x .number) ∙ z) 1 _ here in
-      words-delivered c unit outcome words (or-right (ltb 9 unit || ltb 4 outcome) _ (or-right (reportWrong s (length area) channel) _ row))
+      words-delivered c unit outcome words (or-right (leb unitCount unit || leb outcomeCount outcome) _ (or-right (reportWrong s (length area) channel) _ row))
       (ready .works)
 
   after-area : reportByArea s area channel unit outcome words ≡ reportedArea effect f (s .w) words area

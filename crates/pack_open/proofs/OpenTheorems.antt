@@ -30,7 +30,7 @@ use Rattle.state_sound.specs.Soundness.{sound}
 use Rattle.state_sound.proofs.Everywhere.{by-place}
 use Rattle.state_sound.proofs.Facts.{sound-facts, facts-sound}
 use Rattle.state_sound.proofs.Kept.{open-kept as open-facts}
-use Rattle.call_open.specs.Open.{isSet, wishOf, lowestNumber, freeOf, openRows, openOn}
+use Rattle.call_open.specs.Open.{isSet, wishOf, lowestNumber, freeOf, openRows, openOn, allFlags}
 use Rattle.pack_open.specs.Open.{openOff, openChange, openBy}
 use Rattle.state.proofs.Answered.{not-so, state-refused, state-accepted}
 use Rattle.file.proofs.Changed.{file-accepted}
@@ -88,7 +88,7 @@ module _ (s : State) (file channel unit flags size rlen : ℕ) (yes₀ : openBy 
       let off₃ = or-right (leb unitCount unit) _ off₂ in
       let bound = none 4 _ (later (later here)) in
       record {
-        good = not-so (sound s) (or-right (ltb 15 flags) _ off₃);
+        good = not-so (sound s) (or-right (ltb allFlags flags) _ off₃);
         number = leb-false fileCount file (or-left (leb fileCount file) _ off);
         known = not-so (declaredAt (channelAt s channel) unit) (none 3 _ (later here));
         shut = or-left (fileAt s file .opened) _ bound;

@@ -7,9 +7,10 @@ use mathlib.Core.List.{List, []}
 use Prim.Native.Nat.{ℕ, _+_, _*_, _≤_}
 use native.Mathlib.Nat.{le-trans}
 use borrow.Author.Tests.{eqb-true, ltb-false, ne-eqb, not-false}
-use lib.Dec.{ltb, eqb}
+use lib.Dec.{ltb, eqb, leb}
 use lib.ListN.{length}
 use lib.Seq.{getD-set-same, getD-set-other}
+use Rattle.pool.specs.Free.{fileCount}
 use Rattle.area.specs.Lists.{allOf}
 use Rattle.area.specs.Parts.{isWord}
 use Rattle.area.specs.Refusals.{Rows, lowest, Exactly, NoneApplies, here, later}
@@ -78,10 +79,10 @@ module _ (s : State) (area : List ℕ) (file : ℕ) where
         ∙ none 2 (givesOut f && not (allOf isWord (shown area (getFrom (s .w) f .got)))) (later here))
 
     pub get-state-sound : sound s ≡ true
-    get-state-sound = not-false (sound s) (or-right (areaShort s (length area)) _ (or-right (ltb 15 file) _ right))
+    get-state-sound = not-false (sound s) (or-right (areaShort s (length area)) _ (or-right (leb fileCount file) _ right))
 
     pub get-area-long : s .m * s .w ≤ length area
-    get-area-long = ltb-false (length area) (s .m * s .w) (or-left (areaShort s (length area)) _ (or-right (ltb 15 file) _ right))
+    get-area-long = ltb-false (length area) (s .m * s .w) (or-left (areaShort s (length area)) _ (or-right (leb fileCount file) _ right))
 
     -- the answer is what get finds in the file, and the file is the one after it: the laws of gets in a row carry over
     pub get-finds : (getBy s area file .got ≡ getFrom (s .w) f .got) × (getBy s area file .state ≡ withFile s file (getFrom (s .w) f .file))

@@ -6,9 +6,10 @@ use mathlib.Core.Bool.{Bool, true, false, not, cond, _&&_, _||_}
 use mathlib.Core.List.{List, _++_}
 use Prim.Native.Nat.{ℕ, _+_, _*_, _≤_}
 use borrow.Author.Tests.{eqb-true, eq-eqb, ltb-false, ne-eqb, not-false}
-use lib.Dec.{ltb, eqb}
+use lib.Dec.{ltb, eqb, leb}
 use lib.ListN.{length}
 use lib.Seq.{getD-set-same, getD-set-other}
+use Rattle.pool.specs.Free.{fileCount}
 use Rattle.area.specs.Lists.{allOf}
 use Rattle.area.specs.Parts.{isWord, partOf}
 use Rattle.area.specs.Refusals.{Rows, lowest, Exactly, NoneApplies, here, later}
@@ -68,10 +69,10 @@ module _ (s : State) (area : List ℕ) (file : ℕ) (words : List ℕ) where
     right = none 1 (misused s (length area) file) here
 
     pub put-state-sound : sound s ≡ true
-    put-state-sound = not-false (sound s) (or-right (areaShort s (length area)) _ (or-right (ltb 15 file) _ right))
+    put-state-sound = not-false (sound s) (or-right (areaShort s (length area)) _ (or-right (leb fileCount file) _ right))
 
     pub put-area-long : s .m * s .w ≤ length area
-    put-area-long = ltb-false (length area) (s .m * s .w) (or-left (areaShort s (length area)) _ (or-right (ltb 15 file) _ right))
+    put-area-long = ltb-false (length area) (s .m * s .w) (or-left (areaShort s (length area)) _ (or-right (leb fileCount file) _ right))
 
     pub put-open : f .opened ≡ true
     unfolding putRows

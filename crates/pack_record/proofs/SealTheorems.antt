@@ -6,9 +6,10 @@ use mathlib.Core.Bool.{Bool, true, false, not, cond, _&&_}
 use mathlib.Core.List.{List}
 use Prim.Native.Nat.{ℕ, _+_, _*_, _≤_}
 use borrow.Author.Tests.{eqb-true, ltb-false, ne-eqb, not-false}
-use lib.Dec.{ltb, eqb}
+use lib.Dec.{ltb, eqb, leb}
 use lib.ListN.{length}
 use lib.Seq.{getD-set-same, getD-set-other}
+use Rattle.pool.specs.Free.{fileCount}
 use Rattle.area.specs.Parts.{partOf}
 use Rattle.area.specs.Refusals.{Rows, lowest, Exactly, NoneApplies, here, later}
 use Rattle.area.proofs.Walks.{or-left, or-right, true-not-false, and-both}
@@ -65,10 +66,10 @@ module _ (s : State) (area : List ℕ) (file : ℕ) where
     right = none 1 (misused s (length area) file) here
 
     pub seal-state-sound : sound s ≡ true
-    seal-state-sound = not-false (sound s) (or-right (areaShort s (length area)) _ (or-right (ltb 15 file) _ right))
+    seal-state-sound = not-false (sound s) (or-right (areaShort s (length area)) _ (or-right (leb fileCount file) _ right))
 
     pub seal-area-long : s .m * s .w ≤ length area
-    seal-area-long = ltb-false (length area) (s .m * s .w) (or-left (areaShort s (length area)) _ (or-right (ltb 15 file) _ right))
+    seal-area-long = ltb-false (length area) (s .m * s .w) (or-left (areaShort s (length area)) _ (or-right (leb fileCount file) _ right))
 
     pub seal-open : f .opened ≡ true
     unfolding sealRows

@@ -5,9 +5,10 @@ use mathlib.Core.Logic.{_≢_}
 use mathlib.Core.Bool.{Bool, true, false, not, cond}
 use Prim.Native.Nat.{ℕ}
 use borrow.Author.Tests.{eqb-true, ne-eqb, not-false}
-use lib.Dec.{ltb, eqb}
+use lib.Dec.{ltb, eqb, leb}
 use lib.ListN.{drop}
 use lib.Seq.{getD-set-same, getD-set-other}
+use Rattle.pool.specs.Free.{fileCount}
 use Rattle.area.specs.Refusals.{Rows, lowest, Exactly, NoneApplies, here, later}
 use Rattle.area.proofs.Walks.{or-right, true-not-false}
 use Rattle.area.proofs.Exactly.{exactly}
@@ -65,7 +66,7 @@ module _ (s : State) (file : ℕ) where
 
     pub skip-state-sound : sound s ≡ true
     unfolding skipRows
-    skip-state-sound = not-false (sound s) (or-right (ltb 15 file) _ (none 1 (skipMisused s file) here))
+    skip-state-sound = not-false (sound s) (or-right (leb fileCount file) _ (none 1 (skipMisused s file) here))
 
     skip-is : skipBy s file .state ≡ withFile s file (withoutOldest f)
     unfolding skipBy skipOn

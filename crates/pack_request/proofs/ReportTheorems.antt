@@ -7,7 +7,7 @@ use mathlib.Core.List.{List}
 use Prim.Native.Nat.{ℕ, suc, _+_, _≤_, _<_}
 use native.Mathlib.Decide.{ℕ-discrete}
 use native.Mathlib.Omega.{arith}
-use lib.Dec.{ltb, eqb}
+use lib.Dec.{ltb, eqb, leb}
 use lib.ListN.{length, take, getD}
 use borrow.Author.Tests.{not-true, ne-eqb, eq-eqb, eqb-true}
 use Rattle.area.specs.declared.Found.{Found}
@@ -28,8 +28,8 @@ use Rattle.channel.specs.declared.Work.the-variants.{At, Nothing}
 use Rattle.channel_outcomes.specs.declared.Ending.{Ending}
 use Rattle.channel_outcomes.specs.declared.Verdict.{Verdict}
 use Rattle.channel_outcomes.specs.declared.Verdict.the-variants.{Repeats, Ends}
-use Rattle.channel_outcomes.specs.Rules.{isAllowed, isFailure, isPermanent, nextAttempt, endingOf, verdictOf, resultNumber}
-use Rattle.channel.specs.Units.{turnAt, workOf, operationAt}
+use Rattle.channel_outcomes.specs.Rules.{isAllowed, isFailure, isPermanent, nextAttempt, endingOf, verdictOf, resultNumber, outcomeCount}
+use Rattle.channel.specs.Units.{turnAt, workOf, operationAt, unitCount}
 use Rattle.channel_turns.specs.Scans.{workingIn, unitNumber}
 use Rattle.channel_turns.specs.Turns.{judgeTurn, judgeOf, bookOf, reportOf}
 use Rattle.channel_theorems.specs.History.{station, report, stepTo, reportAnswer, step, aReport}
@@ -140,7 +140,7 @@ serving fs c u n p = go (servingFile fs c u) refl
 
 pub record ReportReady (wrong : Bool) (f : File) (c : Channel) (u outcome w : ℕ) (area words : List ℕ) : Type 0 where
   pub right : wrong ≡ false
-  pub range : (ltb 9 u || ltb 4 outcome) ≡ false
+  pub range : (leb unitCount u || leb outcomeCount outcome) ≡ false
   pub given : allOf isWord words ≡ true
   pub handed : allOf isWord (shownBlock (effectAt c u outcome) w f area) ≡ true
   pub works : isIdleFor (operationAt c u) ≡ false
@@ -155,14 +155,14 @@ pub report-ready : (wrong : Bool) (f : File) (c : Channel) (u outcome w : ℕ) (
     → ReportReady wrong f c u outcome w area words
 unfolding reportRefusal
 report-ready wrong f c u outcome w area words z =
-    let a = lowest-none 1 (wrong || ((ltb 9 u || ltb 4 outcome) || (ltb 0 (length words) && (ltb 0 outcome || takesNoWords (operationAt c u))))) _ (λ q. omega arith) z in
+    let a = lowest-none 1 (wrong || ((leb unitCount u || leb outcomeCount outcome) || (ltb 0 (length words) && (ltb 0 outcome || takesNoWords (operationAt c u))))) _ (λ q. omega arith) z in
     let b = lowest-none 2 (not (allOf isWord words) || not (allOf isWord (shownBlock (effectAt c u outcome) w f area))) _ (λ q. omega arith) (a .1) in
     let d = lowest-none 11 _ _ (λ q. omega arith) (b .1) in
     let e = lowest-none 12 _ _ (λ q. omega arith) (d .1) in
     let g = lowest-none 13 (isDelivery (effectAt c u outcome) && not (blockFits f (length words))) _ (λ q. omega arith) (e .1) in
     record {
       right = or-left wrong _ (a .0);
-      range = or-left (ltb 9 u || ltb 4 outcome) _ (or-right wrong _ (a .0));
+      range = or-left (leb unitCount u || leb outcomeCount outcome) _ (or-right wrong _ (a .0));
       given = not-false (allOf isWord words) (or-left (not (allOf isWord words)) _ (b .0));
       handed = not-false _ (or-right (not (allOf isWord words)) _ (b .0));
       works = d .0;

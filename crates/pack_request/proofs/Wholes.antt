@@ -3,12 +3,13 @@ use mathlib.Core.Path.{_≡_}
 use mathlib.Core.Bool.{Bool, not, _||_}
 use mathlib.Core.List.{List}
 use Prim.Native.Nat.{ℕ}
-use lib.Dec.{ltb}
+use lib.Dec.{ltb, leb}
 use lib.ListN.{length}
+use Rattle.pool.specs.Free.{fileCount}
 use Rattle.channel.specs.declared.Channel.{Channel}
 use Rattle.file.specs.declared.File.{File}
 use Rattle.state.specs.declared.State.{State}
-use Rattle.state.specs.Places.{fileAt, channelAt, areaShort}
+use Rattle.state.specs.Places.{fileAt, channelAt, areaShort, channelCount}
 use Rattle.state_sound.specs.Soundness.{sound}
 use Rattle.call_request.specs.declared.AskChange.{AskChange}
 use Rattle.pack_request.specs.declared.Asking.{Asking}
@@ -20,7 +21,7 @@ use Rattle.pack_request.specs.Calls.{askBy, fileOf, reportBy, reportByAr
 use Rattle.call_request.specs.Report.{reportOn, reportOnArea}
 
 pub ask-whole : (s : State) (file op priority : ℕ) (f : File) (c : Channel) (whole : Bool) (x : AskChange) (t : State)
-    → f ≡ fileAt s file → c ≡ channelAt s (f .channel) → whole ≡ sound s → x ≡ askOn (not whole || ltb 15 file) f c op priority (s .frozen)
+    → f ≡ fileAt s file → c ≡ channelAt s (f .channel) → whole ≡ sound s → x ≡ askOn (not whole || leb fileCount file) f c op priority (s .frozen)
     → t ≡ changedState s file (f .channel) (x .refusal) (x .file) (x .channel)
     → _≡_ {A = Asking} (record { refusal = x .refusal; working = x .working; state = t }) (askBy s file op priority)
 unfolding askBy
@@ -28,13 +29,13 @@ ask-whole s file op priority f c whole x t isF isC isW isX isT = rw (isT, isX, i
 
 module _ (s : State) (area : List ℕ) (channel unit outcome : ℕ) (words : List ℕ) (i : ℕ) (f : File) (c : Channel) (whole short : Bool)
     (isI : i ≡ fileOf s channel unit) (isF : f ≡ fileAt s i) (isC : c ≡ channelAt s channel) (isW : whole ≡ sound s) (isS : short ≡ areaShort s (length area)) where
-  pub report-whole : (x : ReportChange) (t : State) → x ≡ reportOn (not whole || (short || ltb 4 channel)) f c unit outcome (s .w) (s .frozen) area words
+  pub report-whole : (x : ReportChange) (t : State) → x ≡ reportOn (not whole || (short || leb channelCount channel)) f c unit outcome (s .w) (s .frozen) area words
       → t ≡ changedState s i channel (x .refusal) (x .file) (x .channel)
       → _≡_ {A = Reporting} (record { refusal = x .refusal; result = x .result; error = x .error; working = x .working; start = x .start; count = x .count; state = t })
       (reportBy s area channel unit outcome words)
   unfolding reportBy
   report-whole x t isX isT = rw (isT, isX, isC, isW, isS, isF, isI)
 
-  pub report-area : reportOnArea (not whole || (short || ltb 4 channel)) f c unit outcome (s .w) area words ≡ reportByArea s area channel unit outcome words
+  pub report-area : reportOnArea (not whole || (short || leb channelCount channel)) f c unit outcome (s .w) area words ≡ reportByArea s area channel unit outcome words
   unfolding reportByArea
   report-area = rw (isC, isW, isS, isF, isI)
