@@ -17,12 +17,13 @@ use second::pack_player::answer_script;
 use second::plan::{plan_text, Answer};
 use second::plan_cases::write_plan_cases;
 use second::plan_check::check_texts;
+use second::play::play;
 use second::profile::Profile;
 use second::program::play_with;
 use second::reel::{show_image, Form, Written};
 use second::reel_cases::write_reel_cases;
 use second::reel_make::{make_image, Parity};
-use second::session::play;
+use second::talk::{talk, talk_options};
 use second::text::lines_of;
 use second::word_cases::word_cases;
 use second::words::answer_cases;
@@ -40,20 +41,20 @@ second: documents 01 and 02 of Plorrettix, written a second time
       --profile NAME (all)  --seed N (1)  --count N (5 of each profile)
       --frames N (4000 each)  --partial (what is never reached does not fail)
       --budget N (5000000 frames are played at most to shorten a session)
+  talk [OPTIONS] PROGRAM ..      plays a session with a program, each line after
+      the answer before it; fails if an answer does not come  --terminal
+      --bytes, --parts SEED (cut so, and not by lines)  --seconds N (20 a line)
   bench PROGRAM ..               times the program and this one on one session
   words, channel, files, pack    answer cases of check words, of one channel,
       of one file and its buffers, of calls on a state and an area by hand
   word-cases, channel-events, file-walks, pack-cases   print fixed cases
   plan                           proposes buffers for a list of openings
   plan-check LIST PROPOSAL       accepts a proposal for a list, or says why not
-  plan-cases DIR SEED COUNT      writes random cases N.list and N.proposal
   reel list|words|octal          shows a tape image, standard input to output
   reel make [--bcd]              makes a tape image of what `reel words` shows
-  reel-cases DIR SEED COUNT      writes random cases N.tap and N.text
+  plan-cases, reel-cases DIR SEED COUNT   write random cases N.list, N.tap, ..
   help                           prints this
-
-Exit status: 0 all well, 1 a refusal, a difference or a thing never reached,
-2 a complaint
+Exit status: 0 all well, 1 a refusal, a difference or a failure, 2 a complaint
 ";
 
 fn main() -> ExitCode {
@@ -70,6 +71,7 @@ fn run(arguments: &[String]) -> Result<ExitCode, String> {
         ["play"] => play_standard()?,
         ["generate", profile, seed, frames] => generate(profile, number(seed)?, number(frames)?)?,
         ["compare", ..] => return run_compare(&arguments[1..]),
+        ["talk", ..] => return run_talk(&arguments[1..]),
         ["bench", _, ..] => print(&bench(&arguments[1..], &own_command()?, BENCH_FRAMES)?)?,
         ["words"] => print(&answer_cases(&standard_input()?)?)?,
         ["word-cases"] => print(&lines_of(&word_cases()))?,
@@ -122,6 +124,20 @@ fn run_compare(arguments: &[String]) -> Result<ExitCode, String> {
     let compared = compare(&options, &|session| play_with(command, session))?;
     print(&compared.text)?;
     Ok(if compared.agreed { ExitCode::SUCCESS } else { ExitCode::from(1) })
+}
+
+/// Writes the answers that came; a program that did not answer in time has status 1.
+fn run_talk(arguments: &[String]) -> Result<ExitCode, String> {
+    let (options, command) = talk_options(arguments)?;
+    let talked = talk(&options, command, &standard_bytes()?)?;
+    print_bytes(&talked.answers)?;
+    Ok(match &talked.complaint {
+        None => ExitCode::SUCCESS,
+        Some(complaint) => {
+            eprintln!("{complaint}");
+            ExitCode::from(1)
+        }
+    })
 }
 
 /// The options, and the command of the other program that follows them.

@@ -1,18 +1,85 @@
-//! The subcommand `play`: a session from a reader to a writer, in constant memory.
-
-use std::io::{self, BufRead, Write};
+//! A session as a value that takes its characters in parts cut anywhere, in constant memory
+//! (document 01, "The session program"; document 02, M-105).
 
 use crate::frame::{answer_line, LONGEST_LINE};
 use crate::pack::Pack;
 
 /// "The program also refuses 1 if m×W is over 4,096": the words of the area that it lends.
 pub const AREA_WORDS: usize = 4_096;
+/// "after it any further part or end is refused 17".
+pub const ENDED: u64 = 17;
 
-/// A line as it is read. Of a line that is too long nothing is kept.
-#[derive(Debug, PartialEq, Eq)]
-enum Line {
-    Kept(Vec<u8>),
-    TooLong,
+/// A session, up to the last character that it was given. Sessions that were given the same
+/// characters are equal, wherever these were cut.
+#[derive(Clone, Debug, PartialEq, Eq)]
+pub struct Session {
+    pack: Pack,
+    /// The line that has no line feed yet. Of a line that is too long only as many characters are
+    /// kept as make it so.
+    pending: Vec<u8>,
+    ended: bool,
+}
+
+impl Default for Session {
+    /// A session before its first part.
+    fn default() -> Session {
+        Session { pack: new_pack(), pending: Vec::new(), ended: false }
+    }
+}
+
+impl Session {
+    /// Takes a part, an empty one too, and adds the answer line of each line that ends in it to the
+    /// answers so far: "Each line, an empty one too, gives one answer line."
+    pub fn part(&mut self, part: &[u8], answers: &mut Vec<u8>) -> Result<(), u64> {
+        self.judge()?;
+        for piece in part.split_inclusive(|&character| character == b'\n') {
+            match piece.strip_suffix(b"\n") {
+                Some(last) => {
+                    self.keep(last);
+                    self.answer(answers);
+                }
+                None => self.keep(piece),
+            }
+        }
+        Ok(())
+    }
+
+    /// Ends the input: "A call that ends the input gives the last unterminated line its answer".
+    /// Nothing after the last line feed is no line.
+    pub fn end(&mut self, answers: &mut Vec<u8>) -> Result<(), u64> {
+        self.judge()?;
+        if !self.pending.is_empty() {
+            self.answer(answers);
+        }
+        self.ended = true;
+        Ok(())
+    }
+
+    /// The state that the lines so far have led to; at the end, the end state.
+    pub fn pack(&self) -> &Pack {
+        &self.pack
+    }
+
+    fn judge(&self) -> Result<(), u64> {
+        if self.ended {
+            Err(ENDED)
+        } else {
+            Ok(())
+        }
+    }
+
+    /// Adds to the pending line, up to the first character that makes it too long.
+    fn keep(&mut self, piece: &[u8]) {
+        let room = LONGEST_LINE + 1 - self.pending.len();
+        self.pending.extend_from_slice(&piece[..piece.len().min(room)]);
+    }
+
+    /// Answers the pending line; the next one begins empty.
+    fn answer(&mut self, answers: &mut Vec<u8>) {
+        answers.extend(answer_line(&mut self.pack, &self.pending));
+        answers.push(b'\n');
+        self.pending.clear();
+    }
 }
 
 /// A pack as the program has it before the first frame.
@@ -20,80 +87,21 @@ pub fn new_pack() -> Pack {
     Pack::new(AREA_WORDS)
 }
 
-/// Plays a whole session: "Each line, an empty one too, gives one answer line."
-pub fn play(reader: &mut impl BufRead, writer: &mut impl Write) -> io::Result<()> {
-    let mut pack = new_pack();
-    while let Some(line) = next_line(reader)? {
-        let mut answer = match line {
-            Line::Kept(line) => answer_line(&mut pack, &line),
-            Line::TooLong => b"01".to_vec(),
-        };
-        answer.push(b'\n');
-        writer.write_all(&answer)?;
-    }
-    writer.flush()
-}
-
-/// The answers to a session that lies in memory.
+/// The answers to a session that is given in one part.
 pub fn answers_to(session: &[u8]) -> Vec<u8> {
     let mut answers = Vec::new();
-    play(&mut &session[..], &mut answers).expect("memory can be read and written");
+    let mut value = Session::default();
+    let played = value.part(session, &mut answers).and_then(|()| value.end(&mut answers));
+    played.expect("the session has not ended before");
     answers
-}
-
-/// The next line without its line feed. "A last line without line feed counts." Nothing after the
-/// last line feed is no line.
-fn next_line(reader: &mut impl BufRead) -> io::Result<Option<Line>> {
-    let mut kept = Vec::new();
-    let mut too_long = false;
-    let mut any = false;
-    loop {
-        let given = match reader.fill_buf() {
-            Ok(given) => given,
-            Err(error) if error.kind() == io::ErrorKind::Interrupted => continue,
-            Err(error) => return Err(error),
-        };
-        let line_feed = given.iter().position(|&character| character == b'\n');
-        let piece = &given[..line_feed.unwrap_or(given.len())];
-        let at_end = given.is_empty();
-        any |= !at_end;
-        too_long |= kept.len() + piece.len() > LONGEST_LINE;
-        if too_long {
-            kept = Vec::new();
-        } else {
-            kept.extend_from_slice(piece);
-        }
-        let used = line_feed.map_or(given.len(), |place| place + 1);
-        reader.consume(used);
-        if line_feed.is_some() || at_end {
-            let line = if too_long { Line::TooLong } else { Line::Kept(kept) };
-            return Ok(any.then_some(line));
-        }
-    }
 }
 
 #[cfg(test)]
 mod tests {
     use super::*;
-    use std::io::{BufReader, Read};
 
     fn plays(session: &str, answers: &str) {
         assert_eq!(String::from_utf8(answers_to(session.as_bytes())).as_deref(), Ok(answers), "{session:?}");
-    }
-
-    /// The same character many times over, without the memory for them.
-    struct Endless {
-        character: u8,
-        left: usize,
-    }
-
-    impl Read for Endless {
-        fn read(&mut self, buffer: &mut [u8]) -> io::Result<usize> {
-            let count = buffer.len().min(self.left);
-            buffer[..count].fill(self.character);
-            self.left -= count;
-            Ok(count)
-        }
     }
 
     #[test]
@@ -118,28 +126,39 @@ mod tests {
     }
 
     #[test]
-    fn a_line_is_too_long_from_10249_characters_on() {
-        let longest = "0".repeat(LONGEST_LINE);
-        let mut reader = BufReader::with_capacity(7, longest.as_bytes());
-        assert_eq!(next_line(&mut reader).expect("a line"), Some(Line::Kept(longest.clone().into_bytes())));
-        assert_eq!(next_line(&mut reader).expect("no line"), None);
-        let longer = longest + "0\n09";
-        let mut reader = BufReader::with_capacity(7, longer.as_bytes());
-        assert_eq!(next_line(&mut reader).expect("a line"), Some(Line::TooLong));
-        assert_eq!(next_line(&mut reader).expect("a line"), Some(Line::Kept(b"09".to_vec())));
-    }
-
-    #[test]
-    fn a_hundred_million_characters_without_line_feed_give_one_answer() {
-        let endless = Endless { character: b'0', left: 100_000_000 };
-        let mut answers = Vec::new();
-        play(&mut BufReader::new(endless), &mut answers).expect("a session");
-        assert_eq!(answers, b"01\n");
-    }
-
-    #[test]
     fn a_session_goes_on_after_a_line_that_is_too_long() {
         let session = format!("09\n{}\n0A\n", "9".repeat(20_000));
         plays(&session, "00\n01\n00\n");
+    }
+
+    #[test]
+    fn of_a_line_that_is_too_long_no_more_is_kept() {
+        let mut session = Session::default();
+        let mut answers = Vec::new();
+        for _ in 0..3 {
+            session.part(&[b'0'; LONGEST_LINE], &mut answers).expect("a part");
+        }
+        assert_eq!(session.pending.len(), LONGEST_LINE + 1);
+        assert!(answers.is_empty());
+    }
+
+    #[test]
+    fn a_line_is_answered_by_the_part_that_has_its_line_feed() {
+        let mut session = Session::default();
+        let mut answers = Vec::new();
+        for (part, so_far) in [("0", ""), ("9", ""), ("", ""), ("\n0", "00\n"), ("A\n\n", "00\n00\n01\n")] {
+            session.part(part.as_bytes(), &mut answers).expect("a part");
+            assert_eq!(answers, so_far.as_bytes(), "{part:?}");
+        }
+    }
+
+    #[test]
+    fn the_state_is_that_of_the_lines_so_far() {
+        let mut session = Session::default();
+        let mut answers = Vec::new();
+        session.part(b"09\n0A", &mut answers).expect("a part");
+        assert!(session.pack().channels[0].frozen);
+        session.end(&mut answers).expect("the end");
+        assert_eq!(*session.pack(), new_pack());
     }
 }

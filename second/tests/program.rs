@@ -70,6 +70,22 @@ fn compare_finds_a_wrong_copy() {
     assert!(text.ends_with("  this program   0B\n  other program  0C\n"), "{text}");
 }
 
+/// Over pipes and over a terminal, in lines and in parts; a program that answers late fails.
+#[cfg(unix)]
+#[test]
+fn talk_hands_the_answers_on() {
+    let program = program();
+    for options in [[].as_slice(), &["--terminal"], &["--bytes"], &["--parts", "1", "--seconds", "30"]] {
+        let arguments = [&["talk"], options, &[&program, "play"]].concat();
+        let played = play_with(&command(&arguments), b"09\n\n0A").expect("answers");
+        assert_eq!(played.answers, b"00\n01\n00\n", "{options:?}");
+        assert!(played.ended_well, "{options:?}");
+    }
+    let late = command(&["talk", "--seconds", "1", "sh", "-c", "cat >/dev/null; echo 00"]);
+    let played = play_with(&late, b"09\n").expect("a failure");
+    assert!(!played.ended_well);
+}
+
 #[test]
 fn complaints_end_with_2() {
     for arguments in [
@@ -79,6 +95,10 @@ fn complaints_end_with_2() {
         &["compare"],
         &["compare", "./no such program"],
         &["bench"],
+        &["talk"],
+        &["talk", "--terminal"],
+        &["talk", "--speed", "cat"],
+        &["talk", "./no such program"],
     ] {
         let output = run(arguments);
         assert_eq!(output.status.code(), Some(2), "{arguments:?}");
@@ -89,7 +109,8 @@ fn complaints_end_with_2() {
 #[test]
 fn help_names_every_subcommand() {
     let help = text(&run(&["help"]));
-    let names = "play generate compare bench words word-cases channel channel-events files file-walks pack \
+    let names =
+        "play generate compare talk bench words word-cases channel channel-events files file-walks pack \
                  pack-cases plan plan-check plan-cases reel reel-cases help";
     let heads: Vec<&str> = help.lines().filter_map(|line| line.strip_prefix("  ")).collect();
     for name in names.split_ascii_whitespace() {
