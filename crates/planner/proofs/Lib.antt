@@ -1,0 +1,4 @@
+pub mod Maps
+pub mod Faults
+pub mod Turns
+pub mod Rises
