@@ -1,5 +1,5 @@
 pub mod Events
 pub mod Rows
-pub mod Accepted
+pub mod Acceptable
 pub mod Walk
 pub mod Greedy

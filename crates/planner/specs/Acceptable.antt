@@ -1,4 +1,4 @@
--- Which proposals are accepted, said plainly (document 02, M-111). Assumes nothing.
+-- Which proposals are acceptable, said plainly (document 02, M-111). Assumes nothing.
 use mathlib.Core.Path.{_≡_}
 use mathlib.Core.Logic.{_≢_}
 use mathlib.Core.Bool.{Bool, true, false, cond}
@@ -39,7 +39,7 @@ deskAfter (suc k) (e ∷ es) rows d =
     cond (opens e) (deskAfter k es (drop 1 rows) (opened (fileOf e) (buffersOf (getD rows 0 0)) d)) (deskAfter k es rows (closed (fileOf e) d))
 
 -- "no buffer serves two open files at a time"
-pub Apart : Desk → Type 0
+abbrev pub Apart : Desk → Type 0
 Apart d = (f g b : ℕ) → f ≢ g → among b (d f) ≡ true → among b (d g) ≡ true → ⊥
 
 -- "every opening has its count of different buffers inside the size", and its row names its file
@@ -49,8 +49,8 @@ pub record Served (size e row : ℕ) : Type 0 where
   pub differ : different (buffersOf row) ≡ true
   pub inside : (b : ℕ) → among b (buffersOf row) ≡ true → b < size
 
--- a proposal that the check accepts: of a size and of rows, for a limit and a list
-pub record Accepted (limit : ℕ) (events : List ℕ) (size : ℕ) (rows : List ℕ) : Type 0 where
+-- an acceptable proposal: of a size and of rows, for a limit and a list
+pub record Acceptable (limit : ℕ) (events : List ℕ) (size : ℕ) (rows : List ℕ) : Type 0 where
   -- "its size is from 1 to the limit"
   pub least : 1 ≤ size
   pub most : size ≤ limit
