@@ -6,4 +6,5 @@ pub mod Counts
 pub mod Fits
 pub mod Smallest
 pub mod Exact
+pub mod Lists
 pub mod Theorems

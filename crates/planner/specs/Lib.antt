@@ -3,3 +3,4 @@ pub mod Rows
 pub mod Acceptable
 pub mod Walk
 pub mod Greedy
+pub mod Good
