@@ -80,7 +80,7 @@ module _ (f : ℕ) (bs : List ℕ) (d : Desk) where
 
 -- file f gets buffer x, which was free
 module _ (f x : ℕ) (q : List ℕ) (d d′ : Desk) (l : Link q d) (h : x < length q) (z : getD q x 0 ≡ 0)
-  (own : (g b : ℕ) → g ≡ f → among b (d′ g) ≡ cond (eqb b x) true (among b (d g))) (other : (g b : ℕ) → (g ≡ f → ⊥) → among b (d′ g) ≡ among b (d g)) where
+    (own : (g b : ℕ) → g ≡ f → among b (d′ g) ≡ cond (eqb b x) true (among b (d g))) (other : (g b : ℕ) → (g ≡ f → ⊥) → among b (d′ g) ≡ among b (d g)) where
   link-one : Link (set q x (f + 1)) d′
   link-one g b =
       by-test (λ t. eqb g f ≡ t → among b (d′ g) ≡ eqb (getD (set q x (f + 1)) b 0) (g + 1)) (eqb g f)
@@ -352,7 +352,7 @@ module _ (s : ℕ) where
   complete q n (e ∷ es) (r ∷ rs) d flags m i h long l idle g f =
       by-test (λ b. opens e ≡ b → checkFrom s q n (e ∷ es) (r ∷ rs) ≡ Accepted) (opens e)
       (λ _ w. let shut : getD flags (fileOf e) false ≡ false = opening-closed flags m e w (good-from flags m i e es g .0) in
-            let z : allOf (isFree q) (buffersOf r) ≡ true = apart-free q d l (fileOf e) (buffersOf r) (idle (fileOf e) (omega arith) shut) (first-apart s e es d w r rs f) in
+      let z : allOf (isFree q) (buffersOf r) ≡ true = apart-free q d l (fileOf e) (buffersOf r) (idle (fileOf e) (omega arith) shut) (first-apart s e es d w r rs f) in
       let fits : Fits s q e r = served-fits s q e r (opening-served s e es d w r rs f) z in
       accepted-opening s q n e es w r rs fits
       (complete (claimed (mark e) (buffersOf r) q) (n + 1) es rs (opened (fileOf e) (buffersOf r) d) (openedAfter flags e) (m + used e) (i + 1) (omega (arith, length-claimed (mark e) (buffersOf r) q)) (length-opened flags e ∙ long)

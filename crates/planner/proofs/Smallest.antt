@@ -52,9 +52,9 @@ module _ (s : ℕ) (o q : List ℕ) (t : Twin s o q) where
       let free : getD o (firstFree o) 0 ≡ 0 = free-is o (omega (arith, t .longo, t .small)) in
       record {
         same = λ p.
-        let l : countOf p (set o (firstFree o) v) + cond (p 0) 1 0 ≡ countOf p o + cond (p v) 1 0 = rw free at (count-set p o (firstFree o) v (omega (arith, t .longo, t .small))) in
-        let m : countOf p (set q b v) + cond (p 0) 1 0 ≡ countOf p q + cond (p v) 1 0 = rw z at (count-set p q b v (omega (arith, t .longq, t .small))) in
-        omega (arith, t .same p);
+            let l : countOf p (set o (firstFree o) v) + cond (p 0) 1 0 ≡ countOf p o + cond (p v) 1 0 = rw free at (count-set p o (firstFree o) v (omega (arith, t .longo, t .small))) in
+            let m : countOf p (set q b v) + cond (p 0) 1 0 ≡ countOf p q + cond (p v) 1 0 = rw z at (count-set p q b v (omega (arith, t .longq, t .small))) in
+            omega (arith, t .same p);
         within = λ x l. getD-set-other q b x v 0 (λ w. omega arith) ∙ t .within x l;
         longo = length-set o (firstFree o) v ∙ t .longo;
         longq = length-set q b v ∙ t .longq;
@@ -65,9 +65,9 @@ module _ (s : ℕ) (o q : List ℕ) (t : Twin s o q) where
   unfolding released
   twin-released v = record {
     same = λ p.
-    let l : cond (p v) (countOf (λ x. eqb x v) o) 0 ≡ cond (p v) (countOf (λ x. eqb x v) q) 0 = ap (λ (n : ℕ). cond (p v) n 0) (t .same (λ x. eqb x v)) in
-    let m : cond (p 0) (countOf (λ x. eqb x v) o) 0 ≡ cond (p 0) (countOf (λ x. eqb x v) q) 0 = ap (λ (n : ℕ). cond (p 0) n 0) (t .same (λ x. eqb x v)) in
-    omega (arith, count-released p v o, count-released p v q, t .same p);
+        let l : cond (p v) (countOf (λ x. eqb x v) o) 0 ≡ cond (p v) (countOf (λ x. eqb x v) q) 0 = ap (λ (n : ℕ). cond (p v) n 0) (t .same (λ x. eqb x v)) in
+        let m : cond (p 0) (countOf (λ x. eqb x v) o) 0 ≡ cond (p 0) (countOf (λ x. eqb x v) q) 0 = ap (λ (n : ℕ). cond (p 0) n 0) (t .same (λ x. eqb x v)) in
+        omega (arith, count-released p v o, count-released p v q, t .same p);
     within = λ x l. getD-released v q x ∙ (ap (leave v) (t .within x l) ∙ leave-zero v);
     longo = length-map o (leave v) ∙ t .longo;
     longq = length-map q (leave v) ∙ t .longq;
@@ -116,17 +116,19 @@ module _ (s : ℕ) (o q : List ℕ) (t : Twin s o q) (e row : ℕ) (f : Fits s q
     where
       one : e < 64 → (wants e o ≤ s) × Twin s (ownersAfter e o) (claimed (mark e) (buffersOf row) q)
       one h =
-          let g = fits-single s q e row f h in
-          (omega (arith, wants-one e o h, room s o q t (rowFirst row) (g .inside) (g .free)),
-          rw (owners-single e o h, g .buffers, claimed-one (mark e) q (rowFirst row) 0) (twin-taken s o q t (mark e) (rowFirst row) (g .inside) (g .free)))
+          let g = fits-single s q e row f h in (
+            omega (arith, wants-one e o h, room s o q t (rowFirst row) (g .inside) (g .free)),
+            rw (owners-single e o h, g .buffers, claimed-one (mark e) q (rowFirst row) 0) (twin-taken s o q t (mark e) (rowFirst row) (g .inside) (g .free)),
+          )
 
       two : 64 ≤ e → (wants e o ≤ s) × Twin s (ownersAfter e o) (claimed (mark e) (buffersOf row) q)
       two h =
           let g = fits-double s q e row f h in
           let t1 = twin-taken s o q t (mark e) (rowFirst row) (g .low) (g .first) in
-          let z : getD (set q (rowFirst row) (mark e)) (rowSecond row) 0 ≡ 0 = getD-set-other q (rowFirst row) (rowSecond row) (mark e) 0 (g .differ) ∙ g .second in
-          (omega (arith, wants-two e o w h, room s o q t (rowFirst row) (g .low) (g .first), room s _ _ t1 (rowSecond row) (g .high) z),
-          rw (owners-double e o w h, g .buffers, claimed-two (mark e) q (rowFirst row) (rowSecond row)) (twin-taken s _ _ t1 (mark e) (rowSecond row) (g .high) z))
+          let z : getD (set q (rowFirst row) (mark e)) (rowSecond row) 0 ≡ 0 = getD-set-other q (rowFirst row) (rowSecond row) (mark e) 0 (g .differ) ∙ g .second in (
+            omega (arith, wants-two e o w h, room s o q t (rowFirst row) (g .low) (g .first), room s _ _ t1 (rowSecond row) (g .high) z),
+            rw (owners-double e o w h, g .buffers, claimed-two (mark e) q (rowFirst row) (rowSecond row)) (twin-taken s _ _ t1 (mark e) (rowSecond row) (g .high) z),
+          )
 
 pub smallest : (s : ℕ) (o q : List ℕ) (n : ℕ) (events rows : List ℕ) → 1 ≤ s → Twin s o q → checkFrom s q n events rows ≡ Accepted → sizeFrom o events ≤ s
 unfolding sizeFrom

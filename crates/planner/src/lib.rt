@@ -7,9 +7,9 @@ mod events;
 mod greedy;
 mod walk;
 
-pub use walk::check;
 pub use events::judge;
 pub use greedy::plan;
+pub use walk::check;
 
 // Files, openings and buffers, at most.
 pub const FILES: usize = 64;
