@@ -1,5 +1,5 @@
 -- How many owners pass a test, as buffers are taken and released; and the lowest free buffer. Assumes nothing.
-use mathlib.Core.Path.{_≡_, refl, sym, ap, _∙_}
+use mathlib.Core.Path.{_≡_, refl, ap}
 use mathlib.Core.Bool.{Bool, true, false, not, cond}
 use mathlib.Core.List.{List, [], _∷_}
 use Prim.Native.Nat.{ℕ, zero, suc, _+_, _≤_, _<_}
@@ -10,7 +10,7 @@ use lib.Dec.{eqb}
 use lib.ListN.{length, getD, set}
 use Rattle.area.specs.Lists.{countOf}
 use Rattle.area.proofs.Walks.{by-test}
-use Rattle.planner.specs.Walk.{leave, released}
+use Rattle.planner.specs.Walk.{released}
 use Rattle.planner.specs.Greedy.{firstFree}
 
 -- a buffer that serves some file

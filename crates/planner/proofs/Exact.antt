@@ -1,26 +1,25 @@
 -- The check accepts exactly the proposals that are accepted by the plain statement: whom each buffer serves (the walk's owners q) and what each file
 -- holds (the statement's desk d) say the same from event to event. Assumes nothing.
 use mathlib.Core.Path.{_≡_, refl, sym, ap, _∙_}
-use mathlib.Core.Logic.{_≢_}
-use mathlib.Core.Bool.{Bool, true, false, not, cond, _||_}
+use mathlib.Core.Bool.{Bool, true, false, not, cond}
 use mathlib.Core.List.{List, [], _∷_, _++_}
 use Prim.Native.Nat.{ℕ, zero, suc, _+_, _-_, _≤_, _<_}
 use native.Mathlib.Nat.{not-suc-le-zero}
 use native.Mathlib.Omega.{arith}
-use borrow.Author.Tests.{not-true, not-false, leb-true, leb-false, ltb-true, lt-ltb, eqb-true, eqb-false, eq-eqb, ne-eqb}
+use borrow.Author.Tests.{ltb-true, lt-ltb, eqb-true, eqb-false, eq-eqb, ne-eqb}
 use lib.Dec.{eqb, ltb, leb}
-use lib.ListN.{length, getD, set, drop, replicate, length-set, length-map, getD-replicate, List·getD-eq-default}
+use lib.ListN.{length, getD, set, length-set, length-map}
 use lib.Seq.{getD-set-same, getD-set-other}
 use Rattle.area.specs.Lists.{allOf}
 use Rattle.area.proofs.Walks.{by-test, true-not-false, and-left, and-right, and-both, or-left}
 use Rattle.planner.specs.declared.Verdict.the-variants.{Accepted, Fault}
-use Rattle.planner.specs.Events.{fileLimit, fileOf, opens, asked, wrongEvent, openedAfter, judgeFrom, isGood}
-use Rattle.planner.specs.Rows.{rowCount, rowFile, buffersOf, among, different}
+use Rattle.planner.specs.Events.{fileLimit, fileOf, opens, wrongEvent, openedAfter, judgeFrom, isGood}
+use Rattle.planner.specs.Rows.{buffersOf, among, different}
 use Rattle.planner.specs.Acceptable.{openings, Desk, opened, closed, deskAfter, Apart, Served}
 use Rattle.planner.specs.Walk.{mark, leave, isFree, claimed, released, used, checkFrom}
 use Rattle.planner.proofs.Turns.{good-from}
 use Rattle.planner.proofs.Fits.{Fits, closing-accepted, accepted-closing, opening-missing, opening-accepted, accepted-opening}
-use Rattle.planner.proofs.Smallest.{getD-released, nothing-left}
+use Rattle.planner.proofs.Smallest.{getD-released}
 
 -- ---- the owners and the desk say the same
 

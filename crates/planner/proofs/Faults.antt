@@ -1,12 +1,12 @@
 -- The faults of a row, case by case, as the check finds them. Assumes nothing.
-use mathlib.Core.Path.{_≡_, refl, sym, ap, _∙_}
-use mathlib.Core.Bool.{Bool, true, false, not, cond, _&&_, _||_}
+use mathlib.Core.Path.{_≡_, refl}
+use mathlib.Core.Bool.{true, false, _&&_, _||_}
 use mathlib.Core.List.{List, [], _∷_}
 use Prim.Native.Nat.{ℕ, _≤_, _<_}
 use native.Mathlib.Omega.{arith}
 use borrow.Author.Tests.{ltb-true, leb-true, leb-false, lt-ltb, le-ltb, eq-eqb, ne-eqb}
-use lib.Dec.{eqb, leb, ltb}
-use lib.ListN.{length, getD, set}
+use lib.Dec.{leb, ltb}
+use lib.ListN.{set}
 use Rattle.area.specs.Lists.{allOf}
 use Rattle.area.proofs.Walks.{by-test, true-not-false, or-left, or-right, or-either, and-left, and-right, and-both}
 use Rattle.planner.specs.Events.{fileOf, asked}

@@ -1,20 +1,19 @@
 -- What it means that the check finds no fault in an event, or accepts what is left. Assumes nothing.
-use mathlib.Core.Path.{_≡_, refl, sym, ap, _∙_}
+use mathlib.Core.Path.{_≡_, refl, _∙_}
 use mathlib.Core.Bool.{Bool, true, false, not, cond}
 use mathlib.Core.List.{List, [], _∷_}
 use Prim.Native.Nat.{ℕ, suc, _+_, _≤_, _<_}
 use native.Mathlib.Omega.{arith}
-use borrow.Author.Tests.{not-false, ltb-true, lt-ltb, le-ltb, eqb-true, eqb-false, eq-eqb, ne-eqb}
+use borrow.Author.Tests.{ltb-true, lt-ltb, le-ltb, eqb-true, eq-eqb, ne-eqb}
 use lib.Dec.{eqb, ltb}
 use lib.ListN.{length, getD, drop}
 use Rattle.area.specs.Lists.{allOf}
 use Rattle.area.proofs.Walks.{by-test, true-not-false, and-left, and-right}
-use Rattle.planner.specs.declared.Verdict.{Verdict}
 use Rattle.planner.specs.declared.Verdict.the-variants.{Accepted, Fault}
 use Rattle.planner.specs.Events.{fileOf, opens, asked}
 use Rattle.planner.specs.Rows.{rowCount, rowFile, rowFirst, rowSecond, buffersOf, among, different}
 use Rattle.planner.specs.Walk.{isFree, claimed, released, mark, used, buffersFault, rowFault, eventFault, ownersNext, checkFrom}
-use Rattle.planner.proofs.Faults.{one-buffer, two-buffers, asked-two}
+use Rattle.planner.proofs.Faults.{one-buffer, two-buffers}
 
 -- ---- a row that can serve an opening
 

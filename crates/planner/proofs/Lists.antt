@@ -1,21 +1,21 @@
 -- The judgement is exact: a list is found good exactly if it is good by the plain statement. Assumes nothing.
 use mathlib.Core.Path.{_≡_, refl, sym, ap, _∙_}
-use mathlib.Core.Bool.{Bool, true, false, not, cond, _&&_, _||_}
+use mathlib.Core.Bool.{Bool, true, false, not, cond, _||_}
 use mathlib.Core.List.{List, [], _∷_}
 use Prim.Native.Nat.{ℕ, zero, suc, _+_, _≤_, _<_}
 use native.Mathlib.Nat.{not-suc-le-zero}
 use native.Mathlib.Omega.{arith}
-use borrow.Author.Tests.{not-true, not-false, ltb-true, lt-ltb, leb-true, leb-false, le-leb, lt-leb, eqb-true, eqb-false, eq-eqb, ne-eqb}
+use borrow.Author.Tests.{not-false, ltb-true, leb-true, leb-false, le-leb, lt-leb, eqb-true, eqb-false}
 use lib.Dec.{eqb, leb}
 use lib.ListN.{length, getD, set, replicate, length-set, getD-replicate}
 use lib.Seq.{getD-set-same, getD-set-other}
 use Rattle.area.specs.Lists.{countOf}
 use Rattle.area.proofs.Walks.{by-test, true-not-false, and-left, and-right, and-both, or-left, or-right, or-neither}
-use Rattle.planner.specs.declared.Judged.the-variants.{Good, Limit, Event}
+use Rattle.planner.specs.declared.Judged.the-variants.{Limit}
 use Rattle.planner.specs.Events.{fileLimit, fileOf, opens, limitFits, wrongEvent, openedAfter, judgeFrom, judgeOf, isGood}
 use Rattle.planner.specs.Good.{afterEvent, openAfter, GoodList}
 use Rattle.planner.specs.Walk.{used}
-use Rattle.planner.proofs.Turns.{good-from, openings-fit, list-fits}
+use Rattle.planner.proofs.Turns.{good-from, openings-fit}
 
 -- the flags say of each file whether it is open
 abbrev Flags : List Bool → (ℕ → Bool) → Type 0

@@ -1,7 +1,7 @@
 -- The planner's own steps: an event case by case, one turn of its loop, and its answer. Assumes nothing.
 use mathlib.Core.Path.{_≡_, refl, sym, ap, _∙_}
-use mathlib.Core.Bool.{Bool, true, false, cond}
-use mathlib.Core.List.{List, [], _∷_, _++_, append-nil}
+use mathlib.Core.Bool.{true, false}
+use mathlib.Core.List.{List, [], _++_, append-nil}
 use Prim.Native.Nat.{ℕ, _+_, _*_, _≤_, _<_, max}
 use native.Mathlib.Omega.{arith}
 use borrow.Author.Tests.{lt-ltb, le-ltb}
@@ -10,7 +10,7 @@ use Rattle.area.specs.Lists.{countOf}
 use Rattle.area.proofs.Walks.{count-step}
 use Rattle.planner.specs.declared.Proposed.{Proposed}
 use Rattle.planner.specs.Events.{fileOf, opens, judgeOf, isGood}
-use Rattle.planner.specs.Walk.{nobody, mark, released, used}
+use Rattle.planner.specs.Walk.{nobody, released, used}
 use Rattle.planner.specs.Greedy.{firstFree, taken, ownersAfter, rowOf, wants, sizeFrom, rowsFrom, Made, Planned}
 use Rattle.planner.proofs.Turns.{size-go, size-end, size-one, rows-put, rows-end, plan-refused, plan-wanting, plan-proposed}
 

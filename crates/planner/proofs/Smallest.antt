@@ -1,24 +1,24 @@
 -- The planner's proposal is accepted, and no accepted proposal has a smaller size: whoever serves the same openings has as many buffers busy at the
 -- same moments, and a lowest free buffer b is taken where b are busy. Assumes nothing.
 use mathlib.Core.Path.{_≡_, refl, sym, ap, ap₂, _∙_}
-use mathlib.Core.Bool.{Bool, true, false, not, cond}
+use mathlib.Core.Bool.{Bool, true, false, cond}
 use mathlib.Core.List.{List, [], _∷_, map}
-use Prim.Native.Nat.{ℕ, zero, suc, _+_, _*_, _%_, _/_, _≤_, _<_, max}
+use Prim.Native.Nat.{ℕ, _+_, _*_, _%_, _/_, _≤_, _<_, max}
 use native.Mathlib.Omega.{arith}
-use borrow.Author.Tests.{eqb-true, eqb-false, eq-eqb, ne-eqb, lt-ltb, le-ltb, ltb-true, ltb-false}
+use borrow.Author.Tests.{eq-eqb, ne-eqb, lt-ltb, le-ltb, ltb-true, ltb-false}
 use lib.Dec.{eqb, ltb}
-use lib.ListN.{length, getD, set, drop, length-set, length-map, List·getD-map}
+use lib.ListN.{length, getD, set, length-set, length-map, List·getD-map}
 use lib.Seq.{getD-set-same, getD-set-other}
 use Rattle.area.specs.Lists.{countOf, allOf}
-use Rattle.area.proofs.Walks.{by-test, true-not-false}
+use Rattle.area.proofs.Walks.{by-test}
 use Rattle.planner.specs.declared.Verdict.the-variants.{Accepted}
-use Rattle.planner.specs.Events.{fileOf, opens, asked}
+use Rattle.planner.specs.Events.{fileOf, opens}
 use Rattle.planner.specs.Rows.{rowCount, rowFile, rowFirst, rowSecond, buffersOf, among, different}
-use Rattle.planner.specs.Walk.{mark, leave, isFree, claimed, released, checkFrom}
+use Rattle.planner.specs.Walk.{mark, leave, claimed, released, checkFrom}
 use Rattle.planner.specs.Greedy.{firstFree, taken, ownersAfter, rowOf, wants, sizeFrom, rowsFrom}
 use Rattle.planner.proofs.Faults.{one-buffer, two-buffers, claimed-one, claimed-two}
 use Rattle.planner.proofs.Counts.{busy, count-set, count-released, free-busy, free-long, free-is, busy-below}
-use Rattle.planner.proofs.Fits.{Fits, Single, Double, closing-accepted, accepted-closing, opening-missing, opening-accepted, accepted-opening, fits-single, fits-double}
+use Rattle.planner.proofs.Fits.{Fits, closing-accepted, accepted-closing, opening-missing, opening-accepted, accepted-opening, fits-single, fits-double}
 
 -- ---- the planner's owners o beside the owners q of some accepted proposal of size s
 

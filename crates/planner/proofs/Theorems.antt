@@ -1,21 +1,19 @@
 -- What M-111 asks, as theorems over the definitions that the contracts cite. Assumes nothing.
 use mathlib.Core.Path.{_≡_, refl, sym, ap, _∙_}
-use mathlib.Core.Bool.{Bool, true, false, cond, _&&_}
-use mathlib.Core.List.{List, [], _∷_}
+use mathlib.Core.Bool.{true, false, cond, _&&_}
+use mathlib.Core.List.{List}
 use Prim.Native.Nat.{ℕ, _+_, _≤_, _<_}
 use native.Mathlib.Omega.{arith}
-use borrow.Author.Tests.{leb-true, leb-false, le-leb, lt-leb, eq-eqb, eqb-true, ne-eqb}
+use borrow.Author.Tests.{leb-true, leb-false, le-leb, lt-leb, eq-eqb, ne-eqb}
 use lib.Dec.{leb, eqb}
-use lib.ListN.{length, getD, replicate, getD-replicate, List·getD-eq-default}
-use Rattle.area.specs.Lists.{countOf}
+use lib.ListN.{getD, replicate, getD-replicate, List·getD-eq-default}
 use Rattle.area.proofs.Walks.{by-test, true-not-false, and-left, and-right, and-both}
-use Rattle.planner.specs.declared.Verdict.{Verdict}
 use Rattle.planner.specs.declared.Verdict.the-variants.{Accepted, Refused, Fault}
 use Rattle.planner.specs.declared.Judged.the-variants.{Limit}
 use Rattle.planner.specs.Events.{fileLimit, limitFits, judgeFrom, judgeOf, isGood}
 use Rattle.planner.specs.Rows.{among}
 use Rattle.planner.specs.Acceptable.{noneOpen, Acceptable}
-use Rattle.planner.specs.Walk.{nobody, checkFrom, checkOf}
+use Rattle.planner.specs.Walk.{nobody, checkOf}
 use Rattle.planner.specs.Greedy.{sizeFrom, rowsFrom, planRefusal, planSize, planRows}
 use Rattle.planner.proofs.Turns.{size-one, verdict-refused, verdict-sized, verdict-size}
 use Rattle.planner.proofs.Smallest.{Twin, smallest, own}

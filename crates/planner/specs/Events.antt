@@ -1,7 +1,7 @@
 -- A list of openings and closings, and when it is good (document 02, M-111). Assumes nothing.
 use mathlib.Core.Bool.{Bool, true, false, not, cond, _&&_, _||_}
 use mathlib.Core.List.{List, [], _∷_}
-use Prim.Native.Nat.{ℕ, suc, _+_, _%_}
+use Prim.Native.Nat.{ℕ, _+_, _%_}
 use lib.Dec.{leb, ltb}
 use lib.ListN.{getD, set, replicate}
 use Rattle.planner.specs.declared.Judged.{Judged}
@@ -10,6 +10,10 @@ use Rattle.planner.specs.declared.Judged.the-variants.{Good, Limit, Even
 -- files, and openings in a list, at most
 abbrev pub fileLimit : ℕ
 fileLimit = 64
+
+-- buffers that can be ordered, at most
+abbrev pub bufferLimit : ℕ
+bufferLimit = 64
 
 -- ---- an event is a number: f opens file f with one buffer, 64 + f with two, 128 + f closes it
 
@@ -27,7 +31,7 @@ asked e = cond (ltb e 64) 1 2
 
 -- "a limit of 1 to 64"
 abbrev pub limitFits : ℕ → Bool
-limitFits limit = leb 1 limit && leb limit 64
+limitFits limit = leb 1 limit && leb limit bufferLimit
 
 -- an event is wrong, where `opened` says which files are open and n openings came before: it opens an open file, or is a 65th opening; it closes
 -- a file that is not open, or is no event at all

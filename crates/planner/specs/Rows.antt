@@ -1,9 +1,8 @@
 -- A proposal: a pool size, and for each opening, in the list's order, a row that names its file and its buffers. Assumes nothing.
-use mathlib.Core.Bool.{Bool, true, false, not, cond, _&&_}
+use mathlib.Core.Bool.{Bool, true, false, cond}
 use mathlib.Core.List.{List, [], _∷_}
 use Prim.Native.Nat.{ℕ, _/_, _%_}
 use lib.Dec.{eqb}
-use Rattle.area.specs.Lists.{anyOf}
 
 -- ---- a row is a number of four bytes: how many buffers it names, file, second buffer, first buffer
 

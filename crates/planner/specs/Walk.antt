@@ -1,19 +1,19 @@
--- The check of a proposal, event by event: which file each of the 64 buffers serves. Assumes nothing.
-use mathlib.Core.Bool.{Bool, true, false, not, cond, _&&_}
+-- The check of a proposal, event by event: which file each buffer serves. Assumes nothing.
+use mathlib.Core.Bool.{Bool, not, cond, _&&_}
 use mathlib.Core.List.{List, [], _∷_, map}
-use Prim.Native.Nat.{ℕ, suc, _+_}
+use Prim.Native.Nat.{ℕ, _+_}
 use lib.Dec.{eqb, leb, ltb}
 use lib.ListN.{length, getD, set, drop, replicate}
 use Rattle.area.specs.Lists.{allOf}
 use Rattle.planner.specs.declared.Verdict.{Verdict}
 use Rattle.planner.specs.declared.Verdict.the-variants.{Accepted, Refused, Fault}
-use Rattle.planner.specs.Events.{fileOf, opens, asked, isGood, judgeOf}
+use Rattle.planner.specs.Events.{bufferLimit, fileOf, opens, asked, isGood, judgeOf}
 use Rattle.planner.specs.Rows.{rowCount, rowFile, buffersOf, different}
 
 -- ---- the owner of each buffer: 0 is nobody, 1 + f is file f
 
 abbrev pub nobody : List ℕ
-nobody = replicate 64 0
+nobody = replicate bufferLimit 0
 
 abbrev pub mark : ℕ → ℕ
 mark e = fileOf e + 1

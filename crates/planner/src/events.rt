@@ -2,29 +2,41 @@
 ghost use mathlib.Core.Path.{_≡_};
 ghost use mathlib.Core.Bool.{cond};
 ghost use Prim.Native.Nat.{_+_, _-_, _^_, _<_, _≤_};
-ghost use Rattle.planner.specs.Events.{limitFits, opens, fileOf, asked, wrongEvent, openedAfter, judgeFrom, judgeOf, isGood};
+ghost use Rattle.planner.specs.Events.{limitFits, opens, fileOf, asked, wrongEvent, openedAfter, judgeOf, isGood};
 use crate::FILES;
 use crate::Judged;
+
+// The largest limit, and the most openings that a list has.
+const LIMIT: u8 = 64;
+
+const OPENINGS: usize = 64;
+
+// Events: single openings stand below double ones, those below closings, and those below what is no event.
+pub const DOUBLE: u8 = 64;
+
+const CLOSE: u8 = 128;
+
+const NONE: u8 = 192;
 
 // Whether an event opens a file.
 pub fn opens(e: u8) -> bool
     ensures { λ r. ⌜ r ≡ opens e ⌝ }
 {
-    e < 128
+    e < CLOSE
 }
 
 // The file that an event names.
 pub fn file_of(e: u8) -> u8
     ensures { λ r. ⌜ (r ≡ fileOf e) × (r < 64) ⌝ }
 {
-    e % 64
+    e % DOUBLE
 }
 
 // How many buffers an opening asks for.
 pub fn asked(e: u8) -> u8
     ensures { λ r. ⌜ r ≡ asked e ⌝ }
 {
-    if e < 64 {
+    if e < DOUBLE {
         return 1;
     }
     2
@@ -34,7 +46,7 @@ pub fn asked(e: u8) -> u8
 fn limit_fits(limit: u8) -> bool
     ensures { λ r. ⌜ r ≡ limitFits limit ⌝ }
 {
-    (1 <= limit) & (limit <= 64)
+    (1 <= limit) & (limit <= LIMIT)
 }
 
 // Whether an event is wrong where these files are open and n openings came before.
@@ -44,9 +56,9 @@ fn wrong_event(opened: [bool; FILES], n: usize, e: u8) -> bool
     let file = file_of(e) as usize;
     let open = opened[file];
     if opens(e) {
-        return open | (64 <= n);
+        return open | (OPENINGS <= n);
     }
-    (192 <= e) | !open
+    (NONE <= e) | !open
 }
 
 // The files that are open after an event.
@@ -64,7 +76,7 @@ pub fn count_after(n: usize, e: u8) -> usize
     requires { ⌜ n < 2 ^ 64 - 1 ⌝ }
     ensures { λ r. ⌜ (r ≡ n + cond (opens e) 1 0) × (r ≤ n + 1) ⌝ }
 {
-    if e < 128 {
+    if e < CLOSE {
         return n + 1;
     }
     n

@@ -1,7 +1,7 @@
 // The planner: each opening takes the lowest free buffers. Nothing of the check is used here.
 ghost use mathlib.Core.Path.{_≡_};
 ghost use mathlib.Core.List.{[]};
-ghost use Prim.Native.Nat.{_+_, _≤_, _<_, max};
+ghost use Prim.Native.Nat.{_≤_, max};
 ghost use lib.ListN.{take, set};
 ghost use Rattle.area.specs.Lists.{countOf};
 ghost use Rattle.planner.specs.Events.{opens};
@@ -9,6 +9,7 @@ ghost use Rattle.planner.specs.Walk.{leave, released};
 ghost use Rattle.planner.specs.Greedy.{firstFree, taken, ownersAfter, rowOf, wants, Made, Planned};
 use crate::FILES;
 use crate::Proposed;
+use crate::events::DOUBLE;
 use crate::events::count_after;
 use crate::events::file_of;
 use crate::events::is_good;
@@ -76,7 +77,7 @@ fn owners_after(owner: [u8; FILES], e: u8) -> [u8; FILES]
         return freed(owner, v);
     }
     let one = taken(owner, v);
-    if e < 64 {
+    if e < DOUBLE {
         return one;
     }
     taken(one, v)
@@ -88,7 +89,7 @@ fn row_of(owner: [u8; FILES], e: u8) -> u32
 {
     let file = file_of(e);
     let first = first_free(owner) as u32;
-    if e < 64 {
+    if e < DOUBLE {
         return 16777216 + (file as u32) * 65536 + first;
     }
     let one = taken(owner, file + 1);
@@ -104,7 +105,7 @@ fn wanted(owner: [u8; FILES], e: u8) -> u8
         return 0;
     }
     let first = first_free(owner);
-    if e < 64 {
+    if e < DOUBLE {
         return first + 1;
     }
     let v = file_of(e) + 1;

@@ -1,10 +1,9 @@
 // The check of a proposal, event by event: which file each of the 64 buffers serves. Nothing of the planner is used here.
 ghost use mathlib.Core.Path.{_≡_};
 ghost use mathlib.Core.List.{[], _∷_};
-ghost use Prim.Native.Nat.{_+_, _≤_, _<_};
-ghost use lib.ListN.{length, getD, drop, set};
-ghost use Rattle.planner.specs.Rows.{rowCount, rowFile, rowFirst, rowSecond, buffersOf};
-ghost use Rattle.planner.specs.Walk.{isFree, leave, released, claimed, mark, buffersFault, rowFault, eventFault, ownersNext, nobody, checkFrom, checkOf};
+ghost use lib.ListN.{drop, set};
+ghost use Rattle.planner.specs.Rows.{buffersOf};
+ghost use Rattle.planner.specs.Walk.{isFree, leave, released, claimed, buffersFault, rowFault, eventFault, ownersNext, nobody, checkFrom, checkOf};
 use crate::FILES;
 use crate::Verdict;
 use crate::events::asked;

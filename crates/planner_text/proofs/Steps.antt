@@ -2,8 +2,7 @@
 use mathlib.Core.Path.{_≡_, refl, sym, ap, _∙_}
 use mathlib.Core.Bool.{Bool, true, false, cond, _&&_}
 use mathlib.Core.List.{List, [], _∷_, _++_, map, append-assoc, append-nil}
-use Prim.Native.Nat.{ℕ, zero, suc, _+_, _-_, _≤_, _<_, min}
-use native.Mathlib.Nat.{add-zero}
+use Prim.Native.Nat.{ℕ, suc, _+_, _-_, _≤_, _<_}
 use native.Mathlib.Numerals.{add-one}
 use native.Mathlib.Omega.{arith}
 use borrow.Author.Tests.{eq-eqb, ne-eqb, le-leb, lt-leb}
@@ -11,7 +10,7 @@ use lib.Dec.{eqb, leb}
 use lib.ListN.{length, getD, take, drop, set, drop-of-length-le, length-drop}
 use lib.Seq.{drop-cons, drop-drop, take-suc-set, take-all, take-nil}
 use Rattle.area.specs.Lists.{countOf}
-use Rattle.area.proofs.Walks.{by-test, true-not-false}
+use Rattle.area.proofs.Walks.{by-test}
 use Rattle.session_line.specs.Lines.{feed, onto, linesOf}
 use Rattle.planner_text.specs.Fields.{upTo, firstTo, restTo, sameBytes, digit, capped, digitsFrom, numberOf, blank, sizeWord}
 use Rattle.planner_text.specs.Texts.{field1, field2, field3, closeEvent, openEvent, eventOf, byteOr0, sizeOf, packed, rowOf}

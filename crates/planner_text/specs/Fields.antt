@@ -1,5 +1,5 @@
 -- The fields of a line, and the numbers and words that they are. Assumes nothing.
-use mathlib.Core.Bool.{Bool, true, false, not, cond, _&&_}
+use mathlib.Core.Bool.{Bool, true, false, cond, _&&_}
 use mathlib.Core.List.{List, [], _∷_}
 use Prim.Native.Nat.{ℕ, suc, _+_, _-_, _*_, min}
 use lib.Dec.{eqb, leb}

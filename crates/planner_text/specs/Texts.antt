@@ -1,9 +1,9 @@
 -- What a line says: of a list, an event; of a proposal, a row. Assumes nothing.
-use mathlib.Core.Bool.{Bool, true, false, cond, _&&_}
-use mathlib.Core.List.{List, [], _∷_, map}
+use mathlib.Core.Bool.{cond, _&&_}
+use mathlib.Core.List.{List, [], map}
 use Prim.Native.Nat.{ℕ, _+_, _*_, min}
 use lib.Dec.{eqb, leb}
-use lib.ListN.{length, getD, take, drop}
+use lib.ListN.{getD, take, drop}
 use Rattle.area.specs.Lists.{countOf}
 use Rattle.session_line.specs.Lines.{linesOf}
 use Rattle.planner_text.specs.Fields.{firstTo, restTo, blank, sameBytes, numberOf, openWord, closeWord, singleWord, doubleWord, sizeWord}

@@ -1,7 +1,7 @@
 // Whole texts, line by line.
 ghost use mathlib.Core.Path.{_≡_};
 ghost use mathlib.Core.List.{map};
-ghost use Prim.Native.Nat.{_+_, _≤_, _<_};
+ghost use Prim.Native.Nat.{_≤_, _<_};
 ghost use lib.ListN.{length, take, drop};
 ghost use Rattle.session_line.specs.Lines.{linesOf};
 ghost use Rattle.planner_text.specs.Fields.{restTo};

@@ -1,69 +1,49 @@
+-- `plan::main` meets its contract: what was read is within its room. Assumes nothing.
 use mathlib.Core.Path.{sym}
 use lib.Seq.{length-take-le}
 use borrow.Author.Needs.{needs}
 use Rattle.plan.proofs.main.Statement.{statement}
 use Rattle.plan.proofs.main.Tie as tie
-use Rattle.plan.proofs.main.Reads as reads
-use Rattle.plan.proofs.main.Lts as lts
-use Rattle.io.proofs.large_buffer.Reads as large-buffer-reads
-use Rattle.io.proofs.read_full.Reads as read-full-reads
-use Rattle.io.proofs.write_all.Reads as write-all-reads
-use Rattle.plan.proofs.answer.Reads as answer-reads
-use Rattle.planner_text.proofs.read_list.Reads as read-list-reads
 
--- src/main.rt:89:20
 large-buffer-requires : tie.Need-large-buffer-requires
 large-buffer-requires c κs = search needs
 
--- src/main.rt:90:41
 slice-aggregate-read-full : tie.Need-slice-aggregate-read-full
 slice-aggregate-read-full c = search needs
 
--- src/main.rt:90:9
 read-full-requires : tie.Need-read-full-requires
 read-full-requires c κs = search needs
 
--- src/main.rt:92:26
 array-share-prefix-text : tie.Need-array-share-prefix-text
 array-share-prefix-text c = search needs
 
--- src/main.rt:92:26
 slice-aggregate-read-list : tie.Need-slice-aggregate-read-list
 slice-aggregate-read-list c = search needs
 
--- src/main.rt:92:38
 slice-aggregate-read-list-2 : tie.Need-slice-aggregate-read-list-2
 slice-aggregate-read-list-2 c = search needs
 
--- src/main.rt:92:9
 read-list-requires : tie.Need-read-list-requires
 read-list-requires c κs = search needs
 
--- src/main.rt:95:30
 array-share-prefix-events : tie.Need-array-share-prefix-events
 array-share-prefix-events c = search needs
 
--- src/main.rt:95:30
 slice-aggregate-answer : tie.Need-slice-aggregate-answer
 slice-aggregate-answer c = sym (length-take-le (c .before .before .read-list .result .count) (c .before .before .read-list .last .1 .0) (search needs))
 
--- src/main.rt:95:9
 answer-requires : tie.Need-answer-requires
 answer-requires c κs = search needs
 
--- src/main.rt:97:38
 slice-aggregate-write-all : tie.Need-slice-aggregate-write-all
 slice-aggregate-write-all c = search needs
 
--- src/main.rt:97:9
 write-all-requires : tie.Need-write-all-requires
 write-all-requires c κs = search needs
 
--- src/main.rt:88:1
 returns : tie.Need-returns
 returns c = search needs
 
--- src/main.rt:88:1
 returns-2 : tie.Need-returns-2
 returns-2 c = search needs
 

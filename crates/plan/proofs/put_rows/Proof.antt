@@ -1,12 +1,10 @@
+-- `plan::put_rows` meets its contract. The index stays within the rows. Assumes nothing.
 use Prim.Native.Nat.{_≤_, _-_}
 use mathlib.Core.Path.{_≡_}
 use lib.ListN.{length}
 use borrow.Author.Needs.{needs}
 use Rattle.plan.proofs.put_rows.Statement.{statement}
 use Rattle.plan.proofs.put_rows.Tie as tie
-use Rattle.plan.proofs.put_rows.Reads as reads
-use Rattle.plan.proofs.put_rows.Lts as lts
-use Rattle.plan.proofs.put_row.Reads as put-row-reads
 
 abbrev Inv-loop : tie.InvT-loop
 Inv-loop count rows i₀ i = (i ≤ 64) × (length rows ≡ 64)
@@ -14,43 +12,33 @@ Inv-loop count rows i₀ i = (i ≤ 64) × (length rows ≡ 64)
 abbrev μ-loop : tie.MeasureT-loop
 μ-loop count rows i₀ i = 64 - i
 
--- src/main.rt:49:5
 loop-holds : tie.Need-loop-holds Inv-loop μ-loop
 loop-holds c = search needs
 
--- src/main.rt:51:13
 returns : tie.Need-returns Inv-loop μ-loop
 returns c = search needs
 
--- src/main.rt:53:19
 mul-row : tie.Need-mul-row Inv-loop μ-loop
 mul-row c = search needs
 
--- src/main.rt:53:19
 array-read-row : tie.Need-array-read-row Inv-loop μ-loop
 array-read-row c = search needs
 
--- src/main.rt:54:13
 put-row-requires : tie.Need-put-row-requires Inv-loop μ-loop
 put-row-requires c κs = search needs
 
--- src/main.rt:55:13
 returns-2 : tie.Need-returns-2 Inv-loop μ-loop
 returns-2 c = search needs
 
--- src/main.rt:57:9
 add-i : tie.Need-add-i Inv-loop μ-loop
 add-i c = search needs
 
--- src/main.rt:49:5
 loop-less : tie.Need-loop-less Inv-loop μ-loop
 loop-less c = search needs
 
--- src/main.rt:49:5
 loop-again : tie.Need-loop-again Inv-loop μ-loop
 loop-again c = search needs
 
--- src/main.rt:47:1
 returns-3 : tie.Need-returns-3 Inv-loop μ-loop
 returns-3 c = search needs
 

@@ -1,110 +1,79 @@
+-- `plan_check::main` meets its contract: what was read is within its room. Assumes nothing.
 use mathlib.Core.Path.{sym}
 use lib.Seq.{length-take-le}
 use borrow.Author.Needs.{needs}
 use Rattle.plan_check.proofs.main.Statement.{statement}
 use Rattle.plan_check.proofs.main.Tie as tie
-use Rattle.plan_check.proofs.main.Reads as reads
-use Rattle.plan_check.proofs.main.Lts as lts
-use Rattle.io.proofs.large_buffer.Reads as large-buffer-reads
-use Rattle.io.proofs.write_all.Reads as write-all-reads
-use Rattle.plan_check.proofs.answer.Reads as answer-reads
-use Rattle.plan_check.proofs.read_file.Reads as read-file-reads
-use Rattle.planner_text.proofs.read_list.Reads as read-list-reads
-use Rattle.planner_text.proofs.read_proposal.Reads as read-proposal-reads
 
--- src/main.rt:110:25
 large-buffer-requires : tie.Need-large-buffer-requires
 large-buffer-requires c κs = search needs
 
--- src/main.rt:111:34
 slice-aggregate-read-file : tie.Need-slice-aggregate-read-file
 slice-aggregate-read-file c = search needs
 
--- src/main.rt:111:9
 read-file-requires : tie.Need-read-file-requires
 read-file-requires c κs = search needs
 
--- src/main.rt:112:29
 large-buffer-requires-2 : tie.Need-large-buffer-requires-2
 large-buffer-requires-2 c κs = search needs
 
--- src/main.rt:113:38
 slice-aggregate-read-file-2 : tie.Need-slice-aggregate-read-file-2
 slice-aggregate-read-file-2 c = search needs
 
--- src/main.rt:113:9
 read-file-requires-2 : tie.Need-read-file-requires-2
 read-file-requires-2 c κs = search needs
 
--- src/main.rt:115:9
 returns : tie.Need-returns
 returns c = search needs
 
--- src/main.rt:120:26
 array-share-prefix-list-text : tie.Need-array-share-prefix-list-text
 array-share-prefix-list-text c = search needs
 
--- src/main.rt:120:26
 slice-aggregate-read-list : tie.Need-slice-aggregate-read-list
 slice-aggregate-read-list c = search needs
 
--- src/main.rt:120:43
 slice-aggregate-read-list-2 : tie.Need-slice-aggregate-read-list-2
 slice-aggregate-read-list-2 c = search needs
 
--- src/main.rt:120:9
 read-list-requires : tie.Need-read-list-requires
 read-list-requires c κs = search needs
 
--- src/main.rt:122:34
 array-share-prefix-proposal-text : tie.Need-array-share-prefix-proposal-text
 array-share-prefix-proposal-text c = search needs
 
--- src/main.rt:122:34
 slice-aggregate-read-proposal : tie.Need-slice-aggregate-read-proposal
 slice-aggregate-read-proposal c = search needs
 
--- src/main.rt:122:55
 slice-aggregate-read-proposal-2 : tie.Need-slice-aggregate-read-proposal-2
 slice-aggregate-read-proposal-2 c = search needs
 
--- src/main.rt:122:9
 read-proposal-requires : tie.Need-read-proposal-requires
 read-proposal-requires c κs = search needs
 
--- src/main.rt:125:35
 array-share-prefix-events : tie.Need-array-share-prefix-events
 array-share-prefix-events c = search needs
 
--- src/main.rt:125:35
 slice-aggregate-answer : tie.Need-slice-aggregate-answer
 slice-aggregate-answer c = sym (length-take-le (c .before .before .before .before .before .before .read-list .result .count) (c .before .before .before .before .before .before .read-list .last .1 .0) (search needs))
 
--- src/main.rt:125:68
 array-share-prefix-rows : tie.Need-array-share-prefix-rows
 array-share-prefix-rows c = search needs
 
--- src/main.rt:125:68
 slice-aggregate-answer-2 : tie.Need-slice-aggregate-answer-2
 slice-aggregate-answer-2 c = sym (length-take-le (c .before .before .before .read-proposal .result .count) (c .before .before .before .read-proposal .last .1 .0) (search needs))
 
--- src/main.rt:125:9
 answer-requires : tie.Need-answer-requires
 answer-requires c κs = search needs
 
--- src/main.rt:127:38
 slice-aggregate-write-all : tie.Need-slice-aggregate-write-all
 slice-aggregate-write-all c = search needs
 
--- src/main.rt:127:9
 write-all-requires : tie.Need-write-all-requires
 write-all-requires c κs = search needs
 
--- src/main.rt:109:1
 returns-2 : tie.Need-returns-2
 returns-2 c = search needs
 
--- src/main.rt:109:1
 returns-3 : tie.Need-returns-3
 returns-3 c = search needs
 

@@ -1,14 +1,11 @@
+-- `planner::events::asked` meets its contract: by the test on the event. Assumes nothing.
 use borrow.Author.Tests.{lt-ltb, le-ltb}
 use Rattle.planner.proofs.events.asked.Statement.{statement}
 use Rattle.planner.proofs.events.asked.Tie as tie
-use Rattle.planner.proofs.events.asked.Reads as reads
-use Rattle.planner.proofs.events.asked.Lts as lts
 
--- src/events.rt:27:9
 returns : tie.Need-returns
 returns c = rw (lt-ltb _ _ (c .if1 .taken))
 
--- src/events.rt:23:1
 returns-2 : tie.Need-returns-2
 returns-2 c = rw (le-ltb _ _ (c .if1 .left))
 

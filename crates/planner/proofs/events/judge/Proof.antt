@@ -1,19 +1,14 @@
-use mathlib.Core.Path.{_≡_, refl, sym, ap, _∙_}
-use Prim.Native.Nat.{_+_, _-_, _≤_, _<_}
+-- `planner::events::judge` meets its contract. What is left of the list is judged as the whole is, turn by turn. Assumes nothing.
+use mathlib.Core.Path.{_≡_, sym, _∙_}
+use Prim.Native.Nat.{_-_, _≤_}
 use native.Mathlib.Omega.{arith}
-use lib.ListN.{length, getD, drop}
+use lib.ListN.{length, drop}
 use borrow.Author.Tests.{not-true, not-false}
 use Rattle.planner.specs.Events.{judgeFrom, judgeOf}
 use Rattle.planner.proofs.Turns.{judge-limit, judge-first, judge-fault, judge-turn, judge-end}
 use borrow.Author.Needs.{needs}
 use Rattle.planner.proofs.events.judge.Statement.{statement}
 use Rattle.planner.proofs.events.judge.Tie as tie
-use Rattle.planner.proofs.events.judge.Reads as reads
-use Rattle.planner.proofs.events.judge.Lts as lts
-use Rattle.planner.proofs.events.count_after.Reads as count-after-reads
-use Rattle.planner.proofs.events.limit_fits.Reads as limit-fits-reads
-use Rattle.planner.proofs.events.opened_after.Reads as opened-after-reads
-use Rattle.planner.proofs.events.wrong_event.Reads as wrong-event-reads
 
 abbrev Inv-loop : tie.InvT-loop
 Inv-loop limit events opened₀ n₀ i₀ opened n i = (n ≤ i) × (i ≤ length events) × (judgeFrom opened n i (drop i events) ≡ judgeOf limit events)
@@ -21,51 +16,39 @@ Inv-loop limit events opened₀ n₀ i₀ opened n i = (n ≤ i) × (i ≤ lengt
 abbrev μ-loop : tie.MeasureT-loop
 μ-loop limit events opened₀ n₀ i₀ opened n i = length events - i
 
--- src/events.rt:77:9
 limit-fits-requires : tie.Need-limit-fits-requires Inv-loop μ-loop
 limit-fits-requires c κs = search needs
 
--- src/events.rt:78:9
 returns : tie.Need-returns Inv-loop μ-loop
 returns c = judge-limit _ _ (sym (c .before .limit-fits .ensures) ∙ not-true _ (c .if1 .taken))
 
--- src/events.rt:83:5
 loop-holds : tie.Need-loop-holds Inv-loop μ-loop
 loop-holds c = (search needs, search needs, judge-first _ _ (sym (c .before .limit-fits .ensures) ∙ not-false _ (c .if1 .left)))
 
--- src/events.rt:84:17
 shared-slice-read-e : tie.Need-shared-slice-read-e Inv-loop μ-loop
 shared-slice-read-e c = search needs
 
--- src/events.rt:85:12
 wrong-event-requires : tie.Need-wrong-event-requires Inv-loop μ-loop
 wrong-event-requires c κs = search needs
 
--- src/events.rt:86:13
 returns-2 : tie.Need-returns-2 Inv-loop μ-loop
 returns-2 c = judge-fault _ _ _ _ _ (c .before .before .before .before .loop .inv .2) (c .before .before .before .loop-test .taken) (sym (c .before .wrong-event .ensures) ∙ c .if2 .taken)
 
--- src/events.rt:88:13
 opened-after-requires : tie.Need-opened-after-requires Inv-loop μ-loop
 opened-after-requires c κs = search needs
 
--- src/events.rt:90:9
 count-after-requires : tie.Need-count-after-requires Inv-loop μ-loop
 count-after-requires c κs = search needs
 
--- src/events.rt:91:9
 add-i : tie.Need-add-i Inv-loop μ-loop
 add-i c = search needs
 
--- src/events.rt:83:5
 loop-less : tie.Need-loop-less Inv-loop μ-loop
 loop-less c = search needs
 
--- src/events.rt:83:5
 loop-again : tie.Need-loop-again Inv-loop μ-loop
 loop-again c = (omega (arith, c .count-after .ensures .1), omega arith, judge-turn _ _ _ _ _ (c .before .before .before .before .before .before .loop .inv .2) _ _ (c .before .before .before .before .before .loop-test .taken) (sym (c .before .before .before .wrong-event .ensures) ∙ c .before .before .if2 .left) (c .before .opened-after .ensures) (c .count-after .ensures .0))
 
--- src/events.rt:74:1
 returns-3 : tie.Need-returns-3 Inv-loop μ-loop
 returns-3 c = sym (judge-end _ _ (c .loop-test .left) _ _) ∙ c .before .loop .inv .2
 

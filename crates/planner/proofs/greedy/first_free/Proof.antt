@@ -1,15 +1,14 @@
-use mathlib.Core.Path.{_≡_, refl, sym, ap, _∙_}
+-- `planner::greedy::first_free` meets its contract. From every place on the way the same buffer is the lowest free one. Assumes nothing.
+use mathlib.Core.Path.{_≡_}
 use Prim.Native.Nat.{_+_, _-_, _≤_, _<_}
 use native.Mathlib.Omega.{arith}
 use borrow.Author.Tests.{ne-eqb}
-use lib.ListN.{length, getD, drop}
+use lib.ListN.{length, drop}
 use Rattle.planner.specs.Greedy.{firstFree}
 use Rattle.planner.proofs.Turns.{free-stop, free-go, free-end}
 use borrow.Author.Needs.{needs}
 use Rattle.planner.proofs.greedy.first_free.Statement.{statement}
 use Rattle.planner.proofs.greedy.first_free.Tie as tie
-use Rattle.planner.proofs.greedy.first_free.Reads as reads
-use Rattle.planner.proofs.greedy.first_free.Lts as lts
 
 abbrev Inv-loop : tie.InvT-loop
 Inv-loop owner i₀ i = (i ≤ 64) × (length owner ≡ 64) × (i + firstFree (drop i owner) ≡ firstFree owner)
@@ -17,35 +16,27 @@ Inv-loop owner i₀ i = (i ≤ 64) × (length owner ≡ 64) × (i + firstFree (d
 abbrev μ-loop : tie.MeasureT-loop
 μ-loop owner i₀ i = 64 - i
 
--- src/greedy.rt:23:5
 loop-holds : tie.Need-loop-holds Inv-loop μ-loop
 loop-holds c = (search needs, search needs, omega arith)
 
--- src/greedy.rt:24:18
 cast-at : tie.Need-cast-at Inv-loop μ-loop
 cast-at c = search needs
 
--- src/greedy.rt:25:12
 array-read-if1 : tie.Need-array-read-if1 Inv-loop μ-loop
 array-read-if1 c = search needs
 
--- src/greedy.rt:26:13
 returns : tie.Need-returns Inv-loop μ-loop
 returns c = let h : c .before .before .loop .i < length (c .before .before .before .args .t1) = omega arith in (omega (arith, free-stop (c .before .before .before .args .t1) (c .before .before .loop .i) h (c .if1 .taken)), omega arith)
 
--- src/greedy.rt:28:9
 add-i : tie.Need-add-i Inv-loop μ-loop
 add-i c = search needs
 
--- src/greedy.rt:23:5
 loop-less : tie.Need-loop-less Inv-loop μ-loop
 loop-less c = search needs
 
--- src/greedy.rt:23:5
 loop-again : tie.Need-loop-again Inv-loop μ-loop
 loop-again c = let h : c .before .before .loop .i < length (c .before .before .before .args .t1) = omega arith in (omega arith, c .before .before .loop .inv .1, omega (arith, free-go (c .before .before .before .args .t1) (c .before .before .loop .i) h (ne-eqb _ _ (c .if1 .left))))
 
--- src/greedy.rt:19:1
 returns-2 : tie.Need-returns-2 Inv-loop μ-loop
 returns-2 c = let h : length (c .before .before .args .t1) ≤ c .before .loop .i = omega arith in (omega (arith, free-end (c .before .before .args .t1) (c .before .loop .i) h), omega arith)
 

@@ -1,16 +1,14 @@
-use mathlib.Core.Path.{_≡_, refl, sym, ap, _∙_}
+-- `planner::greedy::freed` meets its contract. What is done and what is left give the whole. Assumes nothing.
+use mathlib.Core.Path.{_≡_, refl}
 use mathlib.Core.List.{_++_, map}
 use Prim.Native.Nat.{_+_, _-_, _≤_, _<_}
 use native.Mathlib.Omega.{arith}
-use lib.ListN.{length, getD, take, drop, set, length-set}
+use lib.ListN.{length, take, drop}
 use Rattle.planner.specs.Walk.{leave, released}
 use Rattle.planner.proofs.Maps.{map-step, map-done}
 use borrow.Author.Needs.{needs}
 use Rattle.planner.proofs.greedy.freed.Statement.{statement}
 use Rattle.planner.proofs.greedy.freed.Tie as tie
-use Rattle.planner.proofs.greedy.freed.Reads as reads
-use Rattle.planner.proofs.greedy.freed.Lts as lts
-use Rattle.planner.proofs.greedy.unless.Reads as unless-reads
 
 abbrev Inv-loop : tie.InvT-loop
 Inv-loop v after₀ i₀ after i = (i ≤ 64) × (length after ≡ 64) × (map (leave v) after₀ ≡ take i after ++ map (leave v) (drop i after))
@@ -18,35 +16,27 @@ Inv-loop v after₀ i₀ after i = (i ≤ 64) × (length after ≡ 64) × (map (
 abbrev μ-loop : tie.MeasureT-loop
 μ-loop v after₀ i₀ after i = 64 - i
 
--- src/greedy.rt:62:5
 loop-holds : tie.Need-loop-holds Inv-loop μ-loop
 loop-holds c = (search needs, search needs, refl)
 
--- src/greedy.rt:63:17
 array-read-x : tie.Need-array-read-x Inv-loop μ-loop
 array-read-x c = search needs
 
--- src/greedy.rt:64:20
 unless-requires : tie.Need-unless-requires Inv-loop μ-loop
 unless-requires c κs = search needs
 
--- src/greedy.rt:64:9
 array-write-after : tie.Need-array-write-after Inv-loop μ-loop
 array-write-after c = search needs
 
--- src/greedy.rt:65:9
 add-i : tie.Need-add-i Inv-loop μ-loop
 add-i c = search needs
 
--- src/greedy.rt:62:5
 loop-less : tie.Need-loop-less Inv-loop μ-loop
 loop-less c = search needs
 
--- src/greedy.rt:62:5
 loop-again : tie.Need-loop-again Inv-loop μ-loop
 loop-again c = let h : c .before .before .loop .i < length (c .before .before .loop .after) = omega arith in (omega arith, search needs, rw (c .unless .ensures) (map-step (leave (c .before .before .before .args .v)) _ (c .before .before .loop .after) (c .before .before .loop .i) 0 h (c .before .before .loop .inv .2)))
 
--- src/greedy.rt:57:1
 returns : tie.Need-returns Inv-loop μ-loop
 unfolding released
 returns c = map-done (leave (c .before .before .args .v)) _ (c .before .loop .after) (c .before .loop .i) (omega arith) (c .before .loop .inv .2)

@@ -1,89 +1,65 @@
-use mathlib.Core.Path.{sym, ap, ap₂, _∙_}
-use native.Mathlib.Omega.{arith}
-use Rattle.planner.specs.Greedy.{taken, firstFree, rowOf}
+-- `planner::greedy::row_of` meets its contract: for a single and a double opening, by the laws of `Rises`. Assumes nothing.
+use mathlib.Core.Path.{ap, _∙_}
+use Rattle.planner.specs.Greedy.{taken, firstFree}
 use Rattle.planner.proofs.Rises.{row-single, row-double}
 use borrow.Author.Needs.{needs}
 use Rattle.planner.proofs.greedy.row_of.Statement.{statement}
 use Rattle.planner.proofs.greedy.row_of.Tie as tie
-use Rattle.planner.proofs.greedy.row_of.Reads as reads
-use Rattle.planner.proofs.greedy.row_of.Lts as lts
-use Rattle.planner.proofs.events.file_of.Reads as file-of-reads
-use Rattle.planner.proofs.greedy.first_free.Reads as first-free-reads
-use Rattle.planner.proofs.greedy.taken.Reads as taken-reads
 
--- src/greedy.rt:89:9
 file-of-requires : tie.Need-file-of-requires
 file-of-requires c κs = search needs
 
--- src/greedy.rt:90:17
 first-free-requires : tie.Need-first-free-requires
 first-free-requires c κs = search needs
 
--- src/greedy.rt:90:17
 cast-first : tie.Need-cast-first
 cast-first c = search needs
 
--- src/greedy.rt:92:28
 cast-result : tie.Need-cast-result
 cast-result c = search needs
 
--- src/greedy.rt:92:27
 mul-result : tie.Need-mul-result
 mul-result c = search needs
 
--- src/greedy.rt:92:16
 add-result : tie.Need-add-result
 add-result c = search needs
 
--- src/greedy.rt:92:16
 add-result-2 : tie.Need-add-result-2
 add-result-2 c = search needs
 
--- src/greedy.rt:92:9
 returns : tie.Need-returns
 returns c = row-single (c .before .before .before .args .owner) (c .before .before .before .args .e) _ (c .before .before .file-of .ensures .0) _ (c .before .first-free .ensures .0) (c .if1 .taken)
 
--- src/greedy.rt:94:28
 add-taken : tie.Need-add-taken
 add-taken c = search needs
 
--- src/greedy.rt:94:9
 taken-requires : tie.Need-taken-requires
 taken-requires c κs = search needs
 
--- src/greedy.rt:95:18
 first-free-requires-2 : tie.Need-first-free-requires-2
 first-free-requires-2 c κs = search needs
 
--- src/greedy.rt:95:18
 cast-second : tie.Need-cast-second
 cast-second c = search needs
 
--- src/greedy.rt:96:17
 cast-result-2 : tie.Need-cast-result-2
 cast-result-2 c = search needs
 
--- src/greedy.rt:96:16
 mul-result-2 : tie.Need-mul-result-2
 mul-result-2 c = search needs
 
--- src/greedy.rt:96:5
 add-result-3 : tie.Need-add-result-3
 add-result-3 c = search needs
 
--- src/greedy.rt:96:40
 mul-result-3 : tie.Need-mul-result-3
 mul-result-3 c = search needs
 
--- src/greedy.rt:96:5
 add-result-4 : tie.Need-add-result-4
 add-result-4 c = search needs
 
--- src/greedy.rt:96:5
 add-result-5 : tie.Need-add-result-5
 add-result-5 c = search needs
 
--- src/greedy.rt:86:1
 returns-2 : tie.Need-returns-2
 returns-2 c = row-double (c .before .before .before .before .before .args .owner) (c .before .before .before .before .before .args .e) _ (c .before .before .before .before .file-of .ensures .0) _ _ (c .before .before .before .first-free .ensures .0) (c .first-free2 .ensures .0 ∙ ap firstFree (c .before .taken .ensures)) (c .before .before .if1 .left)
 

@@ -1,14 +1,11 @@
+-- `planner::greedy::unless` meets its contract: by its test. Assumes nothing.
 use borrow.Author.Tests.{eq-eqb, ne-eqb}
 use Rattle.planner.proofs.greedy.unless.Statement.{statement}
 use Rattle.planner.proofs.greedy.unless.Tie as tie
-use Rattle.planner.proofs.greedy.unless.Reads as reads
-use Rattle.planner.proofs.greedy.unless.Lts as lts
 
--- src/greedy.rt:51:9
 returns : tie.Need-returns
 returns c = rw (eq-eqb _ _ (c .if1 .taken))
 
--- src/greedy.rt:47:1
 returns-2 : tie.Need-returns-2
 returns-2 c = rw (ne-eqb _ _ (c .if1 .left))
 

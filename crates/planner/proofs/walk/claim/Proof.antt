@@ -1,43 +1,32 @@
+-- `planner::walk::claim` meets its contract: by the count of buffers that the row names. Assumes nothing.
 use mathlib.Core.Path.{sym, _∙_, ap}
-use lib.ListN.{set}
 use Rattle.planner.specs.Walk.{claimed}
 use Rattle.planner.proofs.Faults.{claimed-one, claimed-two, claimed-none, one-buffer, two-buffers, no-buffers}
 use borrow.Author.Needs.{needs}
 use Rattle.planner.proofs.walk.claim.Statement.{statement}
 use Rattle.planner.proofs.walk.claim.Tie as tie
-use Rattle.planner.proofs.walk.claim.Reads as reads
-use Rattle.planner.proofs.walk.claim.Lts as lts
-use Rattle.planner.proofs.walk.with_owner.Reads as with-owner-reads
 
--- src/walk.rt:97:17
 cast-first : tie.Need-cast-first
 cast-first c = search needs
 
--- src/walk.rt:99:9
 with-owner-requires : tie.Need-with-owner-requires
 with-owner-requires c κs = search needs
 
--- src/walk.rt:99:9
 returns : tie.Need-returns
 returns c = c .with-owner .ensures ∙ (sym (claimed-one _ _ _ 0) ∙ ap (λ bs. claimed (c .before .before .args .v) bs (c .before .before .args .owner)) (sym (one-buffer _ (c .before .if1 .taken))))
 
--- src/walk.rt:102:22
 cast-second : tie.Need-cast-second
 cast-second c = search needs
 
--- src/walk.rt:103:13
 with-owner-requires-2 : tie.Need-with-owner-requires-2
 with-owner-requires-2 c κs = search needs
 
--- src/walk.rt:104:9
 with-owner-requires-3 : tie.Need-with-owner-requires-3
 with-owner-requires-3 c κs = search needs
 
--- src/walk.rt:104:9
 returns-2 : tie.Need-returns-2
 returns-2 c = c .with-owner3 .ensures ∙ (rw (c .before .with-owner2 .ensures, two-buffers _ (c .before .before .if2 .taken), claimed-two))
 
--- src/walk.rt:93:1
 returns-3 : tie.Need-returns-3
 returns-3 c = sym (rw (no-buffers _ (c .before .if1 .left) (c .if2 .left), claimed-none))
 

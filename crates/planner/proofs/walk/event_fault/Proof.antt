@@ -1,39 +1,29 @@
-use mathlib.Core.Path.{sym, ap, _∙_}
+-- `planner::walk::event_fault` meets its contract: for a closing, a missing row and a row. Assumes nothing.
+use mathlib.Core.Path.{sym, _∙_}
 use borrow.Author.Tests.{not-true, not-false}
 use Rattle.planner.proofs.Turns.{fault-closing, fault-missing, fault-row}
 use borrow.Author.Needs.{needs}
 use Rattle.planner.proofs.walk.event_fault.Statement.{statement}
 use Rattle.planner.proofs.walk.event_fault.Tie as tie
-use Rattle.planner.proofs.walk.event_fault.Reads as reads
-use Rattle.planner.proofs.walk.event_fault.Lts as lts
-use Rattle.planner.proofs.events.opens.Reads as opens-reads
-use Rattle.planner.proofs.walk.row_fault.Reads as row-fault-reads
 
--- src/walk.rt:128:9
 opens-requires : tie.Need-opens-requires
 opens-requires c κs = search needs
 
--- src/walk.rt:129:9
 returns : tie.Need-returns
 returns c = fault-closing _ _ _ _ (sym (c .before .opens .ensures) ∙ not-true _ (c .if1 .taken))
 
--- src/walk.rt:132:9
 returns-2 : tie.Need-returns-2
 returns-2 c = fault-missing _ _ _ _ _ (sym (c .before .before .opens .ensures) ∙ not-false _ (c .before .if1 .left)) (c .if2 .taken)
 
--- src/walk.rt:134:31
 mul-row-fault : tie.Need-mul-row-fault
 mul-row-fault c = search needs
 
--- src/walk.rt:134:31
 shared-slice-read-row-fault : tie.Need-shared-slice-read-row-fault
 shared-slice-read-row-fault c = search needs
 
--- src/walk.rt:134:5
 row-fault-requires : tie.Need-row-fault-requires
 row-fault-requires c κs = search needs
 
--- src/walk.rt:125:1
 returns-3 : tie.Need-returns-3
 returns-3 c = c .row-fault .ensures ∙ fault-row _ _ _ (c .before .before .before .before .before .before .args .rows .now) (c .before .before .before .before .before .before .args .n) (sym (c .before .before .before .before .opens .ensures) ∙ not-false _ (c .before .before .before .if1 .left)) (search needs)
 

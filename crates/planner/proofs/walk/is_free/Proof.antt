@@ -1,3 +1,4 @@
+-- `planner::walk::is_free` meets its contract: past the end nothing is owned. Assumes nothing.
 use mathlib.Core.Path.{ap}
 use lib.Dec.{eqb}
 use mathlib.Core.Path.{sym}
@@ -5,18 +6,13 @@ use lib.ListN.{List·getD-eq-default}
 use borrow.Author.Needs.{needs}
 use Rattle.planner.proofs.walk.is_free.Statement.{statement}
 use Rattle.planner.proofs.walk.is_free.Tie as tie
-use Rattle.planner.proofs.walk.is_free.Reads as reads
-use Rattle.planner.proofs.walk.is_free.Lts as lts
 
--- src/walk.rt:23:16
 array-read-result : tie.Need-array-read-result
 array-read-result c = search needs
 
--- src/walk.rt:23:9
 returns : tie.Need-returns
 returns c = search needs
 
--- src/walk.rt:18:1
 returns-2 : tie.Need-returns-2
 returns-2 c = sym (ap (λ x. eqb x 0) (List·getD-eq-default (c .before .args .t1) 0 {n = c .before .args .b} (search needs)))
 

@@ -1,3 +1,4 @@
+-- `planner::walk::owners_next` meets its contract: for a closing, a missing row and a row. Assumes nothing.
 use mathlib.Core.Path.{sym, ap, _∙_}
 use Prim.Native.Nat.{_+_}
 use borrow.Author.Tests.{not-true, not-false}
@@ -5,54 +6,37 @@ use Rattle.planner.proofs.Turns.{next-closing, next-missing, next-row}
 use borrow.Author.Needs.{needs}
 use Rattle.planner.proofs.walk.owners_next.Statement.{statement}
 use Rattle.planner.proofs.walk.owners_next.Tie as tie
-use Rattle.planner.proofs.walk.owners_next.Reads as reads
-use Rattle.planner.proofs.walk.owners_next.Lts as lts
-use Rattle.planner.proofs.events.file_of.Reads as file-of-reads
-use Rattle.planner.proofs.events.opens.Reads as opens-reads
-use Rattle.planner.proofs.walk.claim.Reads as claim-reads
-use Rattle.planner.proofs.walk.release.Reads as release-reads
 
--- src/walk.rt:141:13
 file-of-requires : tie.Need-file-of-requires
 file-of-requires c κs = search needs
 
--- src/walk.rt:141:13
 add-v : tie.Need-add-v
 add-v c = search needs
 
--- src/walk.rt:142:9
 opens-requires : tie.Need-opens-requires
 opens-requires c κs = search needs
 
--- src/walk.rt:143:9
 release-requires : tie.Need-release-requires
 release-requires c κs = search needs
 
--- src/walk.rt:143:9
 returns : tie.Need-returns
 returns c = c .release .ensures ∙ next-closing _ (c .before .before .before .before .before .args .e) _ (ap (λ f. f + 1) (c .before .before .before .file-of .ensures .0)) _ (sym (c .before .before .opens .ensures) ∙ not-true _ (c .before .if1 .taken))
 
--- src/walk.rt:146:9
 claim-requires : tie.Need-claim-requires
 claim-requires c κs = search needs
 
--- src/walk.rt:146:9
 returns-2 : tie.Need-returns-2
 returns-2 c = c .claim .ensures ∙ next-missing _ (c .before .before .before .before .before .before .args .e) _ (ap (λ f. f + 1) (c .before .before .before .before .file-of .ensures .0)) _ _ (sym (c .before .before .before .opens .ensures) ∙ not-false _ (c .before .before .if1 .left)) (c .before .if2 .taken)
 
--- src/walk.rt:148:21
 mul-claim : tie.Need-mul-claim
 mul-claim c = search needs
 
--- src/walk.rt:148:21
 shared-slice-read-claim : tie.Need-shared-slice-read-claim
 shared-slice-read-claim c = search needs
 
--- src/walk.rt:148:5
 claim-requires-2 : tie.Need-claim-requires-2
 claim-requires-2 c κs = search needs
 
--- src/walk.rt:138:1
 returns-3 : tie.Need-returns-3
 returns-3 c = c .claim2 .ensures ∙ next-row (c .before .before .before .before .before .before .before .args .owner) (c .before .before .before .before .before .before .before .args .e) _ (ap (λ f. f + 1) (c .before .before .before .before .before .file-of .ensures .0)) (c .before .before .before .before .before .before .before .args .rows .now) (c .before .before .before .before .before .before .before .args .n) (sym (c .before .before .before .before .opens .ensures) ∙ not-false _ (c .before .before .before .if1 .left))
 

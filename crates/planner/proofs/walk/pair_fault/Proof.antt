@@ -1,34 +1,26 @@
+-- `planner::walk::pair_fault` meets its contract: fault by fault, by the laws of `Faults`. Assumes nothing.
 use mathlib.Core.Path.{sym, _∙_, ap₂}
 use mathlib.Core.Bool.{_&&_}
 use Rattle.planner.proofs.Faults.{pair-outside, pair-same, pair-serves, pair-good}
 use borrow.Author.Needs.{needs}
 use Rattle.planner.proofs.walk.pair_fault.Statement.{statement}
 use Rattle.planner.proofs.walk.pair_fault.Tie as tie
-use Rattle.planner.proofs.walk.pair_fault.Reads as reads
-use Rattle.planner.proofs.walk.pair_fault.Lts as lts
-use Rattle.planner.proofs.walk.is_free.Reads as is-free-reads
 
--- src/walk.rt:46:9
 returns : tie.Need-returns
 returns c = pair-outside _ _ _ _ (c .if1 .taken)
 
--- src/walk.rt:49:9
 returns-2 : tie.Need-returns-2
 returns-2 c = pair-same _ _ _ _ (c .before .if1 .left) (c .if2 .taken)
 
--- src/walk.rt:51:9
 is-free-requires : tie.Need-is-free-requires
 is-free-requires c κs = search needs
 
--- src/walk.rt:52:9
 is-free-requires-2 : tie.Need-is-free-requires-2
 is-free-requires-2 c κs = search needs
 
--- src/walk.rt:54:9
 returns-3 : tie.Need-returns-3
 returns-3 c = pair-good _ _ _ _ (c .before .before .before .before .if1 .left) (c .before .before .before .if2 .left) (sym (ap₂ (λ x y. x && y) (c .before .before .is-free .ensures) (c .before .is-free2 .ensures)) ∙ c .if3 .taken)
 
--- src/walk.rt:42:1
 returns-4 : tie.Need-returns-4
 returns-4 c = pair-serves _ _ _ _ (c .before .before .before .before .if1 .left) (c .before .before .before .if2 .left) (sym (ap₂ (λ x y. x && y) (c .before .before .is-free .ensures) (c .before .is-free2 .ensures)) ∙ c .if3 .left)
 

@@ -1,20 +1,16 @@
+-- `planner::walk::with_owner` meets its contract: a store past the end is none. Assumes nothing.
 use mathlib.Core.Path.{sym}
 use lib.Seq.{set-out}
 use borrow.Author.Needs.{needs}
 use Rattle.planner.proofs.walk.with_owner.Statement.{statement}
 use Rattle.planner.proofs.walk.with_owner.Tie as tie
-use Rattle.planner.proofs.walk.with_owner.Reads as reads
-use Rattle.planner.proofs.walk.with_owner.Lts as lts
 
--- src/walk.rt:86:9
 array-write-after : tie.Need-array-write-after
 array-write-after c = search needs
 
--- src/walk.rt:87:9
 returns : tie.Need-returns
 returns c = search needs
 
--- src/walk.rt:80:1
 returns-2 : tie.Need-returns-2
 returns-2 c = sym (set-out _ _ _ (search needs))
 

@@ -1,6 +1,7 @@
-use mathlib.Core.Path.{_≡_, refl}
+-- `planner_text::fields::blanks` meets its contract. The blanks passed, with those that are left, are all. Assumes nothing.
+use mathlib.Core.Path.{_≡_}
 use mathlib.Core.Logic.{⊎-elim}
-use Prim.Native.Nat.{_+_, _-_, _≤_, _<_}
+use Prim.Native.Nat.{_+_, _-_, _≤_}
 use native.Mathlib.Omega.{arith}
 use borrow.Author.Tests.{eq-eqb, ne-eqb}
 use lib.ListN.{length, drop}
@@ -10,8 +11,6 @@ use Rattle.planner_text.specs.Fields.{blank}
 use borrow.Author.Needs.{needs}
 use Rattle.planner_text.proofs.fields.blanks.Statement.{statement}
 use Rattle.planner_text.proofs.fields.blanks.Tie as tie
-use Rattle.planner_text.proofs.fields.blanks.Reads as reads
-use Rattle.planner_text.proofs.fields.blanks.Lts as lts
 
 abbrev Inv-loop : tie.InvT-loop
 Inv-loop line n₀ i₀ n i = (i ≤ length line) × (n ≤ i) × (n + countOf blank (drop i line) ≡ countOf blank line)
@@ -19,31 +18,24 @@ Inv-loop line n₀ i₀ n i = (i ≤ length line) × (n ≤ i) × (n + countOf b
 abbrev μ-loop : tie.MeasureT-loop
 μ-loop line n₀ i₀ n i = length line - i
 
--- src/fields.rt:55:5
 loop-holds : tie.Need-loop-holds Inv-loop μ-loop
 loop-holds c = (search needs, search needs, omega arith)
 
--- src/fields.rt:56:12
 shared-slice-read-if1 : tie.Need-shared-slice-read-if1 Inv-loop μ-loop
 shared-slice-read-if1 c = search needs
 
--- src/fields.rt:57:13
 add-n : tie.Need-add-n Inv-loop μ-loop
 add-n c = search needs
 
--- src/fields.rt:59:9
 add-i : tie.Need-add-i Inv-loop μ-loop
 add-i c = search needs
 
--- src/fields.rt:55:5
 loop-less : tie.Need-loop-less Inv-loop μ-loop
 loop-less c = search needs
 
--- src/fields.rt:55:5
 loop-again : tie.Need-loop-again Inv-loop μ-loop
 loop-again c = ⊎-elim (λ w. (omega arith, omega arith, rw (w .1) (count-hit blank (c .before .before .before .before .args .line .now) 0 (c .before .before .before .loop .i) _ _ (c .before .before .loop-test .taken) (c .before .before .before .loop .inv .2) (eq-eqb _ _ (w .0 .taken))))) (λ w. (omega arith, omega arith, rw (w .1) (count-miss blank (c .before .before .before .before .args .line .now) 0 (c .before .before .before .loop .i) _ _ (c .before .before .loop-test .taken) (c .before .before .before .loop .inv .2) (ne-eqb _ _ (w .0 .left))))) (c .if1 .came)
 
--- src/fields.rt:50:1
 returns : tie.Need-returns Inv-loop μ-loop
 returns c = count-done blank (c .before .before .args .line .now) 0 (c .before .loop .i) _ _ (c .loop-test .left) (c .before .loop .inv .2)
 

@@ -1,26 +1,20 @@
+-- `planner_text::fields::close_event` meets its contract: by the word. Assumes nothing.
 use mathlib.Core.Path.{sym, _∙_}
 use Rattle.planner_text.specs.Texts.{closeEvent}
 use borrow.Author.Needs.{needs}
 use Rattle.planner_text.proofs.fields.close_event.Statement.{statement}
 use Rattle.planner_text.proofs.fields.close_event.Tie as tie
-use Rattle.planner_text.proofs.fields.close_event.Reads as reads
-use Rattle.planner_text.proofs.fields.close_event.Lts as lts
-use Rattle.planner_text.proofs.fields.is_close.Reads as is-close-reads
 
--- src/fields.rt:211:8
 is-close-requires : tie.Need-is-close-requires
 is-close-requires c κs = search needs
 
--- src/fields.rt:212:16
 add-result : tie.Need-add-result
 add-result c = search needs
 
--- src/fields.rt:212:9
 returns : tie.Need-returns
 unfolding closeEvent
 returns c = rw (sym (c .before .is-close .ensures) ∙ c .if1 .taken)
 
--- src/fields.rt:207:1
 returns-2 : tie.Need-returns-2
 unfolding closeEvent
 returns-2 c = rw (sym (c .before .is-close .ensures) ∙ c .if1 .left)

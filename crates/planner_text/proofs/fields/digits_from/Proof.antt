@@ -1,5 +1,6 @@
+-- `planner_text::fields::digits_from` meets its contract. The number so far, with the digits that are left, is the whole number. Assumes nothing.
 use mathlib.Core.Path.{_≡_, refl, sym, ap, _∙_}
-use mathlib.Core.Bool.{true, false}
+use mathlib.Core.Bool.{true}
 use Prim.Native.Nat.{_+_, _-_, _≤_, _<_}
 use native.Mathlib.Omega.{arith}
 use borrow.Author.Tests.{not-true, not-false, leb-true}
@@ -11,10 +12,6 @@ use Rattle.planner_text.proofs.Steps.{digits-go, digits-stop, digits-en
 use borrow.Author.Needs.{needs}
 use Rattle.planner_text.proofs.fields.digits_from.Statement.{statement}
 use Rattle.planner_text.proofs.fields.digits_from.Tie as tie
-use Rattle.planner_text.proofs.fields.digits_from.Reads as reads
-use Rattle.planner_text.proofs.fields.digits_from.Lts as lts
-use Rattle.planner_text.proofs.fields.is_digit.Reads as is-digit-reads
-use Rattle.planner_text.proofs.fields.with_digit.Reads as with-digit-reads
 
 abbrev Inv-loop : tie.InvT-loop
 Inv-loop field v₀ i₀ v i = (i ≤ length field) × (v < 256) × (digitsFrom v (drop i field) ≡ digitsFrom 0 field)
@@ -22,39 +19,30 @@ Inv-loop field v₀ i₀ v i = (i ≤ length field) × (v < 256) × (digitsFrom 
 abbrev μ-loop : tie.MeasureT-loop
 μ-loop field v₀ i₀ v i = length field - i
 
--- src/fields.rt:106:5
 loop-holds : tie.Need-loop-holds Inv-loop μ-loop
 loop-holds c = (search needs, search needs, refl)
 
--- src/fields.rt:107:17
 shared-slice-read-c : tie.Need-shared-slice-read-c Inv-loop μ-loop
 shared-slice-read-c c = search needs
 
--- src/fields.rt:108:13
 is-digit-requires : tie.Need-is-digit-requires Inv-loop μ-loop
 is-digit-requires c κs = search needs
 
--- src/fields.rt:109:13
 returns : tie.Need-returns Inv-loop μ-loop
 returns c = (sym (digits-stop (c .before .before .before .before .before .before .args .field .now) (c .before .before .before .before .loop .i) _ (c .before .before .before .loop-test .taken) (sym (c .before .is-digit .ensures) ∙ not-true _ (c .if1 .taken))) ∙ c .before .before .before .before .loop .inv .2, search needs)
 
--- src/fields.rt:111:9
 with-digit-requires : tie.Need-with-digit-requires Inv-loop μ-loop
 with-digit-requires c κs = let d = getD (c .before .before .before .before .before .before .args .field .now) (c .before .before .before .before .loop .i) 0 in let some : digit d ≡ true = sym (c .before .is-digit .ensures) ∙ not-false _ (c .if1 .left) in (c .before .before .before .before .loop .inv .1, leb-true 48 d (and-left (leb 48 d) (leb d 57) some), leb-true d 57 (and-right (leb 48 d) (leb d 57) some))
 
--- src/fields.rt:112:9
 add-i : tie.Need-add-i Inv-loop μ-loop
 add-i c = search needs
 
--- src/fields.rt:106:5
 loop-less : tie.Need-loop-less Inv-loop μ-loop
 loop-less c = search needs
 
--- src/fields.rt:106:5
 loop-again : tie.Need-loop-again Inv-loop μ-loop
 loop-again c = (omega arith, c .with-digit .ensures .1, ap (λ v. digitsFrom v (drop (c .before .before .before .before .before .loop .i + 1) (c .before .before .before .before .before .before .before .args .field .now))) (c .with-digit .ensures .0) ∙ (sym (digits-go (c .before .before .before .before .before .before .before .args .field .now) (c .before .before .before .before .before .loop .i) _ (c .before .before .before .before .loop-test .taken) (sym (c .before .before .is-digit .ensures) ∙ not-false _ (c .before .if1 .left))) ∙ c .before .before .before .before .before .loop .inv .2))
 
--- src/fields.rt:101:1
 returns-2 : tie.Need-returns-2 Inv-loop μ-loop
 returns-2 c = (sym (digits-end (c .before .before .before .args .field .now) (c .before .loop .i) _ (c .loop-test .left)) ∙ c .before .loop .inv .2, omega arith)
 

@@ -1,67 +1,47 @@
-use mathlib.Core.Path.{ap, ap₂, sym, _∙_}
+-- `planner_text::fields::event_of` meets its contract: by the file and the count of fields. Assumes nothing.
+use mathlib.Core.Path.{ap, ap₂, _∙_}
 use Rattle.planner_text.specs.Texts.{closeEvent, openEvent}
 use Rattle.planner_text.proofs.Steps.{event-none, event-close, event-open, event-other}
 use borrow.Author.Needs.{needs}
 use Rattle.planner_text.proofs.fields.event_of.Statement.{statement}
 use Rattle.planner_text.proofs.fields.event_of.Tie as tie
-use Rattle.planner_text.proofs.fields.event_of.Reads as reads
-use Rattle.planner_text.proofs.fields.event_of.Lts as lts
-use Rattle.planner_text.proofs.fields.blanks.Reads as blanks-reads
-use Rattle.planner_text.proofs.fields.close_event.Reads as close-event-reads
-use Rattle.planner_text.proofs.fields.first.Reads as first-reads
-use Rattle.planner_text.proofs.fields.number2.Reads as number2-reads
-use Rattle.planner_text.proofs.fields.open_event.Reads as open-event-reads
-use Rattle.planner_text.proofs.fields.third.Reads as third-reads
 
--- src/fields.rt:238:9
 number2-requires : tie.Need-number2-requires
 number2-requires c κs = search needs
 
--- src/fields.rt:240:9
 returns : tie.Need-returns
 returns c = event-none _ _ 0 (c .before .number2 .ensures .0) (c .if1 .taken)
 
--- src/fields.rt:242:9
 blanks-requires : tie.Need-blanks-requires
 blanks-requires c κs = search needs
 
--- src/fields.rt:244:28
 cast-close-event : tie.Need-cast-close-event
 cast-close-event c = search needs
 
--- src/fields.rt:244:40
 first-requires : tie.Need-first-requires
 first-requires c κs = search needs
 
--- src/fields.rt:244:9
 close-event-requires : tie.Need-close-event-requires
 close-event-requires c κs = search needs
 
--- src/fields.rt:244:9
 returns-2 : tie.Need-returns-2
 returns-2 c = c .close-event .ensures ∙ (ap (closeEvent _) (c .before .first .ensures) ∙ event-close _ _ _ (c .before .before .before .before .before .number2 .ensures .0) (c .before .before .before .before .if1 .left) (c .before .before .before .blanks .ensures) (c .before .before .if2 .taken))
 
--- src/fields.rt:247:27
 cast-open-event : tie.Need-cast-open-event
 cast-open-event c = search needs
 
--- src/fields.rt:247:39
 first-requires-2 : tie.Need-first-requires-2
 first-requires-2 c κs = search needs
 
--- src/fields.rt:247:59
 third-requires : tie.Need-third-requires
 third-requires c κs = search needs
 
--- src/fields.rt:247:9
 open-event-requires : tie.Need-open-event-requires
 open-event-requires c κs = search needs
 
--- src/fields.rt:247:9
 returns-3 : tie.Need-returns-3
 returns-3 c = c .open-event .ensures ∙ (ap₂ (openEvent _) (c .before .before .first2 .ensures) (c .before .third .ensures) ∙ event-open _ _ _ (c .before .before .before .before .before .before .before .number2 .ensures .0) (c .before .before .before .before .before .before .if1 .left) (c .before .before .before .before .before .blanks .ensures) (c .before .before .before .before .if2 .left) (c .before .before .before .if3 .taken))
 
--- src/fields.rt:235:1
 returns-4 : tie.Need-returns-4
 returns-4 c = event-other _ _ _ (c .before .before .before .before .number2 .ensures .0) (c .before .before .before .if1 .left) (c .before .before .blanks .ensures) (c .before .if2 .left) (c .if3 .left)
 

@@ -1,22 +1,16 @@
+-- `planner_text::fields::limit_of` meets its contract: from the contract of `number`. Assumes nothing.
 use mathlib.Core.Path.{ap, _∙_}
 use Rattle.planner_text.specs.Texts.{byteOr0, limitOf}
 use borrow.Author.Needs.{needs}
 use Rattle.planner_text.proofs.fields.limit_of.Statement.{statement}
 use Rattle.planner_text.proofs.fields.limit_of.Tie as tie
-use Rattle.planner_text.proofs.fields.limit_of.Reads as reads
-use Rattle.planner_text.proofs.fields.limit_of.Lts as lts
-use Rattle.planner_text.proofs.fields.byte_or_0.Reads as byte-or-0-reads
-use Rattle.planner_text.proofs.fields.number.Reads as number-reads
 
--- src/fields.rt:256:15
 number-requires : tie.Need-number-requires
 number-requires c κs = search needs
 
--- src/fields.rt:256:5
 byte-or-0-requires : tie.Need-byte-or-0-requires
 byte-or-0-requires c κs = search needs
 
--- src/fields.rt:253:1
 returns : tie.Need-returns
 unfolding limitOf
 returns c = c .byte-or-0 .ensures ∙ ap byteOr0 (c .before .number .ensures .0)

@@ -1,37 +1,28 @@
-use mathlib.Core.Path.{sym, ap, _∙_}
+-- `planner_text::fields::number` meets its contract: by its length and its first digit. Assumes nothing.
+use mathlib.Core.Path.{_∙_}
 use Rattle.planner_text.proofs.Steps.{number-none, number-one, number-zero, number-more}
 use borrow.Author.Needs.{needs}
 use Rattle.planner_text.proofs.fields.number.Statement.{statement}
 use Rattle.planner_text.proofs.fields.number.Tie as tie
-use Rattle.planner_text.proofs.fields.number.Reads as reads
-use Rattle.planner_text.proofs.fields.number.Lts as lts
-use Rattle.planner_text.proofs.fields.digits_from.Reads as digits-from-reads
 
--- src/fields.rt:122:9
 returns : tie.Need-returns
 returns c = (number-none _ (c .if1 .taken), search needs)
 
--- src/fields.rt:125:9
 digits-from-requires : tie.Need-digits-from-requires
 digits-from-requires c κs = search needs
 
--- src/fields.rt:125:9
 returns-2 : tie.Need-returns-2
 returns-2 c = (c .digits-from .ensures .0 ∙ number-one _ (c .before .before .if1 .left) (c .before .if2 .taken), c .digits-from .ensures .1)
 
--- src/fields.rt:127:8
 shared-slice-read-if3 : tie.Need-shared-slice-read-if3
 shared-slice-read-if3 c = search needs
 
--- src/fields.rt:128:9
 returns-3 : tie.Need-returns-3
 returns-3 c = (number-zero _ (c .before .before .before .if1 .left) (c .before .before .if2 .left) (c .if3 .taken), search needs)
 
--- src/fields.rt:130:5
 digits-from-requires-2 : tie.Need-digits-from-requires-2
 digits-from-requires-2 c κs = search needs
 
--- src/fields.rt:118:1
 returns-4 : tie.Need-returns-4
 returns-4 c = (c .digits-from2 .ensures .0 ∙ number-more _ (c .before .before .before .before .if1 .left) (c .before .before .before .if2 .left) (c .before .if3 .left), c .digits-from2 .ensures .1)
 

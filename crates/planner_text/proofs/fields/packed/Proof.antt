@@ -1,54 +1,40 @@
-use mathlib.Core.Path.{sym, ap, _∙_}
+-- `planner_text::fields::packed` meets its contract: each part is below 256. Assumes nothing.
 use native.Mathlib.Omega.{arith}
 use Rattle.planner_text.specs.Texts.{packed}
 use borrow.Author.Needs.{needs}
 use Rattle.planner_text.proofs.fields.packed.Statement.{statement}
 use Rattle.planner_text.proofs.fields.packed.Tie as tie
-use Rattle.planner_text.proofs.fields.packed.Reads as reads
-use Rattle.planner_text.proofs.fields.packed.Lts as lts
-use Rattle.planner_text.proofs.fields.low.Reads as low-reads
 
--- src/fields.rt:285:9
 low-requires : tie.Need-low-requires
 low-requires c κs = search needs
 
--- src/fields.rt:286:9
 low-requires-2 : tie.Need-low-requires-2
 low-requires-2 c κs = search needs
 
--- src/fields.rt:287:9
 low-requires-3 : tie.Need-low-requires-3
 low-requires-3 c κs = search needs
 
--- src/fields.rt:288:9
 low-requires-4 : tie.Need-low-requires-4
 low-requires-4 c κs = search needs
 
--- src/fields.rt:289:5
 mul-result : tie.Need-mul-result
 mul-result c = search needs
 
--- src/fields.rt:289:20
 mul-result-2 : tie.Need-mul-result-2
 mul-result-2 c = search needs
 
--- src/fields.rt:289:5
 add-result : tie.Need-add-result
 add-result c = search needs
 
--- src/fields.rt:289:32
 mul-result-3 : tie.Need-mul-result-3
 mul-result-3 c = search needs
 
--- src/fields.rt:289:5
 add-result-2 : tie.Need-add-result-2
 add-result-2 c = search needs
 
--- src/fields.rt:289:5
 add-result-3 : tie.Need-add-result-3
 add-result-3 c = search needs
 
--- src/fields.rt:282:1
 returns : tie.Need-returns
 unfolding packed
 returns c = omega (arith, c .before .before .before .low .ensures .0, c .before .before .low2 .ensures .0, c .before .low3 .ensures .0, c .low4 .ensures .0)

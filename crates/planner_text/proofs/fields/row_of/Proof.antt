@@ -1,49 +1,34 @@
-use mathlib.Core.Path.{ap, sym, _∙_}
+-- `planner_text::fields::row_of` meets its contract: by the fields that are no numbers. Assumes nothing.
+use mathlib.Core.Path.{_∙_}
 use Rattle.planner_text.proofs.Steps.{row-file, row-first, row-second, row-whole}
 use borrow.Author.Needs.{needs}
 use Rattle.planner_text.proofs.fields.row_of.Statement.{statement}
 use Rattle.planner_text.proofs.fields.row_of.Tie as tie
-use Rattle.planner_text.proofs.fields.row_of.Reads as reads
-use Rattle.planner_text.proofs.fields.row_of.Lts as lts
-use Rattle.planner_text.proofs.fields.blanks.Reads as blanks-reads
-use Rattle.planner_text.proofs.fields.number1.Reads as number1-reads
-use Rattle.planner_text.proofs.fields.number2.Reads as number2-reads
-use Rattle.planner_text.proofs.fields.number3.Reads as number3-reads
-use Rattle.planner_text.proofs.fields.packed.Reads as packed-reads
 
--- src/fields.rt:296:9
 blanks-requires : tie.Need-blanks-requires
 blanks-requires c κs = search needs
 
--- src/fields.rt:297:9
 number1-requires : tie.Need-number1-requires
 number1-requires c κs = search needs
 
--- src/fields.rt:299:9
 returns : tie.Need-returns
 returns c = row-file _ _ _ (c .before .before .blanks .ensures) (c .before .number1 .ensures .0) (c .if1 .taken)
 
--- src/fields.rt:301:9
 number2-requires : tie.Need-number2-requires
 number2-requires c κs = search needs
 
--- src/fields.rt:303:9
 returns-2 : tie.Need-returns-2
 returns-2 c = row-first _ _ _ (c .before .before .before .before .blanks .ensures) (c .before .before .before .number1 .ensures .0) (c .before .before .if1 .left) _ (c .before .number2 .ensures .0) (c .if2 .taken)
 
--- src/fields.rt:305:9
 number3-requires : tie.Need-number3-requires
 number3-requires c κs = search needs
 
--- src/fields.rt:307:9
 returns-3 : tie.Need-returns-3
 returns-3 c = row-second _ _ _ (c .before .before .before .before .before .before .blanks .ensures) (c .before .before .before .before .before .number1 .ensures .0) (c .before .before .before .before .if1 .left) _ (c .before .before .before .number2 .ensures .0) (c .before .before .if2 .left) _ (c .before .number3 .ensures .0) (c .if3 .taken)
 
--- src/fields.rt:309:5
 packed-requires : tie.Need-packed-requires
 packed-requires c κs = search needs
 
--- src/fields.rt:293:1
 returns-4 : tie.Need-returns-4
 returns-4 c = c .packed .ensures ∙ row-whole _ _ _ (c .before .before .before .before .before .before .before .blanks .ensures) (c .before .before .before .before .before .before .number1 .ensures .0) (c .before .before .before .before .before .if1 .left) _ (c .before .before .before .before .number2 .ensures .0) (c .before .before .before .if2 .left) _ (c .before .before .number3 .ensures .0) (c .before .if3 .left)
 

@@ -1,5 +1,6 @@
-use mathlib.Core.Path.{_≡_, refl, sym, ap, _∙_}
-use Prim.Native.Nat.{_+_, _-_, _≤_, _<_}
+-- `planner_text::fields::same` meets its contract. What is left of both is the same exactly if the whole is. Assumes nothing.
+use mathlib.Core.Path.{_≡_, refl, sym, _∙_}
+use Prim.Native.Nat.{_-_, _≤_}
 use native.Mathlib.Omega.{arith}
 use lib.ListN.{length, drop}
 use Rattle.planner_text.specs.Fields.{sameBytes}
@@ -7,8 +8,6 @@ use Rattle.planner_text.proofs.Steps.{same-long, same-go, same-stop, sa
 use borrow.Author.Needs.{needs}
 use Rattle.planner_text.proofs.fields.same.Statement.{statement}
 use Rattle.planner_text.proofs.fields.same.Tie as tie
-use Rattle.planner_text.proofs.fields.same.Reads as reads
-use Rattle.planner_text.proofs.fields.same.Lts as lts
 
 abbrev Inv-loop : tie.InvT-loop
 Inv-loop a b i₀ i = (i ≤ length a) × (length a ≡ length b) × (sameBytes (drop i a) (drop i b) ≡ sameBytes a b)
@@ -16,39 +15,30 @@ Inv-loop a b i₀ i = (i ≤ length a) × (length a ≡ length b) × (sameBytes 
 abbrev μ-loop : tie.MeasureT-loop
 μ-loop a b i₀ i = length a - i
 
--- src/fields.rt:69:9
 returns : tie.Need-returns Inv-loop μ-loop
 returns c = sym (same-long _ _ (c .if1 .taken))
 
--- src/fields.rt:72:5
 loop-holds : tie.Need-loop-holds Inv-loop μ-loop
 loop-holds c = (search needs, c .if1 .left, refl)
 
--- src/fields.rt:73:12
 shared-slice-read-if2 : tie.Need-shared-slice-read-if2 Inv-loop μ-loop
 shared-slice-read-if2 c = search needs
 
--- src/fields.rt:73:20
 shared-slice-read-if2-2 : tie.Need-shared-slice-read-if2-2 Inv-loop μ-loop
 shared-slice-read-if2-2 c = search needs
 
--- src/fields.rt:74:13
 returns-2 : tie.Need-returns-2 Inv-loop μ-loop
 returns-2 c = sym (same-stop _ _ (c .before .before .before .before .loop .i) (c .before .before .before .loop-test .taken) (omega arith) (c .if2 .taken)) ∙ c .before .before .before .before .loop .inv .2
 
--- src/fields.rt:76:9
 add-i : tie.Need-add-i Inv-loop μ-loop
 add-i c = search needs
 
--- src/fields.rt:72:5
 loop-less : tie.Need-loop-less Inv-loop μ-loop
 loop-less c = search needs
 
--- src/fields.rt:72:5
 loop-again : tie.Need-loop-again Inv-loop μ-loop
 loop-again c = (omega arith, c .before .before .before .before .loop .inv .1, sym (same-go _ _ (c .before .before .before .before .loop .i) (c .before .before .before .loop-test .taken) (omega arith) (c .if2 .left)) ∙ c .before .before .before .before .loop .inv .2)
 
--- src/fields.rt:65:1
 returns-3 : tie.Need-returns-3 Inv-loop μ-loop
 returns-3 c = sym (same-end _ _ (c .before .loop .i) (c .loop-test .left) (omega arith)) ∙ c .before .loop .inv .2
 

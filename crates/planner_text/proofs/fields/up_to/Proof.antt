@@ -1,5 +1,6 @@
-use mathlib.Core.Path.{_≡_, refl}
-use Prim.Native.Nat.{_+_, _-_, _≤_, _<_}
+-- `planner_text::fields::up_to` meets its contract. From every place on the way the same byte is the first. Assumes nothing.
+use mathlib.Core.Path.{_≡_}
+use Prim.Native.Nat.{_+_, _-_, _≤_}
 use native.Mathlib.Omega.{arith}
 use lib.ListN.{length, drop}
 use Rattle.planner_text.specs.Fields.{upTo}
@@ -7,8 +8,6 @@ use Rattle.planner_text.proofs.Steps.{up-stop, up-go, up-end}
 use borrow.Author.Needs.{needs}
 use Rattle.planner_text.proofs.fields.up_to.Statement.{statement}
 use Rattle.planner_text.proofs.fields.up_to.Tie as tie
-use Rattle.planner_text.proofs.fields.up_to.Reads as reads
-use Rattle.planner_text.proofs.fields.up_to.Lts as lts
 
 abbrev Inv-loop : tie.InvT-loop
 Inv-loop text stop i₀ i = (i ≤ length text) × (i + upTo stop (drop i text) ≡ upTo stop text)
@@ -16,31 +15,24 @@ Inv-loop text stop i₀ i = (i ≤ length text) × (i + upTo stop (drop i text) 
 abbrev μ-loop : tie.MeasureT-loop
 μ-loop text stop i₀ i = length text - i
 
--- src/fields.rt:20:5
 loop-holds : tie.Need-loop-holds Inv-loop μ-loop
 loop-holds c = (search needs, omega arith)
 
--- src/fields.rt:21:12
 shared-slice-read-if1 : tie.Need-shared-slice-read-if1 Inv-loop μ-loop
 shared-slice-read-if1 c = search needs
 
--- src/fields.rt:22:13
 returns : tie.Need-returns Inv-loop μ-loop
 returns c = (omega (arith, up-stop (c .before .before .before .before .args .stop) (c .before .before .before .before .args .text .now) (c .before .before .before .loop .i) (c .before .before .loop-test .taken) (c .if1 .taken)), omega arith)
 
--- src/fields.rt:24:9
 add-i : tie.Need-add-i Inv-loop μ-loop
 add-i c = search needs
 
--- src/fields.rt:20:5
 loop-less : tie.Need-loop-less Inv-loop μ-loop
 loop-less c = search needs
 
--- src/fields.rt:20:5
 loop-again : tie.Need-loop-again Inv-loop μ-loop
 loop-again c = (omega arith, omega (arith, up-go (c .before .before .before .before .args .stop) (c .before .before .before .before .args .text .now) (c .before .before .before .loop .i) (c .before .before .loop-test .taken) (c .if1 .left)))
 
--- src/fields.rt:16:1
 returns-2 : tie.Need-returns-2 Inv-loop μ-loop
 returns-2 c = (omega (arith, up-end (c .before .before .args .stop) (c .before .before .args .text .now) (c .before .loop .i) (c .loop-test .left)), omega arith)
 

@@ -1,33 +1,26 @@
+-- `planner_text::fields::with_digit` meets its contract: by its test. Assumes nothing.
 use native.Mathlib.Omega.{arith}
 use Rattle.planner_text.specs.Fields.{capped}
 use borrow.Author.Needs.{needs}
 use Rattle.planner_text.proofs.fields.with_digit.Statement.{statement}
 use Rattle.planner_text.proofs.fields.with_digit.Tie as tie
-use Rattle.planner_text.proofs.fields.with_digit.Reads as reads
-use Rattle.planner_text.proofs.fields.with_digit.Lts as lts
 
--- src/fields.rt:93:16
 mul-more : tie.Need-mul-more
 mul-more c = search needs
 
--- src/fields.rt:93:27
 sub-more : tie.Need-sub-more
 sub-more c = search needs
 
--- src/fields.rt:93:26
 cast-more : tie.Need-cast-more
 cast-more c = search needs
 
--- src/fields.rt:93:16
 add-more : tie.Need-add-more
 add-more c = search needs
 
--- src/fields.rt:95:9
 returns : tie.Need-returns
 unfolding capped
 returns c = (omega arith, omega arith)
 
--- src/fields.rt:89:1
 returns-2 : tie.Need-returns-2
 unfolding capped
 returns-2 c = (omega arith, omega arith)

@@ -1,22 +1,16 @@
-use mathlib.Core.Path.{ap, sym, _∙_}
+-- `planner_text::lines::after_first` meets its contract: a text without a first line has none after it. Assumes nothing.
 use native.Mathlib.Omega.{arith}
 use Rattle.planner_text.proofs.Steps.{first-none, first-after}
 use borrow.Author.Needs.{needs}
 use Rattle.planner_text.proofs.lines.after_first.Statement.{statement}
 use Rattle.planner_text.proofs.lines.after_first.Tie as tie
-use Rattle.planner_text.proofs.lines.after_first.Reads as reads
-use Rattle.planner_text.proofs.lines.after_first.Lts as lts
-use Rattle.planner_text.proofs.lines.after_line.Reads as after-line-reads
 
--- src/lines.rt:79:9
 returns : tie.Need-returns
 returns c = (first-none _ (c .if1 .taken), search needs)
 
--- src/lines.rt:81:5
 after-line-requires : tie.Need-after-line-requires
 after-line-requires c κs = search needs
 
--- src/lines.rt:75:1
 returns-2 : tie.Need-returns-2
 returns-2 c = (first-after (c .before .before .before .args .text .now) _ (omega arith) (c .after-line .ensures .0), c .after-line .ensures .2)
 

@@ -1,6 +1,7 @@
-use mathlib.Core.Path.{_≡_, refl, ap, sym, _∙_}
+-- `planner_text::lines::read_events` meets its contract. What stands in the room, with what the lines that are left say, is the whole. Assumes nothing.
+use mathlib.Core.Path.{_≡_, refl, ap, _∙_}
 use mathlib.Core.List.{_++_, map}
-use Prim.Native.Nat.{_+_, _-_, _≤_, _<_}
+use Prim.Native.Nat.{_+_, _-_, _≤_}
 use native.Mathlib.Omega.{arith}
 use lib.ListN.{length, take, drop, set, length-set}
 use Rattle.session_line.specs.Lines.{linesOf}
@@ -10,11 +11,6 @@ use Rattle.planner_text.proofs.Steps.{put-start, put-line, put-full, pu
 use borrow.Author.Needs.{needs}
 use Rattle.planner_text.proofs.lines.read_events.Statement.{statement}
 use Rattle.planner_text.proofs.lines.read_events.Tie as tie
-use Rattle.planner_text.proofs.lines.read_events.Reads as reads
-use Rattle.planner_text.proofs.lines.read_events.Lts as lts
-use Rattle.planner_text.proofs.fields.event_of.Reads as event-of-reads
-use Rattle.planner_text.proofs.fields.first.Reads as first-reads
-use Rattle.planner_text.proofs.lines.after_line.Reads as after-line-reads
 
 abbrev Inv-loop : tie.InvT-loop
 Inv-loop text at events₀ i₀ n₀ events i n = (n ≤ length events) × (length events ≡ length events₀) × (i ≤ length text) × (take n events ++ take (length events₀ - n) (map eventOf (linesOf (drop i text))) ≡ take (length events₀) (map eventOf (linesOf (drop i₀ text))))
@@ -22,63 +18,48 @@ Inv-loop text at events₀ i₀ n₀ events i n = (n ≤ length events) × (leng
 abbrev μ-loop : tie.MeasureT-loop
 μ-loop text at events₀ i₀ n₀ events i n = length text - i
 
--- src/lines.rt:42:5
 loop-holds : tie.Need-loop-holds Inv-loop μ-loop
 loop-holds c = (search needs, refl, search needs, put-start eventOf (c .before .before .args .text .now) (c .before .before .args .events .now) (c .before .before .args .events .now) (c .before .before .args .at) 0 (length (c .before .before .args .events .now)))
 
--- src/lines.rt:44:13
 same-length : tie.Need-same-length Inv-loop μ-loop
 same-length c = search needs
 
--- src/lines.rt:44:13
 returns : tie.Need-returns Inv-loop μ-loop
 returns c = (put-full eventOf (c .before .before .before .before .before .args .text .now) (c .before .before .loop .events) _ (c .before .before .loop .i) (c .before .before .loop .n) _ (c .before .before .loop .inv .1) (omega arith) (c .before .before .loop .inv .3), (omega arith, c .before .before .loop .inv .1))
 
--- src/lines.rt:46:20
 sub-left : tie.Need-sub-left Inv-loop μ-loop
 sub-left c = search needs
 
--- src/lines.rt:46:20
 part-left-start : tie.Need-part-left-start Inv-loop μ-loop
 part-left-start c = search needs
 
--- src/lines.rt:46:20
 part-left-end : tie.Need-part-left-end Inv-loop μ-loop
 part-left-end c = search needs
 
--- src/lines.rt:47:30
 first-requires : tie.Need-first-requires Inv-loop μ-loop
 first-requires c κs = search needs
 
--- src/lines.rt:47:21
 event-of-requires : tie.Need-event-of-requires Inv-loop μ-loop
 event-of-requires c κs = search needs
 
--- src/lines.rt:47:9
 slice-write-events : tie.Need-slice-write-events Inv-loop μ-loop
 slice-write-events c = search needs
 
--- src/lines.rt:48:9
 add-n : tie.Need-add-n Inv-loop μ-loop
 add-n c = search needs
 
--- src/lines.rt:49:9
 after-line-requires : tie.Need-after-line-requires Inv-loop μ-loop
 after-line-requires c κs = search needs
 
--- src/lines.rt:42:5
 loop-less : tie.Need-loop-less Inv-loop μ-loop
 loop-less c = search needs
 
--- src/lines.rt:42:5
 loop-again : tie.Need-loop-again Inv-loop μ-loop
 loop-again c = (omega (arith, length-set (c .before .before .before .before .before .before .loop .events) (c .before .before .before .before .before .before .loop .n) (c .before .event-of .result)), length-set (c .before .before .before .before .before .before .loop .events) (c .before .before .before .before .before .before .loop .n) (c .before .event-of .result) ∙ c .before .before .before .before .before .before .loop .inv .1, c .after-line .ensures .2, ap (λ x. take (c .before .before .before .before .before .before .loop .n + 1) (set (c .before .before .before .before .before .before .loop .events) (c .before .before .before .before .before .before .loop .n) x) ++ take (length (c .before .before .before .before .before .before .before .before .before .args .events .now) - (c .before .before .before .before .before .before .loop .n + 1)) (map eventOf (linesOf (drop (c .after-line .result) (c .before .before .before .before .before .before .before .before .before .args .text .now))))) (c .before .event-of .ensures ∙ ap eventOf (c .before .before .first .ensures ∙ ap (firstTo 10) (whole-rest (c .before .before .before .before .before .before .loop .i) (c .before .before .before .before .before .before .before .before .before .args .text .now)))) ∙ put-line eventOf (c .before .before .before .before .before .before .before .before .before .args .text .now) (c .before .before .before .before .before .before .loop .events) _ (c .before .before .before .before .before .before .loop .i) (c .before .before .before .before .before .before .loop .n) (c .after-line .result) _ (c .before .before .before .before .before .loop-test .taken) (c .before .before .before .before .if1 .left) (c .before .before .before .before .before .before .loop .inv .1) (c .after-line .ensures .0) (c .before .before .before .before .before .before .loop .inv .3))
 
--- src/lines.rt:35:1
 same-length-2 : tie.Need-same-length-2 Inv-loop μ-loop
 same-length-2 c = search needs
 
--- src/lines.rt:35:1
 returns-2 : tie.Need-returns-2 Inv-loop μ-loop
 returns-2 c = (put-end eventOf (c .before .before .before .before .args .text .now) (c .before .loop .events) _ (c .before .loop .i) (c .before .loop .n) _ (c .loop-test .left) (c .before .loop .inv .3), (omega arith, c .before .loop .inv .1))
 

@@ -1,6 +1,7 @@
-use mathlib.Core.Path.{_≡_, refl, ap, sym, _∙_}
+-- `planner_text::lines::read_rows` meets its contract. What stands in the room, with what the lines that are left say, is the whole. Assumes nothing.
+use mathlib.Core.Path.{_≡_, refl, ap, _∙_}
 use mathlib.Core.List.{_++_, map}
-use Prim.Native.Nat.{_+_, _-_, _≤_, _<_}
+use Prim.Native.Nat.{_+_, _-_, _≤_}
 use native.Mathlib.Omega.{arith}
 use lib.ListN.{length, take, drop, set, length-set}
 use Rattle.session_line.specs.Lines.{linesOf}
@@ -10,11 +11,6 @@ use Rattle.planner_text.proofs.Steps.{put-start, put-line, put-full, pu
 use borrow.Author.Needs.{needs}
 use Rattle.planner_text.proofs.lines.read_rows.Statement.{statement}
 use Rattle.planner_text.proofs.lines.read_rows.Tie as tie
-use Rattle.planner_text.proofs.lines.read_rows.Reads as reads
-use Rattle.planner_text.proofs.lines.read_rows.Lts as lts
-use Rattle.planner_text.proofs.fields.first.Reads as first-reads
-use Rattle.planner_text.proofs.fields.row_of.Reads as row-of-reads
-use Rattle.planner_text.proofs.lines.after_line.Reads as after-line-reads
 
 abbrev Inv-loop : tie.InvT-loop
 Inv-loop text at rows₀ i₀ n₀ rows i n = (n ≤ length rows) × (length rows ≡ length rows₀) × (i ≤ length text) × (take n rows ++ take (length rows₀ - n) (map rowOf (linesOf (drop i text))) ≡ take (length rows₀) (map rowOf (linesOf (drop i₀ text))))
@@ -22,67 +18,51 @@ Inv-loop text at rows₀ i₀ n₀ rows i n = (n ≤ length rows) × (length row
 abbrev μ-loop : tie.MeasureT-loop
 μ-loop text at rows₀ i₀ n₀ rows i n = length text - i
 
--- src/lines.rt:62:5
 loop-holds : tie.Need-loop-holds Inv-loop μ-loop
 loop-holds c = (search needs, refl, search needs, put-start rowOf (c .before .before .args .text .now) (c .before .before .args .rows .now) (c .before .before .args .rows .now) (c .before .before .args .at) 0 (length (c .before .before .args .rows .now)))
 
--- src/lines.rt:64:13
 same-length : tie.Need-same-length Inv-loop μ-loop
 same-length c = search needs
 
--- src/lines.rt:64:13
 returns : tie.Need-returns Inv-loop μ-loop
 returns c = (put-full rowOf (c .before .before .before .before .before .args .text .now) (c .before .before .loop .rows) _ (c .before .before .loop .i) (c .before .before .loop .n) _ (c .before .before .loop .inv .1) (omega arith) (c .before .before .loop .inv .3), (omega arith, c .before .before .loop .inv .1))
 
--- src/lines.rt:66:20
 sub-left : tie.Need-sub-left Inv-loop μ-loop
 sub-left c = search needs
 
--- src/lines.rt:66:20
 part-left-start : tie.Need-part-left-start Inv-loop μ-loop
 part-left-start c = search needs
 
--- src/lines.rt:66:20
 part-left-end : tie.Need-part-left-end Inv-loop μ-loop
 part-left-end c = search needs
 
--- src/lines.rt:67:26
 first-requires : tie.Need-first-requires Inv-loop μ-loop
 first-requires c κs = search needs
 
--- src/lines.rt:67:19
 row-of-requires : tie.Need-row-of-requires Inv-loop μ-loop
 row-of-requires c κs = search needs
 
--- src/lines.rt:67:9
 mul-rows : tie.Need-mul-rows Inv-loop μ-loop
 mul-rows c = search needs
 
--- src/lines.rt:67:9
 slice-write-rows : tie.Need-slice-write-rows Inv-loop μ-loop
 slice-write-rows c = search needs
 
--- src/lines.rt:68:9
 add-n : tie.Need-add-n Inv-loop μ-loop
 add-n c = search needs
 
--- src/lines.rt:69:9
 after-line-requires : tie.Need-after-line-requires Inv-loop μ-loop
 after-line-requires c κs = search needs
 
--- src/lines.rt:62:5
 loop-less : tie.Need-loop-less Inv-loop μ-loop
 loop-less c = search needs
 
--- src/lines.rt:62:5
 loop-again : tie.Need-loop-again Inv-loop μ-loop
 loop-again c = (omega (arith, length-set (c .before .before .before .before .before .before .loop .rows) (c .before .before .before .before .before .before .loop .n) (c .before .row-of .result)), length-set (c .before .before .before .before .before .before .loop .rows) (c .before .before .before .before .before .before .loop .n) (c .before .row-of .result) ∙ c .before .before .before .before .before .before .loop .inv .1, c .after-line .ensures .2, ap (λ x. take (c .before .before .before .before .before .before .loop .n + 1) (set (c .before .before .before .before .before .before .loop .rows) (c .before .before .before .before .before .before .loop .n) x) ++ take (length (c .before .before .before .before .before .before .before .before .before .args .rows .now) - (c .before .before .before .before .before .before .loop .n + 1)) (map rowOf (linesOf (drop (c .after-line .result) (c .before .before .before .before .before .before .before .before .before .args .text .now))))) (c .before .row-of .ensures ∙ ap rowOf (c .before .before .first .ensures ∙ ap (firstTo 10) (whole-rest (c .before .before .before .before .before .before .loop .i) (c .before .before .before .before .before .before .before .before .before .args .text .now)))) ∙ put-line rowOf (c .before .before .before .before .before .before .before .before .before .args .text .now) (c .before .before .before .before .before .before .loop .rows) _ (c .before .before .before .before .before .before .loop .i) (c .before .before .before .before .before .before .loop .n) (c .after-line .result) _ (c .before .before .before .before .before .loop-test .taken) (c .before .before .before .before .if1 .left) (c .before .before .before .before .before .before .loop .inv .1) (c .after-line .ensures .0) (c .before .before .before .before .before .before .loop .inv .3))
 
--- src/lines.rt:55:1
 same-length-2 : tie.Need-same-length-2 Inv-loop μ-loop
 same-length-2 c = search needs
 
--- src/lines.rt:55:1
 returns-2 : tie.Need-returns-2 Inv-loop μ-loop
 returns-2 c = (put-end rowOf (c .before .before .before .before .args .text .now) (c .before .loop .rows) _ (c .before .loop .i) (c .before .loop .n) _ (c .loop-test .left) (c .before .loop .inv .3), (omega arith, c .before .loop .inv .1))
 
