@@ -11,8 +11,8 @@ use Rattle.area.proofs.Walks.{count-step}
 use Rattle.planner.specs.declared.Proposed.{Proposed}
 use Rattle.planner.specs.Events.{fileOf, opens, judgeOf, isGood}
 use Rattle.planner.specs.Walk.{nobody, released, used}
-use Rattle.planner.specs.Greedy.{firstFree, taken, ownersAfter, rowOf, wants, sizeFrom, rowsFrom, Made, Planned}
-use Rattle.planner.proofs.Turns.{size-go, size-end, size-one, rows-put, rows-end, plan-refused, plan-wanting, plan-proposed}
+use Rattle.planner.specs.Greedy.{firstFree, taken, ownersAfter, rowOf, wants, sizeFrom, rowsFrom, planRefusal, planSize, planRows, Made}
+use Rattle.planner.proofs.Turns.{size-go, size-end, size-one, rows-put, rows-end, Planned, plan-refused, plan-wanting, plan-proposed}
 
 -- ---- an event, case by case
 
@@ -102,3 +102,8 @@ module _ (limit : ℕ) (events : List ℕ) (r : Proposed) where
   pub planned-proposed : isGood (judgeOf limit events) ≡ true → (r .refusal ≡ 0) × Made events (r .size) (take (r .count) (r .rows)) → r .size ≤ limit
       → Planned limit events (r .refusal) (r .size) (take (r .count) (r .rows))
   planned-proposed g m l = rw (m .0, m .1 .sized, m .1 .served) (plan-proposed limit events g (omega (arith, m .1 .sized)))
+
+-- as the contract says it
+pub told : {limit : ℕ} {events : List ℕ} {refusal size : ℕ} {rows : List ℕ} → Planned limit events refusal size rows
+    → (refusal ≡ planRefusal limit events) × ((size ≡ planSize limit events) × (rows ≡ planRows limit events))
+told p = (p .refused, (p .sized, p .served))

@@ -20,7 +20,7 @@ use Rattle.planner.specs.declared.Verdict.the-variants.{Accepted, Refuse
 use Rattle.planner.specs.Events.{fileLimit, fileOf, opens, limitFits, wrongEvent, openedAfter, judgeFrom, judgeOf, isGood}
 use Rattle.planner.specs.Rows.{buffersOf}
 use Rattle.planner.specs.Walk.{nobody, mark, claimed, released, rowFault, used, eventFault, ownersNext, checkFrom, checkOf}
-use Rattle.planner.specs.Greedy.{firstFree, ownersAfter, rowOf, wants, sizeFrom, rowsFrom, planRefusal, planSize, planRows, Planned}
+use Rattle.planner.specs.Greedy.{firstFree, ownersAfter, rowOf, wants, sizeFrom, rowsFrom, planRefusal, planSize, planRows}
 
 -- ---- the judgement
 
@@ -162,6 +162,12 @@ module _ (events : List ℕ) (i size : ℕ) (q : List ℕ) (n : ℕ) (rows : Lis
       sym (cond-true Accepted (Fault 2 n) none) ∙ (sym (check-end events i h size q n (drop n rows)) ∙ inv)
 
 -- ---- the verdict and the plan, case by case
+
+-- the planner's answer is the one that the definitions give
+pub record Planned (limit : ℕ) (events : List ℕ) (refusal size : ℕ) (rows : List ℕ) : Type 0 where
+  pub refused : refusal ≡ planRefusal limit events
+  pub sized : size ≡ planSize limit events
+  pub served : rows ≡ planRows limit events
 
 module _ (limit : ℕ) (events : List ℕ) (size : ℕ) (rows : List ℕ) where
   pub verdict-refused : isGood (judgeOf limit events) ≡ false → Refused ≡ checkOf limit events size rows

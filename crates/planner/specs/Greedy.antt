@@ -58,9 +58,3 @@ planRows limit events = cond (eqb (planRefusal limit events) 0) (rowsFrom nobody
 pub record Made (events : List ℕ) (size : ℕ) (rows : List ℕ) : Type 0 where
   pub sized : size ≡ sizeFrom nobody events
   pub served : rows ≡ rowsFrom nobody events
-
--- an answer of the planner that says so: its refusal, and its proposal
-pub record Planned (limit : ℕ) (events : List ℕ) (refusal size : ℕ) (rows : List ℕ) : Type 0 where
-  pub refused : refusal ≡ planRefusal limit events
-  pub sized : size ≡ planSize limit events
-  pub served : rows ≡ planRows limit events

@@ -6,7 +6,7 @@ ghost use lib.ListN.{take, set};
 ghost use Rattle.area.specs.Lists.{countOf};
 ghost use Rattle.planner.specs.Events.{opens};
 ghost use Rattle.planner.specs.Walk.{leave, released};
-ghost use Rattle.planner.specs.Greedy.{firstFree, taken, ownersAfter, rowOf, wants, Made, Planned};
+ghost use Rattle.planner.specs.Greedy.{firstFree, taken, ownersAfter, rowOf, wants, Made, planRefusal, planSize, planRows};
 use crate::FILES;
 use crate::Proposed;
 use crate::events::DOUBLE;
@@ -178,7 +178,8 @@ fn refused(number: u8) -> Proposed
 
 // The smallest pool for a list under a limit, with each opening's buffers; or refusal 1 for a list at fault, or 19 if no pool within the limit will do.
 pub fn plan(limit: u8, events: &[u8]) -> Proposed
-    ensures { λ r. ⌜ Planned limit (now (events .entry)) (r .refusal) (r .size) (take (r .count) (r .rows)) ⌝ }
+    ensures { λ r. ⌜ r .refusal ≡ planRefusal limit (now (events .entry)) ⌝ }
+    ensures { λ r. ⌜ (r .size ≡ planSize limit (now (events .entry))) × (take (r .count) (r .rows) ≡ planRows limit (now (events .entry))) ⌝ }
 {
     let good = is_good(judge(limit, events));
     if !good {

@@ -158,17 +158,26 @@ module _ (line : List ℕ) (n file : ℕ) (c : n ≡ countOf blank line) (f : fi
       unfolding rowOf
       row-whole z = rw (← f, lt-leb 256 file h, ← c, ← e, w, ← g, z)
 
+-- ---- the part of a text from a place on, as a slice gives it
+
+pub whole-rest : (k : ℕ) (text : List ℕ) → take (length text - k) (drop k text) ≡ drop k text
+whole-rest k text = take-all (length text - k) (drop k text) (omega (arith, length-drop k text))
+
 -- ---- the room filled line by line: what stands there, with what is left, is the whole
 
 module _ (say : List ℕ → ℕ) (text out whole : List ℕ) (i n : ℕ) where
-  pub put-line : (i′ room : ℕ) → i < length text → n < length out → length out ≡ room → drop i′ text ≡ restTo feed (drop i text)
+  pub put-line : (i′ room said : ℕ) → i < length text → n < length out → length out ≡ room
+      → said ≡ say (firstTo feed (take (length text - i) (drop i text))) → drop i′ text ≡ restTo feed (drop i text)
       → take n out ++ take (room - n) (map say (linesOf (drop i text))) ≡ whole
-      → take (n + 1) (set out n (say (firstTo feed (drop i text)))) ++ take (room - (n + 1)) (map say (linesOf (drop i′ text))) ≡ whole
-  put-line i′ room h l r e inv =
-      let first : linesOf (drop i text) ≡ firstTo feed (drop i text) ∷ linesOf (drop i′ text) = lines-at text i h ∙ ap (λ (x : List ℕ). firstTo feed (drop i text) ∷ linesOf x) (sym e) in
+      → take (n + 1) (set out n said) ++ take (room - (n + 1)) (map say (linesOf (drop i′ text))) ≡ whole
+  put-line i′ room said h l r s e inv =
+      let line = firstTo feed (drop i text) in
+      let says : said ≡ say line = s ∙ ap (λ (x : List ℕ). say (firstTo feed x)) (whole-rest i text) in
+      let first : linesOf (drop i text) ≡ line ∷ linesOf (drop i′ text) = lines-at text i h ∙ ap (λ (x : List ℕ). line ∷ linesOf x) (sym e) in
       let left : room - n ≡ suc (room - suc n) = omega arith in
-      rw (add-one n, take-suc-set out n (say (firstTo feed (drop i text))) l, append-assoc)
-      (sym (ap (λ (x : List ℕ). take n out ++ x) (ap (λ (x : List (List ℕ)). take (room - n) (map say x)) first ∙ ap (λ (k : ℕ). take k (map say (firstTo feed (drop i text) ∷ linesOf (drop i′ text)))) left)) ∙ inv)
+      let more : take (room - n) (map say (linesOf (drop i text))) ≡ say line ∷ take (room - suc n) (map say (linesOf (drop i′ text)))
+      = ap (λ (x : List (List ℕ)). take (room - n) (map say x)) first ∙ ap (λ (k : ℕ). take k (map say (line ∷ linesOf (drop i′ text)))) left in
+      rw (says, add-one n, take-suc-set out n (say line) l, append-assoc) (sym (ap (λ (x : List ℕ). take n out ++ x) more) ∙ inv)
 
   pub put-full : (room : ℕ) → length out ≡ room → room ≤ n → take n out ++ take (room - n) (map say (linesOf (drop i text))) ≡ whole → take n out ≡ whole
   put-full room r h inv =
@@ -186,9 +195,6 @@ module _ (say : List ℕ → ℕ) (text out whole : List ℕ) (i n : ℕ) where
       ap (λ (k : ℕ). take k (map say (linesOf (drop i text)))) all
 
 -- ---- parts of a text
-
-pub whole-rest : (k : ℕ) (text : List ℕ) → take (length text - k) (drop k text) ≡ drop k text
-whole-rest k text = take-all (length text - k) (drop k text) (omega (arith, length-drop k text))
 
 module _ (stop : ℕ) (text : List ℕ) (n : ℕ) (e : n ≡ upTo stop text) where
   pub rest-some : take (length text - (n + 1)) (drop (n + 1) text) ≡ restTo stop text

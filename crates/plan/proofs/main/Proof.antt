@@ -30,7 +30,9 @@ array-share-prefix-events : tie.Need-array-share-prefix-events
 array-share-prefix-events c = search needs
 
 slice-aggregate-answer : tie.Need-slice-aggregate-answer
-slice-aggregate-answer c = sym (length-take-le (c .before .before .read-list .result .count) (c .before .before .read-list .last .1 .0) (search needs))
+slice-aggregate-answer c =
+    let at-read-list = c .before .before .read-list in
+    sym (length-take-le (at-read-list .result .count) (at-read-list .last .1 .0) (search needs))
 
 answer-requires : tie.Need-answer-requires
 answer-requires c κs = search needs

@@ -54,13 +54,17 @@ array-share-prefix-events : tie.Need-array-share-prefix-events
 array-share-prefix-events c = search needs
 
 slice-aggregate-answer : tie.Need-slice-aggregate-answer
-slice-aggregate-answer c = sym (length-take-le (c .before .before .before .before .before .before .read-list .result .count) (c .before .before .before .before .before .before .read-list .last .1 .0) (search needs))
+slice-aggregate-answer c =
+    let at-read-list = c .before .before .before .before .before .before .read-list in
+    sym (length-take-le (at-read-list .result .count) (at-read-list .last .1 .0) (search needs))
 
 array-share-prefix-rows : tie.Need-array-share-prefix-rows
 array-share-prefix-rows c = search needs
 
 slice-aggregate-answer-2 : tie.Need-slice-aggregate-answer-2
-slice-aggregate-answer-2 c = sym (length-take-le (c .before .before .before .read-proposal .result .count) (c .before .before .before .read-proposal .last .1 .0) (search needs))
+slice-aggregate-answer-2 c =
+    let at-read-proposal = c .before .before .before .read-proposal in
+    sym (length-take-le (at-read-proposal .result .count) (at-read-proposal .last .1 .0) (search needs))
 
 answer-requires : tie.Need-answer-requires
 answer-requires c κs = search needs

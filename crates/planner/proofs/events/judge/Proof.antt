@@ -32,7 +32,11 @@ wrong-event-requires : tie.Need-wrong-event-requires Inv-loop μ-loop
 wrong-event-requires c κs = search needs
 
 returns-2 : tie.Need-returns-2 Inv-loop μ-loop
-returns-2 c = judge-fault _ _ _ _ _ (c .before .before .before .before .loop .inv .2) (c .before .before .before .loop-test .taken) (sym (c .before .wrong-event .ensures) ∙ c .if2 .taken)
+returns-2 c =
+    let at-loop = c .before .before .before .before .loop in
+    let at-loop-test = c .before .before .before .loop-test in
+    let at-wrong-event = c .before .wrong-event in
+    judge-fault _ _ _ _ _ (at-loop .inv .2) (at-loop-test .taken) (sym (at-wrong-event .ensures) ∙ c .if2 .taken)
 
 opened-after-requires : tie.Need-opened-after-requires Inv-loop μ-loop
 opened-after-requires c κs = search needs
@@ -47,7 +51,16 @@ loop-less : tie.Need-loop-less Inv-loop μ-loop
 loop-less c = search needs
 
 loop-again : tie.Need-loop-again Inv-loop μ-loop
-loop-again c = (omega (arith, c .count-after .ensures .1), omega arith, judge-turn _ _ _ _ _ (c .before .before .before .before .before .before .loop .inv .2) _ _ (c .before .before .before .before .before .loop-test .taken) (sym (c .before .before .before .wrong-event .ensures) ∙ c .before .before .if2 .left) (c .before .opened-after .ensures) (c .count-after .ensures .0))
+loop-again c =
+    let at-loop = c .before .before .before .before .before .before .loop in
+    let at-loop-test = c .before .before .before .before .before .loop-test in
+    let at-wrong-event = c .before .before .before .wrong-event in
+    let at-if2 = c .before .before .if2 in
+    let at-opened-after = c .before .opened-after in (
+      omega (arith, c .count-after .ensures .1),
+      omega arith,
+      judge-turn _ _ _ _ _ (at-loop .inv .2) _ _ (at-loop-test .taken) (sym (at-wrong-event .ensures) ∙ at-if2 .left) (at-opened-after .ensures) (c .count-after .ensures .0),
+    )
 
 returns-3 : tie.Need-returns-3 Inv-loop μ-loop
 returns-3 c = sym (judge-end _ _ (c .loop-test .left) _ _) ∙ c .before .loop .inv .2

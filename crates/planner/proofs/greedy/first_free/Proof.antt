@@ -26,7 +26,11 @@ array-read-if1 : tie.Need-array-read-if1 Inv-loop μ-loop
 array-read-if1 c = search needs
 
 returns : tie.Need-returns Inv-loop μ-loop
-returns c = let h : c .before .before .loop .i < length (c .before .before .before .args .t1) = omega arith in (omega (arith, free-stop (c .before .before .before .args .t1) (c .before .before .loop .i) h (c .if1 .taken)), omega arith)
+returns c =
+    let at-loop = c .before .before .loop in
+    let at-args = c .before .before .before .args in
+    let h : at-loop .i < length (at-args .t1) = omega arith in
+    (omega (arith, free-stop (at-args .t1) (at-loop .i) h (c .if1 .taken)), omega arith)
 
 add-i : tie.Need-add-i Inv-loop μ-loop
 add-i c = search needs
@@ -35,10 +39,18 @@ loop-less : tie.Need-loop-less Inv-loop μ-loop
 loop-less c = search needs
 
 loop-again : tie.Need-loop-again Inv-loop μ-loop
-loop-again c = let h : c .before .before .loop .i < length (c .before .before .before .args .t1) = omega arith in (omega arith, c .before .before .loop .inv .1, omega (arith, free-go (c .before .before .before .args .t1) (c .before .before .loop .i) h (ne-eqb _ _ (c .if1 .left))))
+loop-again c =
+    let at-loop = c .before .before .loop in
+    let at-args = c .before .before .before .args in
+    let h : at-loop .i < length (at-args .t1) = omega arith in
+    (omega arith, at-loop .inv .1, omega (arith, free-go (at-args .t1) (at-loop .i) h (ne-eqb _ _ (c .if1 .left))))
 
 returns-2 : tie.Need-returns-2 Inv-loop μ-loop
-returns-2 c = let h : length (c .before .before .args .t1) ≤ c .before .loop .i = omega arith in (omega (arith, free-end (c .before .before .args .t1) (c .before .loop .i) h), omega arith)
+returns-2 c =
+    let at-args = c .before .before .args in
+    let at-loop = c .before .loop in
+    let h : length (at-args .t1) ≤ at-loop .i = omega arith in
+    (omega (arith, free-end (at-args .t1) (at-loop .i) h), omega arith)
 
 pub first-free-spec : {M : Type 1} → statement M
 first-free-spec =

@@ -35,7 +35,11 @@ loop-less : tie.Need-loop-less Inv-loop μ-loop
 loop-less c = search needs
 
 loop-again : tie.Need-loop-again Inv-loop μ-loop
-loop-again c = let h : c .before .before .loop .i < length (c .before .before .loop .after) = omega arith in (omega arith, search needs, rw (c .unless .ensures) (map-step (leave (c .before .before .before .args .v)) _ (c .before .before .loop .after) (c .before .before .loop .i) 0 h (c .before .before .loop .inv .2)))
+loop-again c =
+    let at-loop = c .before .before .loop in
+    let at-args = c .before .before .before .args in
+    let h : at-loop .i < length (at-loop .after) = omega arith in
+    (omega arith, search needs, rw (c .unless .ensures) (map-step (leave (at-args .v)) _ (at-loop .after) (at-loop .i) 0 h (at-loop .inv .2)))
 
 returns : tie.Need-returns Inv-loop μ-loop
 unfolding released

@@ -45,7 +45,19 @@ loop-less : tie.Need-loop-less Inv-loop μ-loop
 loop-less c = search needs
 
 loop-again : tie.Need-loop-again Inv-loop μ-loop
-loop-again c = (omega (arith, c .count-after .ensures .1), omega arith, search needs, upto-turn _ _ _ _ _ _ (c .before .before .before .before .before .before .before .before .loop .inv .3) _ _ _ _ (c .before .before .before .before .before .before .before .loop-test .taken) (c .before .before .before .before .before .before .before .before .loop .inv .2) (c .before .before .before .before .larger .ensures ∙ ap (max _) (c .before .before .before .before .before .wanted .ensures .0)) (c .before .before .with-row .ensures ∙ ap (set (c .before .before .before .before .before .before .before .before .loop .rows) (c .before .before .before .before .before .before .before .before .loop .n)) (c .before .before .before .row-of .ensures)) (c .before .owners-after .ensures) (c .count-after .ensures .0))
+loop-again c =
+    let at-loop = c .before .before .before .before .before .before .before .before .loop in
+    let at-loop-test = c .before .before .before .before .before .before .before .loop-test in
+    let at-larger = c .before .before .before .before .larger in
+    let at-wanted = c .before .before .before .before .before .wanted in
+    let at-with-row = c .before .before .with-row in
+    let at-row-of = c .before .before .before .row-of in
+    let at-owners-after = c .before .owners-after in (
+      omega (arith, c .count-after .ensures .1),
+      omega arith,
+      search needs,
+      upto-turn _ _ _ _ _ _ (at-loop .inv .3) _ _ _ _ (at-loop-test .taken) (at-loop .inv .2) (at-larger .ensures ∙ ap (max _) (at-wanted .ensures .0)) (at-with-row .ensures ∙ ap (set (at-loop .rows) (at-loop .n)) (at-row-of .ensures)) (at-owners-after .ensures) (c .count-after .ensures .0),
+    )
 
 returns : tie.Need-returns Inv-loop μ-loop
 returns c = (refl, upto-end _ _ _ _ _ _ (c .before .loop .inv .3) (c .loop-test .left))

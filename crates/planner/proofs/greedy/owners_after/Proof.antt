@@ -20,19 +20,36 @@ freed-requires : tie.Need-freed-requires
 freed-requires c κs = search needs
 
 returns : tie.Need-returns
-returns c = c .freed .ensures ∙ after-closing (c .before .before .before .before .args .owner) (c .before .before .before .before .args .e) _ (c .before .before .before .file-of .ensures .0) (sym (c .before .before .opens .ensures) ∙ not-true _ (c .before .if1 .taken))
+returns c =
+    let at-args = c .before .before .before .before .args in
+    let at-file-of = c .before .before .before .file-of in
+    let at-opens = c .before .before .opens in
+    let at-if1 = c .before .if1 in
+    c .freed .ensures ∙ after-closing (at-args .owner) (at-args .e) _ (at-file-of .ensures .0) (sym (at-opens .ensures) ∙ not-true _ (at-if1 .taken))
 
 taken-requires : tie.Need-taken-requires
 taken-requires c κs = search needs
 
 returns-2 : tie.Need-returns-2
-returns-2 c = c .before .taken .ensures ∙ after-single (c .before .before .before .before .before .args .owner) (c .before .before .before .before .before .args .e) _ (c .before .before .before .before .file-of .ensures .0) (c .if2 .taken)
+returns-2 c =
+    let at-taken = c .before .taken in
+    let at-args = c .before .before .before .before .before .args in
+    let at-file-of = c .before .before .before .before .file-of in
+    at-taken .ensures ∙ after-single (at-args .owner) (at-args .e) _ (at-file-of .ensures .0) (c .if2 .taken)
 
 taken-requires-2 : tie.Need-taken-requires-2
 taken-requires-2 c κs = search needs
 
 returns-3 : tie.Need-returns-3
-returns-3 c = c .taken2 .ensures ∙ (ap (taken _) (c .before .before .taken .ensures) ∙ after-double (c .before .before .before .before .before .before .args .owner) (c .before .before .before .before .before .before .args .e) _ (c .before .before .before .before .before .file-of .ensures .0) (sym (c .before .before .before .before .opens .ensures) ∙ not-false _ (c .before .before .before .if1 .left)) (c .before .if2 .left))
+returns-3 c =
+    let at-taken = c .before .before .taken in
+    let at-args = c .before .before .before .before .before .before .args in
+    let at-file-of = c .before .before .before .before .before .file-of in
+    let at-opens = c .before .before .before .before .opens in
+    let at-if1 = c .before .before .before .if1 in
+    let at-if2 = c .before .if2 in
+    c .taken2 .ensures
+    ∙ (ap (taken _) (at-taken .ensures) ∙ after-double (at-args .owner) (at-args .e) _ (at-file-of .ensures .0) (sym (at-opens .ensures) ∙ not-false _ (at-if1 .left)) (at-if2 .left))
 
 pub owners-after-spec : {M : Type 1} → statement M
 owners-after-spec =

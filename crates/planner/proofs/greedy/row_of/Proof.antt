@@ -28,7 +28,11 @@ add-result-2 : tie.Need-add-result-2
 add-result-2 c = search needs
 
 returns : tie.Need-returns
-returns c = row-single (c .before .before .before .args .owner) (c .before .before .before .args .e) _ (c .before .before .file-of .ensures .0) _ (c .before .first-free .ensures .0) (c .if1 .taken)
+returns c =
+    let at-args = c .before .before .before .args in
+    let at-file-of = c .before .before .file-of in
+    let at-first-free = c .before .first-free in
+    row-single (at-args .owner) (at-args .e) _ (at-file-of .ensures .0) _ (at-first-free .ensures .0) (c .if1 .taken)
 
 add-taken : tie.Need-add-taken
 add-taken c = search needs
@@ -61,7 +65,13 @@ add-result-5 : tie.Need-add-result-5
 add-result-5 c = search needs
 
 returns-2 : tie.Need-returns-2
-returns-2 c = row-double (c .before .before .before .before .before .args .owner) (c .before .before .before .before .before .args .e) _ (c .before .before .before .before .file-of .ensures .0) _ _ (c .before .before .before .first-free .ensures .0) (c .first-free2 .ensures .0 ∙ ap firstFree (c .before .taken .ensures)) (c .before .before .if1 .left)
+returns-2 c =
+    let at-args = c .before .before .before .before .before .args in
+    let at-file-of = c .before .before .before .before .file-of in
+    let at-first-free = c .before .before .before .first-free in
+    let at-taken = c .before .taken in
+    let at-if1 = c .before .before .if1 in
+    row-double (at-args .owner) (at-args .e) _ (at-file-of .ensures .0) _ _ (at-first-free .ensures .0) (c .first-free2 .ensures .0 ∙ ap firstFree (at-taken .ensures)) (at-if1 .left)
 
 pub row-of-spec : {M : Type 1} → statement M
 row-of-spec =

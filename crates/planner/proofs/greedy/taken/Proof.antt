@@ -22,7 +22,10 @@ returns c = ap (λ b. set (c .before .before .args .owner) b (c .before .before 
 
 returns-2 : tie.Need-returns-2
 unfolding taken
-returns-2 c = sym (set-out _ _ _ (search needs)) ∙ ap (λ b. set (c .before .before .args .owner) b (c .before .before .args .v)) (c .before .first-free .ensures .0)
+returns-2 c =
+    let at-args = c .before .before .args in
+    let at-first-free = c .before .first-free in
+    sym (set-out _ _ _ (search needs)) ∙ ap (λ b. set (at-args .owner) b (at-args .v)) (at-first-free .ensures .0)
 
 pub taken-spec : {M : Type 1} → statement M
 taken-spec = tie.close (tie.spec first-free-requires cast-at array-write-after returns returns-2)

@@ -12,7 +12,10 @@ opens-requires : tie.Need-opens-requires
 opens-requires c κs = search needs
 
 returns : tie.Need-returns
-returns c = (wants-closing (c .before .before .args .owner) (c .before .before .args .e) (sym (c .before .opens .ensures) ∙ not-true _ (c .if1 .taken)), search needs)
+returns c =
+    let at-args = c .before .before .args in
+    let at-opens = c .before .opens in
+    (wants-closing (at-args .owner) (at-args .e) (sym (at-opens .ensures) ∙ not-true _ (c .if1 .taken)), search needs)
 
 first-free-requires : tie.Need-first-free-requires
 first-free-requires c κs = search needs
@@ -21,7 +24,10 @@ add-result : tie.Need-add-result
 add-result c = search needs
 
 returns-2 : tie.Need-returns-2
-returns-2 c = (wants-single (c .before .before .before .before .args .owner) (c .before .before .before .before .args .e) _ (c .before .first-free .ensures .0) (c .if2 .taken), omega (arith, c .before .first-free .ensures .1))
+returns-2 c =
+    let at-args = c .before .before .before .before .args in
+    let at-first-free = c .before .first-free in
+    (wants-single (at-args .owner) (at-args .e) _ (at-first-free .ensures .0) (c .if2 .taken), omega (arith, at-first-free .ensures .1))
 
 file-of-requires : tie.Need-file-of-requires
 file-of-requires c κs = search needs
@@ -45,7 +51,18 @@ larger-requires : tie.Need-larger-requires
 larger-requires c κs = search needs
 
 returns-3 : tie.Need-returns-3
-returns-3 c = (c .larger .ensures ∙ wants-double (c .before .before .before .before .before .before .before .before .args .owner) (c .before .before .before .before .before .before .before .before .args .e) _ (c .before .before .before .file-of .ensures .0) _ _ (c .before .before .before .before .before .first-free .ensures .0) (c .before .first-free2 .ensures .0 ∙ ap firstFree (c .before .before .taken .ensures)) (sym (c .before .before .before .before .before .before .before .opens .ensures) ∙ not-false _ (c .before .before .before .before .before .before .if1 .left)) (c .before .before .before .before .if2 .left), omega (arith, c .before .before .before .before .before .first-free .ensures .1, c .before .first-free2 .ensures .1, c .larger .ensures))
+returns-3 c =
+    let at-args = c .before .before .before .before .before .before .before .before .args in
+    let at-file-of = c .before .before .before .file-of in
+    let at-first-free = c .before .before .before .before .before .first-free in
+    let at-first-free2 = c .before .first-free2 in
+    let at-taken = c .before .before .taken in
+    let at-opens = c .before .before .before .before .before .before .before .opens in
+    let at-if1 = c .before .before .before .before .before .before .if1 in
+    let at-if2 = c .before .before .before .before .if2 in (
+      c .larger .ensures ∙ wants-double (at-args .owner) (at-args .e) _ (at-file-of .ensures .0) _ _ (at-first-free .ensures .0) (at-first-free2 .ensures .0 ∙ ap firstFree (at-taken .ensures)) (sym (at-opens .ensures) ∙ not-false _ (at-if1 .left)) (at-if2 .left),
+      omega (arith, at-first-free .ensures .1, at-first-free2 .ensures .1, c .larger .ensures),
+    )
 
 pub wanted-spec : {M : Type 1} → statement M
 wanted-spec =

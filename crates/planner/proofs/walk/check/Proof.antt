@@ -20,10 +20,20 @@ check-from-requires : tie.Need-check-from-requires
 check-from-requires c κs = search needs
 
 returns-2 : tie.Need-returns-2
-returns-2 c = c .check-from .ensures ∙ verdict-sized _ _ _ _ (sym (c .before .before .before .is-good .ensures ∙ ap isGood (c .before .before .before .before .judge .ensures)) ∙ not-false _ (c .before .before .if1 .left)) (c .before .if2 .taken)
+returns-2 c =
+    let at-is-good = c .before .before .before .is-good in
+    let at-judge = c .before .before .before .before .judge in
+    let at-if1 = c .before .before .if1 in
+    let at-if2 = c .before .if2 in
+    c .check-from .ensures
+    ∙ verdict-sized _ _ _ _ (sym (at-is-good .ensures ∙ ap isGood (at-judge .ensures)) ∙ not-false _ (at-if1 .left)) (at-if2 .taken)
 
 returns-3 : tie.Need-returns-3
-returns-3 c = verdict-size _ _ _ _ (sym (c .before .before .is-good .ensures ∙ ap isGood (c .before .before .before .judge .ensures)) ∙ not-false _ (c .before .if1 .left)) (c .if2 .left)
+returns-3 c =
+    let at-is-good = c .before .before .is-good in
+    let at-judge = c .before .before .before .judge in
+    let at-if1 = c .before .if1 in
+    verdict-size _ _ _ _ (sym (at-is-good .ensures ∙ ap isGood (at-judge .ensures)) ∙ not-false _ (at-if1 .left)) (c .if2 .left)
 
 pub check-spec : {M : Type 1} → statement M
 check-spec =

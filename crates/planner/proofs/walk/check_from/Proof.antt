@@ -25,7 +25,11 @@ event-fault-requires : tie.Need-event-fault-requires Inv-loop μ-loop
 event-fault-requires c κs = search needs
 
 returns : tie.Need-returns Inv-loop μ-loop
-returns c = check-fault _ _ _ _ _ _ _ (c .before .before .before .before .loop .inv .2) _ (c .before .before .before .loop-test .taken) (c .before .event-fault .ensures) (c .if1 .taken)
+returns c =
+    let at-loop = c .before .before .before .before .loop in
+    let at-loop-test = c .before .before .before .loop-test in
+    let at-event-fault = c .before .event-fault in
+    check-fault _ _ _ _ _ _ _ (at-loop .inv .2) _ (at-loop-test .taken) (at-event-fault .ensures) (c .if1 .taken)
 
 owners-next-requires : tie.Need-owners-next-requires Inv-loop μ-loop
 owners-next-requires c κs = search needs
@@ -40,7 +44,16 @@ loop-less : tie.Need-loop-less Inv-loop μ-loop
 loop-less c = search needs
 
 loop-again : tie.Need-loop-again Inv-loop μ-loop
-loop-again c = (omega (arith, c .count-after .ensures .1), omega arith, check-turn _ _ _ _ _ _ _ (c .before .before .before .before .before .before .loop .inv .2) _ _ _ (c .before .before .before .before .before .loop-test .taken) (c .before .before .before .event-fault .ensures) (c .before .before .if1 .left) (c .before .owners-next .ensures) (c .count-after .ensures .0))
+loop-again c =
+    let at-loop = c .before .before .before .before .before .before .loop in
+    let at-loop-test = c .before .before .before .before .before .loop-test in
+    let at-event-fault = c .before .before .before .event-fault in
+    let at-if1 = c .before .before .if1 in
+    let at-owners-next = c .before .owners-next in (
+      omega (arith, c .count-after .ensures .1),
+      omega arith,
+      check-turn _ _ _ _ _ _ _ (at-loop .inv .2) _ _ _ (at-loop-test .taken) (at-event-fault .ensures) (at-if1 .left) (at-owners-next .ensures) (c .count-after .ensures .0),
+    )
 
 returns-2 : tie.Need-returns-2 Inv-loop μ-loop
 returns-2 c = check-left _ _ _ _ _ _ _ (c .before .before .loop .inv .2) (c .before .loop-test .left) (c .if2 .taken)

@@ -13,7 +13,10 @@ with-owner-requires : tie.Need-with-owner-requires
 with-owner-requires c κs = search needs
 
 returns : tie.Need-returns
-returns c = c .with-owner .ensures ∙ (sym (claimed-one _ _ _ 0) ∙ ap (λ bs. claimed (c .before .before .args .v) bs (c .before .before .args .owner)) (sym (one-buffer _ (c .before .if1 .taken))))
+returns c =
+    let at-args = c .before .before .args in
+    let at-if1 = c .before .if1 in
+    c .with-owner .ensures ∙ (sym (claimed-one _ _ _ 0) ∙ ap (λ bs. claimed (at-args .v) bs (at-args .owner)) (sym (one-buffer _ (at-if1 .taken))))
 
 cast-second : tie.Need-cast-second
 cast-second c = search needs

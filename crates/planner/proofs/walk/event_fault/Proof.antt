@@ -25,7 +25,11 @@ row-fault-requires : tie.Need-row-fault-requires
 row-fault-requires c κs = search needs
 
 returns-3 : tie.Need-returns-3
-returns-3 c = c .row-fault .ensures ∙ fault-row _ _ _ (c .before .before .before .before .before .before .args .rows .now) (c .before .before .before .before .before .before .args .n) (sym (c .before .before .before .before .opens .ensures) ∙ not-false _ (c .before .before .before .if1 .left)) (search needs)
+returns-3 c =
+    let at-args = c .before .before .before .before .before .before .args in
+    let at-opens = c .before .before .before .before .opens in
+    let at-if1 = c .before .before .before .if1 in
+    c .row-fault .ensures ∙ fault-row _ _ _ (at-args .rows .now) (at-args .n) (sym (at-opens .ensures) ∙ not-false _ (at-if1 .left)) (search needs)
 
 pub event-fault-spec : {M : Type 1} → statement M
 event-fault-spec =

@@ -20,13 +20,26 @@ release-requires : tie.Need-release-requires
 release-requires c κs = search needs
 
 returns : tie.Need-returns
-returns c = c .release .ensures ∙ next-closing _ (c .before .before .before .before .before .args .e) _ (ap (λ f. f + 1) (c .before .before .before .file-of .ensures .0)) _ (sym (c .before .before .opens .ensures) ∙ not-true _ (c .before .if1 .taken))
+returns c =
+    let at-args = c .before .before .before .before .before .args in
+    let at-file-of = c .before .before .before .file-of in
+    let at-opens = c .before .before .opens in
+    let at-if1 = c .before .if1 in
+    c .release .ensures
+    ∙ next-closing _ (at-args .e) _ (ap (λ f. f + 1) (at-file-of .ensures .0)) _ (sym (at-opens .ensures) ∙ not-true _ (at-if1 .taken))
 
 claim-requires : tie.Need-claim-requires
 claim-requires c κs = search needs
 
 returns-2 : tie.Need-returns-2
-returns-2 c = c .claim .ensures ∙ next-missing _ (c .before .before .before .before .before .before .args .e) _ (ap (λ f. f + 1) (c .before .before .before .before .file-of .ensures .0)) _ _ (sym (c .before .before .before .opens .ensures) ∙ not-false _ (c .before .before .if1 .left)) (c .before .if2 .taken)
+returns-2 c =
+    let at-args = c .before .before .before .before .before .before .args in
+    let at-file-of = c .before .before .before .before .file-of in
+    let at-opens = c .before .before .before .opens in
+    let at-if1 = c .before .before .if1 in
+    let at-if2 = c .before .if2 in
+    c .claim .ensures
+    ∙ next-missing _ (at-args .e) _ (ap (λ f. f + 1) (at-file-of .ensures .0)) _ _ (sym (at-opens .ensures) ∙ not-false _ (at-if1 .left)) (at-if2 .taken)
 
 mul-claim : tie.Need-mul-claim
 mul-claim c = search needs
@@ -38,7 +51,13 @@ claim-requires-2 : tie.Need-claim-requires-2
 claim-requires-2 c κs = search needs
 
 returns-3 : tie.Need-returns-3
-returns-3 c = c .claim2 .ensures ∙ next-row (c .before .before .before .before .before .before .before .args .owner) (c .before .before .before .before .before .before .before .args .e) _ (ap (λ f. f + 1) (c .before .before .before .before .before .file-of .ensures .0)) (c .before .before .before .before .before .before .before .args .rows .now) (c .before .before .before .before .before .before .before .args .n) (sym (c .before .before .before .before .opens .ensures) ∙ not-false _ (c .before .before .before .if1 .left))
+returns-3 c =
+    let at-args = c .before .before .before .before .before .before .before .args in
+    let at-file-of = c .before .before .before .before .before .file-of in
+    let at-opens = c .before .before .before .before .opens in
+    let at-if1 = c .before .before .before .if1 in
+    c .claim2 .ensures
+    ∙ next-row (at-args .owner) (at-args .e) _ (ap (λ f. f + 1) (at-file-of .ensures .0)) (at-args .rows .now) (at-args .n) (sym (at-opens .ensures) ∙ not-false _ (at-if1 .left))
 
 pub owners-next-spec : {M : Type 1} → statement M
 owners-next-spec =

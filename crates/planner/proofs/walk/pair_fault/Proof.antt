@@ -19,10 +19,20 @@ is-free-requires-2 : tie.Need-is-free-requires-2
 is-free-requires-2 c κs = search needs
 
 returns-3 : tie.Need-returns-3
-returns-3 c = pair-good _ _ _ _ (c .before .before .before .before .if1 .left) (c .before .before .before .if2 .left) (sym (ap₂ (λ x y. x && y) (c .before .before .is-free .ensures) (c .before .is-free2 .ensures)) ∙ c .if3 .taken)
+returns-3 c =
+    let at-if1 = c .before .before .before .before .if1 in
+    let at-if2 = c .before .before .before .if2 in
+    let at-is-free = c .before .before .is-free in
+    let at-is-free2 = c .before .is-free2 in
+    pair-good _ _ _ _ (at-if1 .left) (at-if2 .left) (sym (ap₂ (λ x y. x && y) (at-is-free .ensures) (at-is-free2 .ensures)) ∙ c .if3 .taken)
 
 returns-4 : tie.Need-returns-4
-returns-4 c = pair-serves _ _ _ _ (c .before .before .before .before .if1 .left) (c .before .before .before .if2 .left) (sym (ap₂ (λ x y. x && y) (c .before .before .is-free .ensures) (c .before .is-free2 .ensures)) ∙ c .if3 .left)
+returns-4 c =
+    let at-if1 = c .before .before .before .before .if1 in
+    let at-if2 = c .before .before .before .if2 in
+    let at-is-free = c .before .before .is-free in
+    let at-is-free2 = c .before .is-free2 in
+    pair-serves _ _ _ _ (at-if1 .left) (at-if2 .left) (sym (ap₂ (λ x y. x && y) (at-is-free .ensures) (at-is-free2 .ensures)) ∙ c .if3 .left)
 
 pub pair-fault-spec : {M : Type 1} → statement M
 pair-fault-spec =

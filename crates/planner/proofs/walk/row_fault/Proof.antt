@@ -22,7 +22,11 @@ cast-if2 : tie.Need-cast-if2
 cast-if2 c = search needs
 
 returns-2 : tie.Need-returns-2
-returns-2 c = row-count _ _ _ _ (c .before .before .if1 .left ∙ c .before .before .before .file-of .ensures .0) (λ w. c .if2 .taken (w ∙ sym (c .before .asked .ensures)))
+returns-2 c =
+    let at-if1 = c .before .before .if1 in
+    let at-file-of = c .before .before .before .file-of in
+    let at-asked = c .before .asked in
+    row-count _ _ _ _ (at-if1 .left ∙ at-file-of .ensures .0) (λ w. c .if2 .taken (w ∙ sym (at-asked .ensures)))
 
 cast-first : tie.Need-cast-first
 cast-first c = search needs
@@ -31,7 +35,14 @@ single-fault-requires : tie.Need-single-fault-requires
 single-fault-requires c κs = search needs
 
 returns-3 : tie.Need-returns-3
-returns-3 c = c .single-fault .ensures ∙ (ap (buffersFault _ _) (sym (one-buffer _ (c .before .if3 .taken))) ∙ row-buffers _ _ _ _ (c .before .before .before .before .if1 .left ∙ c .before .before .before .before .before .file-of .ensures .0) (c .before .before .if2 .left ∙ c .before .before .before .asked .ensures))
+returns-3 c =
+    let at-if3 = c .before .if3 in
+    let at-if1 = c .before .before .before .before .if1 in
+    let at-file-of = c .before .before .before .before .before .file-of in
+    let at-if2 = c .before .before .if2 in
+    let at-asked = c .before .before .before .asked in
+    c .single-fault .ensures
+    ∙ (ap (buffersFault _ _) (sym (one-buffer _ (at-if3 .taken))) ∙ row-buffers _ _ _ _ (at-if1 .left ∙ at-file-of .ensures .0) (at-if2 .left ∙ at-asked .ensures))
 
 cast-second : tie.Need-cast-second
 cast-second c = search needs
@@ -40,7 +51,15 @@ pair-fault-requires : tie.Need-pair-fault-requires
 pair-fault-requires c κs = search needs
 
 returns-4 : tie.Need-returns-4
-returns-4 c = c .pair-fault .ensures ∙ (ap (buffersFault _ _) (sym (two-buffers _ (c .before .before .if2 .left ∙ (c .before .before .before .asked .ensures ∙ asked-two (c .before .before .before .before .before .before .args .e) (λ w. c .before .if3 .left (c .before .before .if2 .left ∙ (c .before .before .before .asked .ensures ∙ w))))))) ∙ row-buffers _ _ _ _ (c .before .before .before .before .if1 .left ∙ c .before .before .before .before .before .file-of .ensures .0) (c .before .before .if2 .left ∙ c .before .before .before .asked .ensures))
+returns-4 c =
+    let at-if2 = c .before .before .if2 in
+    let at-asked = c .before .before .before .asked in
+    let at-args = c .before .before .before .before .before .before .args in
+    let at-if3 = c .before .if3 in
+    let at-if1 = c .before .before .before .before .if1 in
+    let at-file-of = c .before .before .before .before .before .file-of in
+    c .pair-fault .ensures
+    ∙ (ap (buffersFault _ _) (sym (two-buffers _ (at-if2 .left ∙ (at-asked .ensures ∙ asked-two (at-args .e) (λ w. at-if3 .left (at-if2 .left ∙ (at-asked .ensures ∙ w))))))) ∙ row-buffers _ _ _ _ (at-if1 .left ∙ at-file-of .ensures .0) (at-if2 .left ∙ at-asked .ensures))
 
 pub row-fault-spec : {M : Type 1} → statement M
 row-fault-spec =

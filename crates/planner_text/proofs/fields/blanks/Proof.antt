@@ -34,7 +34,11 @@ loop-less : tie.Need-loop-less Inv-loop μ-loop
 loop-less c = search needs
 
 loop-again : tie.Need-loop-again Inv-loop μ-loop
-loop-again c = ⊎-elim (λ w. (omega arith, omega arith, rw (w .1) (count-hit blank (c .before .before .before .before .args .line .now) 0 (c .before .before .before .loop .i) _ _ (c .before .before .loop-test .taken) (c .before .before .before .loop .inv .2) (eq-eqb _ _ (w .0 .taken))))) (λ w. (omega arith, omega arith, rw (w .1) (count-miss blank (c .before .before .before .before .args .line .now) 0 (c .before .before .before .loop .i) _ _ (c .before .before .loop-test .taken) (c .before .before .before .loop .inv .2) (ne-eqb _ _ (w .0 .left))))) (c .if1 .came)
+loop-again c =
+    let at-args = c .before .before .before .before .args in
+    let at-loop = c .before .before .before .loop in
+    let at-loop-test = c .before .before .loop-test in
+    ⊎-elim (λ w. (omega arith, omega arith, rw (w .1) (count-hit blank (at-args .line .now) 0 (at-loop .i) _ _ (at-loop-test .taken) (at-loop .inv .2) (eq-eqb _ _ (w .0 .taken))))) (λ w. (omega arith, omega arith, rw (w .1) (count-miss blank (at-args .line .now) 0 (at-loop .i) _ _ (at-loop-test .taken) (at-loop .inv .2) (ne-eqb _ _ (w .0 .left))))) (c .if1 .came)
 
 returns : tie.Need-returns Inv-loop μ-loop
 returns c = count-done blank (c .before .before .args .line .now) 0 (c .before .loop .i) _ _ (c .loop-test .left) (c .before .loop .inv .2)

@@ -29,10 +29,23 @@ is-digit-requires : tie.Need-is-digit-requires Inv-loop μ-loop
 is-digit-requires c κs = search needs
 
 returns : tie.Need-returns Inv-loop μ-loop
-returns c = (sym (digits-stop (c .before .before .before .before .before .before .args .field .now) (c .before .before .before .before .loop .i) _ (c .before .before .before .loop-test .taken) (sym (c .before .is-digit .ensures) ∙ not-true _ (c .if1 .taken))) ∙ c .before .before .before .before .loop .inv .2, search needs)
+returns c =
+    let at-args = c .before .before .before .before .before .before .args in
+    let at-loop = c .before .before .before .before .loop in
+    let at-loop-test = c .before .before .before .loop-test in
+    let at-is-digit = c .before .is-digit in (
+      sym (digits-stop (at-args .field .now) (at-loop .i) _ (at-loop-test .taken) (sym (at-is-digit .ensures) ∙ not-true _ (c .if1 .taken))) ∙ at-loop .inv .2,
+      search needs,
+    )
 
 with-digit-requires : tie.Need-with-digit-requires Inv-loop μ-loop
-with-digit-requires c κs = let d = getD (c .before .before .before .before .before .before .args .field .now) (c .before .before .before .before .loop .i) 0 in let some : digit d ≡ true = sym (c .before .is-digit .ensures) ∙ not-false _ (c .if1 .left) in (c .before .before .before .before .loop .inv .1, leb-true 48 d (and-left (leb 48 d) (leb d 57) some), leb-true d 57 (and-right (leb 48 d) (leb d 57) some))
+with-digit-requires c κs =
+    let at-args = c .before .before .before .before .before .before .args in
+    let at-loop = c .before .before .before .before .loop in
+    let at-is-digit = c .before .is-digit in
+    let d = getD (at-args .field .now) (at-loop .i) 0 in
+    let some : digit d ≡ true = sym (at-is-digit .ensures) ∙ not-false _ (c .if1 .left) in
+    (at-loop .inv .1, leb-true 48 d (and-left (leb 48 d) (leb d 57) some), leb-true d 57 (and-right (leb 48 d) (leb d 57) some))
 
 add-i : tie.Need-add-i Inv-loop μ-loop
 add-i c = search needs
@@ -41,10 +54,22 @@ loop-less : tie.Need-loop-less Inv-loop μ-loop
 loop-less c = search needs
 
 loop-again : tie.Need-loop-again Inv-loop μ-loop
-loop-again c = (omega arith, c .with-digit .ensures .1, ap (λ v. digitsFrom v (drop (c .before .before .before .before .before .loop .i + 1) (c .before .before .before .before .before .before .before .args .field .now))) (c .with-digit .ensures .0) ∙ (sym (digits-go (c .before .before .before .before .before .before .before .args .field .now) (c .before .before .before .before .before .loop .i) _ (c .before .before .before .before .loop-test .taken) (sym (c .before .before .is-digit .ensures) ∙ not-false _ (c .before .if1 .left))) ∙ c .before .before .before .before .before .loop .inv .2))
+loop-again c =
+    let at-loop = c .before .before .before .before .before .loop in
+    let at-args = c .before .before .before .before .before .before .before .args in
+    let at-loop-test = c .before .before .before .before .loop-test in
+    let at-is-digit = c .before .before .is-digit in
+    let at-if1 = c .before .if1 in (
+      omega arith,
+      c .with-digit .ensures .1,
+      ap (λ v. digitsFrom v (drop (at-loop .i + 1) (at-args .field .now))) (c .with-digit .ensures .0) ∙ (sym (digits-go (at-args .field .now) (at-loop .i) _ (at-loop-test .taken) (sym (at-is-digit .ensures) ∙ not-false _ (at-if1 .left))) ∙ at-loop .inv .2),
+    )
 
 returns-2 : tie.Need-returns-2 Inv-loop μ-loop
-returns-2 c = (sym (digits-end (c .before .before .before .args .field .now) (c .before .loop .i) _ (c .loop-test .left)) ∙ c .before .loop .inv .2, omega arith)
+returns-2 c =
+    let at-args = c .before .before .before .args in
+    let at-loop = c .before .loop in
+    (sym (digits-end (at-args .field .now) (at-loop .i) _ (c .loop-test .left)) ∙ at-loop .inv .2, omega arith)
 
 pub digits-from-spec : {M : Type 1} → statement M
 digits-from-spec =

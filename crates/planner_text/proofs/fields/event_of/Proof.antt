@@ -25,7 +25,14 @@ close-event-requires : tie.Need-close-event-requires
 close-event-requires c κs = search needs
 
 returns-2 : tie.Need-returns-2
-returns-2 c = c .close-event .ensures ∙ (ap (closeEvent _) (c .before .first .ensures) ∙ event-close _ _ _ (c .before .before .before .before .before .number2 .ensures .0) (c .before .before .before .before .if1 .left) (c .before .before .before .blanks .ensures) (c .before .before .if2 .taken))
+returns-2 c =
+    let at-first = c .before .first in
+    let at-number2 = c .before .before .before .before .before .number2 in
+    let at-if1 = c .before .before .before .before .if1 in
+    let at-blanks = c .before .before .before .blanks in
+    let at-if2 = c .before .before .if2 in
+    c .close-event .ensures
+    ∙ (ap (closeEvent _) (at-first .ensures) ∙ event-close _ _ _ (at-number2 .ensures .0) (at-if1 .left) (at-blanks .ensures) (at-if2 .taken))
 
 cast-open-event : tie.Need-cast-open-event
 cast-open-event c = search needs
@@ -40,10 +47,24 @@ open-event-requires : tie.Need-open-event-requires
 open-event-requires c κs = search needs
 
 returns-3 : tie.Need-returns-3
-returns-3 c = c .open-event .ensures ∙ (ap₂ (openEvent _) (c .before .before .first2 .ensures) (c .before .third .ensures) ∙ event-open _ _ _ (c .before .before .before .before .before .before .before .number2 .ensures .0) (c .before .before .before .before .before .before .if1 .left) (c .before .before .before .before .before .blanks .ensures) (c .before .before .before .before .if2 .left) (c .before .before .before .if3 .taken))
+returns-3 c =
+    let at-first2 = c .before .before .first2 in
+    let at-third = c .before .third in
+    let at-number2 = c .before .before .before .before .before .before .before .number2 in
+    let at-if1 = c .before .before .before .before .before .before .if1 in
+    let at-blanks = c .before .before .before .before .before .blanks in
+    let at-if2 = c .before .before .before .before .if2 in
+    let at-if3 = c .before .before .before .if3 in
+    c .open-event .ensures
+    ∙ (ap₂ (openEvent _) (at-first2 .ensures) (at-third .ensures) ∙ event-open _ _ _ (at-number2 .ensures .0) (at-if1 .left) (at-blanks .ensures) (at-if2 .left) (at-if3 .taken))
 
 returns-4 : tie.Need-returns-4
-returns-4 c = event-other _ _ _ (c .before .before .before .before .number2 .ensures .0) (c .before .before .before .if1 .left) (c .before .before .blanks .ensures) (c .before .if2 .left) (c .if3 .left)
+returns-4 c =
+    let at-number2 = c .before .before .before .before .number2 in
+    let at-if1 = c .before .before .before .if1 in
+    let at-blanks = c .before .before .blanks in
+    let at-if2 = c .before .if2 in
+    event-other _ _ _ (at-number2 .ensures .0) (at-if1 .left) (at-blanks .ensures) (at-if2 .left) (c .if3 .left)
 
 pub event-of-spec : {M : Type 1} → statement M
 event-of-spec =

@@ -24,7 +24,11 @@ digits-from-requires-2 : tie.Need-digits-from-requires-2
 digits-from-requires-2 c κs = search needs
 
 returns-4 : tie.Need-returns-4
-returns-4 c = (c .digits-from2 .ensures .0 ∙ number-more _ (c .before .before .before .before .if1 .left) (c .before .before .before .if2 .left) (c .before .if3 .left), c .digits-from2 .ensures .1)
+returns-4 c =
+    let at-if1 = c .before .before .before .before .if1 in
+    let at-if2 = c .before .before .before .if2 in
+    let at-if3 = c .before .if3 in
+    (c .digits-from2 .ensures .0 ∙ number-more _ (at-if1 .left) (at-if2 .left) (at-if3 .left), c .digits-from2 .ensures .1)
 
 pub number-spec : {M : Type 1} → statement M
 number-spec =

@@ -18,7 +18,11 @@ is-single-requires c κs = search needs
 
 returns-2 : tie.Need-returns-2
 unfolding openEvent
-returns-2 c = rw (sym (c .before .before .before .is-open .ensures) ∙ not-false _ (c .before .before .if1 .left), sym (c .before .is-single .ensures) ∙ c .if2 .taken)
+returns-2 c =
+    let at-is-open = c .before .before .before .is-open in
+    let at-if1 = c .before .before .if1 in
+    let at-is-single = c .before .is-single in
+    rw (sym (at-is-open .ensures) ∙ not-false _ (at-if1 .left), sym (at-is-single .ensures) ∙ c .if2 .taken)
 
 is-double-requires : tie.Need-is-double-requires
 is-double-requires c κs = search needs
@@ -28,11 +32,23 @@ add-result c = search needs
 
 returns-3 : tie.Need-returns-3
 unfolding openEvent
-returns-3 c = rw (sym (c .before .before .before .before .before .is-open .ensures) ∙ not-false _ (c .before .before .before .before .if1 .left), sym (c .before .before .before .is-single .ensures) ∙ c .before .before .if2 .left, sym (c .before .is-double .ensures) ∙ c .if3 .taken)
+returns-3 c =
+    let at-is-open = c .before .before .before .before .before .is-open in
+    let at-if1 = c .before .before .before .before .if1 in
+    let at-is-single = c .before .before .before .is-single in
+    let at-if2 = c .before .before .if2 in
+    let at-is-double = c .before .is-double in
+    rw (sym (at-is-open .ensures) ∙ not-false _ (at-if1 .left), sym (at-is-single .ensures) ∙ at-if2 .left, sym (at-is-double .ensures) ∙ c .if3 .taken)
 
 returns-4 : tie.Need-returns-4
 unfolding openEvent
-returns-4 c = rw (sym (c .before .before .before .before .before .is-open .ensures) ∙ not-false _ (c .before .before .before .before .if1 .left), sym (c .before .before .before .is-single .ensures) ∙ c .before .before .if2 .left, sym (c .before .is-double .ensures) ∙ c .if3 .left)
+returns-4 c =
+    let at-is-open = c .before .before .before .before .before .is-open in
+    let at-if1 = c .before .before .before .before .if1 in
+    let at-is-single = c .before .before .before .is-single in
+    let at-if2 = c .before .before .if2 in
+    let at-is-double = c .before .is-double in
+    rw (sym (at-is-open .ensures) ∙ not-false _ (at-if1 .left), sym (at-is-single .ensures) ∙ at-if2 .left, sym (at-is-double .ensures) ∙ c .if3 .left)
 
 pub open-event-spec : {M : Type 1} → statement M
 open-event-spec =

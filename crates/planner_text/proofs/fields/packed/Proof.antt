@@ -37,7 +37,11 @@ add-result-3 c = search needs
 
 returns : tie.Need-returns
 unfolding packed
-returns c = omega (arith, c .before .before .before .low .ensures .0, c .before .before .low2 .ensures .0, c .before .low3 .ensures .0, c .low4 .ensures .0)
+returns c =
+    let at-low = c .before .before .before .low in
+    let at-low2 = c .before .before .low2 in
+    let at-low3 = c .before .low3 in
+    omega (arith, at-low .ensures .0, at-low2 .ensures .0, at-low3 .ensures .0, c .low4 .ensures .0)
 
 pub packed-spec : {M : Type 1} → statement M
 packed-spec =

@@ -20,7 +20,10 @@ part-result-end : tie.Need-part-result-end
 part-result-end c = search needs
 
 returns : tie.Need-returns
-returns c = rest-some (c .before .before .before .before .args .stop) (c .before .before .before .before .args .text .now) _ (c .before .before .up-to .ensures .0)
+returns c =
+    let at-args = c .before .before .before .before .args in
+    let at-up-to = c .before .before .up-to in
+    rest-some (at-args .stop) (at-args .text .now) _ (at-up-to .ensures .0)
 
 sub-result-2 : tie.Need-sub-result-2
 sub-result-2 c = search needs
@@ -32,7 +35,11 @@ part-result-end-2 : tie.Need-part-result-end-2
 part-result-end-2 c = search needs
 
 returns-2 : tie.Need-returns-2
-returns-2 c = rest-none (c .before .before .before .before .args .stop) (c .before .before .before .before .args .text .now) _ (c .before .before .up-to .ensures .0) (c .before .if1 .left)
+returns-2 c =
+    let at-args = c .before .before .before .before .args in
+    let at-up-to = c .before .before .up-to in
+    let at-if1 = c .before .if1 in
+    rest-none (at-args .stop) (at-args .text .now) _ (at-up-to .ensures .0) (at-if1 .left)
 
 pub rest-spec : {M : Type 1} → statement M
 rest-spec =

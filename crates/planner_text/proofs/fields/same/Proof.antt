@@ -28,7 +28,10 @@ shared-slice-read-if2-2 : tie.Need-shared-slice-read-if2-2 Inv-loop μ-loop
 shared-slice-read-if2-2 c = search needs
 
 returns-2 : tie.Need-returns-2 Inv-loop μ-loop
-returns-2 c = sym (same-stop _ _ (c .before .before .before .before .loop .i) (c .before .before .before .loop-test .taken) (omega arith) (c .if2 .taken)) ∙ c .before .before .before .before .loop .inv .2
+returns-2 c =
+    let at-loop = c .before .before .before .before .loop in
+    let at-loop-test = c .before .before .before .loop-test in
+    sym (same-stop _ _ (at-loop .i) (at-loop-test .taken) (omega arith) (c .if2 .taken)) ∙ at-loop .inv .2
 
 add-i : tie.Need-add-i Inv-loop μ-loop
 add-i c = search needs
@@ -37,7 +40,10 @@ loop-less : tie.Need-loop-less Inv-loop μ-loop
 loop-less c = search needs
 
 loop-again : tie.Need-loop-again Inv-loop μ-loop
-loop-again c = (omega arith, c .before .before .before .before .loop .inv .1, sym (same-go _ _ (c .before .before .before .before .loop .i) (c .before .before .before .loop-test .taken) (omega arith) (c .if2 .left)) ∙ c .before .before .before .before .loop .inv .2)
+loop-again c =
+    let at-loop = c .before .before .before .before .loop in
+    let at-loop-test = c .before .before .before .loop-test in
+    (omega arith, at-loop .inv .1, sym (same-go _ _ (at-loop .i) (at-loop-test .taken) (omega arith) (c .if2 .left)) ∙ at-loop .inv .2)
 
 returns-3 : tie.Need-returns-3 Inv-loop μ-loop
 returns-3 c = sym (same-end _ _ (c .before .loop .i) (c .loop-test .left) (omega arith)) ∙ c .before .loop .inv .2

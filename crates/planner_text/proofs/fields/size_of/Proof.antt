@@ -23,10 +23,21 @@ byte-or-0-requires : tie.Need-byte-or-0-requires
 byte-or-0-requires c κs = search needs
 
 returns : tie.Need-returns
-returns c = c .byte-or-0 .ensures ∙ (ap byteOr0 (c .before .number2 .ensures .0) ∙ size-said _ _ (c .before .before .before .blanks .ensures) _ (c .before .before .before .before .is-size .ensures ∙ ap (λ l. sameBytes l sizeWord) (c .before .before .before .before .before .first .ensures)) (c .before .before .if1 .taken))
+returns c =
+    let at-number2 = c .before .number2 in
+    let at-blanks = c .before .before .before .blanks in
+    let at-is-size = c .before .before .before .before .is-size in
+    let at-first = c .before .before .before .before .before .first in
+    let at-if1 = c .before .before .if1 in
+    c .byte-or-0 .ensures
+    ∙ (ap byteOr0 (at-number2 .ensures .0) ∙ size-said _ _ (at-blanks .ensures) _ (at-is-size .ensures ∙ ap (λ l. sameBytes l sizeWord) (at-first .ensures)) (at-if1 .taken))
 
 returns-2 : tie.Need-returns-2
-returns-2 c = size-none _ _ (c .before .blanks .ensures) _ (c .before .before .is-size .ensures ∙ ap (λ l. sameBytes l sizeWord) (c .before .before .before .first .ensures)) (c .if1 .left)
+returns-2 c =
+    let at-blanks = c .before .blanks in
+    let at-is-size = c .before .before .is-size in
+    let at-first = c .before .before .before .first in
+    size-none _ _ (at-blanks .ensures) _ (at-is-size .ensures ∙ ap (λ l. sameBytes l sizeWord) (at-first .ensures)) (c .if1 .left)
 
 pub size-of-spec : {M : Type 1} → statement M
 size-of-spec =

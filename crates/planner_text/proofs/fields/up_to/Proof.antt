@@ -22,7 +22,11 @@ shared-slice-read-if1 : tie.Need-shared-slice-read-if1 Inv-loop μ-loop
 shared-slice-read-if1 c = search needs
 
 returns : tie.Need-returns Inv-loop μ-loop
-returns c = (omega (arith, up-stop (c .before .before .before .before .args .stop) (c .before .before .before .before .args .text .now) (c .before .before .before .loop .i) (c .before .before .loop-test .taken) (c .if1 .taken)), omega arith)
+returns c =
+    let at-args = c .before .before .before .before .args in
+    let at-loop = c .before .before .before .loop in
+    let at-loop-test = c .before .before .loop-test in
+    (omega (arith, up-stop (at-args .stop) (at-args .text .now) (at-loop .i) (at-loop-test .taken) (c .if1 .taken)), omega arith)
 
 add-i : tie.Need-add-i Inv-loop μ-loop
 add-i c = search needs
@@ -31,10 +35,17 @@ loop-less : tie.Need-loop-less Inv-loop μ-loop
 loop-less c = search needs
 
 loop-again : tie.Need-loop-again Inv-loop μ-loop
-loop-again c = (omega arith, omega (arith, up-go (c .before .before .before .before .args .stop) (c .before .before .before .before .args .text .now) (c .before .before .before .loop .i) (c .before .before .loop-test .taken) (c .if1 .left)))
+loop-again c =
+    let at-args = c .before .before .before .before .args in
+    let at-loop = c .before .before .before .loop in
+    let at-loop-test = c .before .before .loop-test in
+    (omega arith, omega (arith, up-go (at-args .stop) (at-args .text .now) (at-loop .i) (at-loop-test .taken) (c .if1 .left)))
 
 returns-2 : tie.Need-returns-2 Inv-loop μ-loop
-returns-2 c = (omega (arith, up-end (c .before .before .args .stop) (c .before .before .args .text .now) (c .before .loop .i) (c .loop-test .left)), omega arith)
+returns-2 c =
+    let at-args = c .before .before .args in
+    let at-loop = c .before .loop in
+    (omega (arith, up-end (at-args .stop) (at-args .text .now) (at-loop .i) (c .loop-test .left)), omega arith)
 
 pub up-to-spec : {M : Type 1} → statement M
 up-to-spec =

@@ -24,10 +24,16 @@ add-result-2 : tie.Need-add-result-2
 add-result-2 c = search needs
 
 returns : tie.Need-returns
-returns c = (after-some (c .before .before .before .before .args .text .now) (c .before .before .before .before .args .at) _ (c .before .up-to .ensures .0), omega arith, omega arith)
+returns c =
+    let at-args = c .before .before .before .before .args in
+    let at-up-to = c .before .up-to in
+    (after-some (at-args .text .now) (at-args .at) _ (at-up-to .ensures .0), omega arith, omega arith)
 
 returns-2 : tie.Need-returns-2
-returns-2 c = (after-none (c .before .before .before .before .args .text .now) (c .before .before .before .before .args .at) _ (c .before .up-to .ensures .0) (omega arith), omega arith, omega arith)
+returns-2 c =
+    let at-args = c .before .before .before .before .args in
+    let at-up-to = c .before .up-to in
+    (after-none (at-args .text .now) (at-args .at) _ (at-up-to .ensures .0) (omega arith), omega arith, omega arith)
 
 pub after-line-spec : {M : Type 1} → statement M
 after-line-spec =

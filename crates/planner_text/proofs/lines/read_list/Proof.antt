@@ -25,7 +25,15 @@ same-length c = search needs
 
 returns : tie.Need-returns
 unfolding eventsIn
-returns c = (c .before .before .before .before .before .limit-of .ensures ∙ ap limitOf (c .before .before .before .before .before .before .first .ensures ∙ first-line (c .before .before .before .before .before .before .before .before .before .args .text .now)), (c .before .before .read-events .ensures .0 ∙ ap (λ ls. take (length (c .before .before .before .before .before .before .before .before .before .args .events .now)) (map eventOf ls)) (c .before .before .before .before .after-first .ensures .0), c .before .before .read-events .ensures .1))
+returns c =
+    let at-limit-of = c .before .before .before .before .before .limit-of in
+    let at-first = c .before .before .before .before .before .before .first in
+    let at-args = c .before .before .before .before .before .before .before .before .before .args in
+    let at-read-events = c .before .before .read-events in
+    let at-after-first = c .before .before .before .before .after-first in (
+      at-limit-of .ensures ∙ ap limitOf (at-first .ensures ∙ first-line (at-args .text .now)),
+      (at-read-events .ensures .0 ∙ ap (λ ls. take (length (at-args .events .now)) (map eventOf ls)) (at-after-first .ensures .0), at-read-events .ensures .1),
+    )
 
 pub read-list-spec : {M : Type 1} → statement M
 read-list-spec =

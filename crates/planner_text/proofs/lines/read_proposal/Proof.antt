@@ -25,7 +25,15 @@ same-length c = search needs
 
 returns : tie.Need-returns
 unfolding rowsIn
-returns c = (c .before .before .before .before .before .size-of .ensures ∙ ap sizeOf (c .before .before .before .before .before .before .first .ensures ∙ first-line (c .before .before .before .before .before .before .before .before .before .args .text .now)), (c .before .before .read-rows .ensures .0 ∙ ap (λ ls. take (length (c .before .before .before .before .before .before .before .before .before .args .rows .now)) (map rowOf ls)) (c .before .before .before .before .after-first .ensures .0), c .before .before .read-rows .ensures .1))
+returns c =
+    let at-size-of = c .before .before .before .before .before .size-of in
+    let at-first = c .before .before .before .before .before .before .first in
+    let at-args = c .before .before .before .before .before .before .before .before .before .args in
+    let at-read-rows = c .before .before .read-rows in
+    let at-after-first = c .before .before .before .before .after-first in (
+      at-size-of .ensures ∙ ap sizeOf (at-first .ensures ∙ first-line (at-args .text .now)),
+      (at-read-rows .ensures .0 ∙ ap (λ ls. take (length (at-args .rows .now)) (map rowOf ls)) (at-after-first .ensures .0), at-read-rows .ensures .1),
+    )
 
 pub read-proposal-spec : {M : Type 1} → statement M
 read-proposal-spec =

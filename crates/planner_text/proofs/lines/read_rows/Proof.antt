@@ -19,13 +19,24 @@ abbrev μ-loop : tie.MeasureT-loop
 μ-loop text at rows₀ i₀ n₀ rows i n = length text - i
 
 loop-holds : tie.Need-loop-holds Inv-loop μ-loop
-loop-holds c = (search needs, refl, search needs, put-start rowOf (c .before .before .args .text .now) (c .before .before .args .rows .now) (c .before .before .args .rows .now) (c .before .before .args .at) 0 (length (c .before .before .args .rows .now)))
+loop-holds c =
+    let at-args = c .before .before .args in (
+      search needs,
+      refl,
+      search needs,
+      put-start rowOf (at-args .text .now) (at-args .rows .now) (at-args .rows .now) (at-args .at) 0 (length (at-args .rows .now)),
+    )
 
 same-length : tie.Need-same-length Inv-loop μ-loop
 same-length c = search needs
 
 returns : tie.Need-returns Inv-loop μ-loop
-returns c = (put-full rowOf (c .before .before .before .before .before .args .text .now) (c .before .before .loop .rows) _ (c .before .before .loop .i) (c .before .before .loop .n) _ (c .before .before .loop .inv .1) (omega arith) (c .before .before .loop .inv .3), (omega arith, c .before .before .loop .inv .1))
+returns c =
+    let at-args = c .before .before .before .before .before .args in
+    let at-loop = c .before .before .loop in (
+      put-full rowOf (at-args .text .now) (at-loop .rows) _ (at-loop .i) (at-loop .n) _ (at-loop .inv .1) (omega arith) (at-loop .inv .3),
+      (omega arith, at-loop .inv .1),
+    )
 
 sub-left : tie.Need-sub-left Inv-loop μ-loop
 sub-left c = search needs
@@ -58,13 +69,29 @@ loop-less : tie.Need-loop-less Inv-loop μ-loop
 loop-less c = search needs
 
 loop-again : tie.Need-loop-again Inv-loop μ-loop
-loop-again c = (omega (arith, length-set (c .before .before .before .before .before .before .loop .rows) (c .before .before .before .before .before .before .loop .n) (c .before .row-of .result)), length-set (c .before .before .before .before .before .before .loop .rows) (c .before .before .before .before .before .before .loop .n) (c .before .row-of .result) ∙ c .before .before .before .before .before .before .loop .inv .1, c .after-line .ensures .2, ap (λ x. take (c .before .before .before .before .before .before .loop .n + 1) (set (c .before .before .before .before .before .before .loop .rows) (c .before .before .before .before .before .before .loop .n) x) ++ take (length (c .before .before .before .before .before .before .before .before .before .args .rows .now) - (c .before .before .before .before .before .before .loop .n + 1)) (map rowOf (linesOf (drop (c .after-line .result) (c .before .before .before .before .before .before .before .before .before .args .text .now))))) (c .before .row-of .ensures ∙ ap rowOf (c .before .before .first .ensures ∙ ap (firstTo 10) (whole-rest (c .before .before .before .before .before .before .loop .i) (c .before .before .before .before .before .before .before .before .before .args .text .now)))) ∙ put-line rowOf (c .before .before .before .before .before .before .before .before .before .args .text .now) (c .before .before .before .before .before .before .loop .rows) _ (c .before .before .before .before .before .before .loop .i) (c .before .before .before .before .before .before .loop .n) (c .after-line .result) _ (c .before .before .before .before .before .loop-test .taken) (c .before .before .before .before .if1 .left) (c .before .before .before .before .before .before .loop .inv .1) (c .after-line .ensures .0) (c .before .before .before .before .before .before .loop .inv .3))
+loop-again c =
+    let at-loop = c .before .before .before .before .before .before .loop in
+    let text = c .before .before .before .before .before .before .before .before .before .args .text .now in
+    let said = c .before .row-of in
+    let long = length-set (at-loop .rows) (at-loop .n) (said .result) in (
+      omega (arith, long),
+      long ∙ at-loop .inv .1,
+      c .after-line .ensures .2,
+      put-line rowOf text (at-loop .rows) _ (at-loop .i) (at-loop .n) (c .after-line .result) _ (said .result)
+          (c .before .before .before .before .before .loop-test .taken) (c .before .before .before .before .if1 .left) (at-loop .inv .1)
+          (said .ensures ∙ ap rowOf (c .before .before .first .ensures)) (c .after-line .ensures .0) (at-loop .inv .3),
+    )
 
 same-length-2 : tie.Need-same-length-2 Inv-loop μ-loop
 same-length-2 c = search needs
 
 returns-2 : tie.Need-returns-2 Inv-loop μ-loop
-returns-2 c = (put-end rowOf (c .before .before .before .before .args .text .now) (c .before .loop .rows) _ (c .before .loop .i) (c .before .loop .n) _ (c .loop-test .left) (c .before .loop .inv .3), (omega arith, c .before .loop .inv .1))
+returns-2 c =
+    let at-args = c .before .before .before .before .args in
+    let at-loop = c .before .loop in (
+      put-end rowOf (at-args .text .now) (at-loop .rows) _ (at-loop .i) (at-loop .n) _ (c .loop-test .left) (at-loop .inv .3),
+      (omega arith, at-loop .inv .1),
+    )
 
 pub read-rows-spec : {M : Type 1} → statement M
 read-rows-spec =
