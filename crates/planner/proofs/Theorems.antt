@@ -124,6 +124,13 @@ module _ (limit : ℕ) (events : List ℕ) where
       (λ _ g. by-size limit events g _ (λ h. absurd (omega (arith, refusal-fits limit events g h))) (λ h. absurd (omega (arith, refusal-wants limit events g h))))
       (λ _ g. g) refl
 
+  -- 19 only for a good list
+  pub refused-19-good : planRefusal limit events ≡ 19 → isGood (judgeOf limit events) ≡ true
+  refused-19-good r =
+      by-test (λ b. isGood (judgeOf limit events) ≡ b → isGood (judgeOf limit events) ≡ true) (isGood (judgeOf limit events))
+      (λ _ g. g)
+      (λ _ g. absurd (omega (arith, refused-1 g))) refl
+
   pub check-refused : isGood (judgeOf limit events) ≡ false → (size : ℕ) (rows : List ℕ) → checkOf limit events size rows ≡ Refused
   check-refused g size rows = sym (verdict-refused limit events size rows g)
 

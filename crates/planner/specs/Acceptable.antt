@@ -24,14 +24,14 @@ Desk = ℕ → List ℕ
 abbrev pub noneOpen : Desk
 noneOpen f = []
 
--- after an opening of file f with the buffers bs, or a closing of file f
+-- an opening of file f adds the buffers bs to what f holds, which in a good list is nothing; a closing drops all that f holds
 unfoldable pub opened : ℕ → List ℕ → Desk → Desk
 opened f bs d g = cond (eqb g f) (bs ++ d g) (d g)
 
 unfoldable pub closed : ℕ → Desk → Desk
 closed f d g = cond (eqb g f) [] (d g)
 
--- the desk after the first k events of a list, of which each opening takes the next row
+-- the desk after the first k events of a list: each opening takes the next row
 unfoldable pub deskAfter : ℕ → List ℕ → List ℕ → Desk → Desk
 deskAfter zero events rows d = d
 deskAfter (suc k) [] rows d = d

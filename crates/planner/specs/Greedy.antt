@@ -54,7 +54,7 @@ planSize limit events = cond (eqb (planRefusal limit events) 0) (sizeFrom nobody
 unfoldable pub planRows : ℕ → List ℕ → List ℕ
 planRows limit events = cond (eqb (planRefusal limit events) 0) (rowsFrom nobody events) []
 
--- a proposal that says so, whatever the limit
+-- this size and these rows, whatever the limit
 pub record Made (events : List ℕ) (size : ℕ) (rows : List ℕ) : Type 0 where
   pub sized : size ≡ sizeFrom nobody events
   pub served : rows ≡ rowsFrom nobody events

@@ -23,14 +23,14 @@ unfoldable pub claimed : ℕ → List ℕ → List ℕ → List ℕ
 claimed v [] q = q
 claimed v (b ∷ bs) q = set (claimed v bs q) b v
 
--- the buffers of v are free
+-- v leaves: its buffers serve nobody
 abbrev pub leave : ℕ → ℕ → ℕ
 leave v x = cond (eqb x v) 0 x
 
 unfoldable pub released : ℕ → List ℕ → List ℕ
 released v q = map (leave v) q
 
--- ---- why a proposal is not accepted: 1 size, 2 count of openings, 3 another file, 4 wrong count of buffers, 5 a buffer outside the size,
+-- ---- why a proposal is not accepted: 1 size, 2 count of openings, 3 no line of this opening, 4 wrong count of buffers, 5 a buffer outside the size,
 -- ---- 6 the same buffer twice, 7 a buffer that serves two open files; the first of 3 to 7 that applies to a row
 
 abbrev pub isFree : List ℕ → ℕ → Bool
@@ -65,7 +65,7 @@ checkFrom size q n (e ∷ es) rows =
     (checkFrom size (ownersNext e rows q) (n + used e) es (drop (used e) rows))
     (Fault (eventFault size q e rows) n)
 
--- a list at fault is refused, whatever is proposed
+-- the verdict on a proposal: a list at fault is refused, whatever is proposed
 unfoldable pub checkOf : ℕ → List ℕ → ℕ → List ℕ → Verdict
 checkOf limit events size rows =
     cond (isGood (judgeOf limit events)) (cond (leb 1 size && leb size limit) (checkFrom size nobody 0 events rows) (Fault 1 0)) Refused
