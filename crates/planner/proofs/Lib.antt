@@ -1,0 +1,10 @@
+pub mod Maps
+pub mod Faults
+pub mod Turns
+pub mod Rises
+pub mod Counts
+pub mod Fits
+pub mod Smallest
+pub mod Exact
+pub mod Lists
+pub mod Theorems
