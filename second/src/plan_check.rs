@@ -8,11 +8,9 @@ use crate::text::{blank_words, byte_lines, decimal};
 /// Why a line of a proposal is at fault.
 #[derive(Clone, Copy, Debug, PartialEq, Eq, PartialOrd, Ord)]
 pub enum Why {
-    NoLine,
     Size,
-    Missing,
-    TooMany,
-    OtherFile,
+    Openings,
+    NoLine,
     WrongCount,
     Outside,
     Twice,
@@ -20,30 +18,19 @@ pub enum Why {
 }
 
 /// All reasons; at one line the first that applies is given.
-pub const REASONS: [Why; 9] = [
-    Why::NoLine,
-    Why::Size,
-    Why::Missing,
-    Why::TooMany,
-    Why::OtherFile,
-    Why::WrongCount,
-    Why::Outside,
-    Why::Twice,
-    Why::ServesTwo,
-];
+pub const REASONS: [Why; 7] =
+    [Why::Size, Why::Openings, Why::NoLine, Why::WrongCount, Why::Outside, Why::Twice, Why::ServesTwo];
 
 impl Why {
     pub fn text(self) -> &'static str {
         match self {
-            Why::NoLine => "this is no line of a proposal",
-            Why::Size => "the size is not 1 to the limit",
-            Why::Missing => "an opening has no line",
-            Why::TooMany => "there is a line too many",
-            Why::OtherFile => "another file is named",
-            Why::WrongCount => "a wrong count of buffers",
-            Why::Outside => "a buffer is outside the size",
+            Why::Size => "size",
+            Why::Openings => "count of openings",
+            Why::NoLine => "no line of this opening",
+            Why::WrongCount => "wrong count of buffers",
+            Why::Outside => "a buffer outside the size",
             Why::Twice => "the same buffer twice",
-            Why::ServesTwo => "a buffer serves two open files",
+            Why::ServesTwo => "a buffer that serves two open files",
         }
     }
 }
@@ -66,43 +53,37 @@ pub fn check_texts(list: &[u8], proposal: &[u8]) -> Answer {
     match check_proposal(&list, proposal) {
         Ok(()) => Answer { text: "accepted\n".to_string(), well: true },
         Err(Fault { line, why }) => {
-            Answer { text: format!("not accepted: line {line}: {}\n", why.text()), well: false }
+            Answer { text: format!("not accepted: {} at line {line}\n", why.text()), well: false }
         }
     }
 }
 
-/// Judges the lines in their order. Choices: a proposal without lines has no line of a proposal at 1;
-/// the form of a line is judged before it can be a line too many; a line of an opening is `F B` or
-/// `F B C`, so that more or fewer numbers are no line of a proposal; a number may be of any size.
+/// Judges the lines in their order. Choices: a first line that is no `size N` has no size; a line past
+/// the last opening is at fault whatever it says; a number may be of any size.
 pub fn check_proposal(list: &List, proposal: &[u8]) -> Result<(), Fault> {
     let lines = byte_lines(proposal);
-    let at = |line: usize| move |why: Why| Fault { line, why };
-    let size = lines.first().and_then(|line| size_of(line)).ok_or(Why::NoLine).map_err(at(1))?;
-    if !(1..=list.limit).contains(&size) {
-        return Err(Fault { line: 1, why: Why::Size });
-    }
+    let size = lines.first().and_then(|line| size_of(line)).filter(|size| (1..=list.limit).contains(size));
+    let size = size.ok_or(Fault { line: 1, why: Why::Size })?;
     let mut given: Vec<Vec<u64>> = Vec::new();
     for (index, line) in lines.iter().enumerate().skip(1) {
-        let judged = numbers_of_line(line).and_then(|numbers| judge(list, size, &given, &numbers));
-        given.push(judged.map_err(at(index + 1))?);
+        given.push(judge(list, size, &given, line).map_err(|why| Fault { line: index + 1, why })?);
     }
     if given.len() < list.openings.len() {
-        return Err(Fault { line: given.len() + 2, why: Why::Missing });
+        return Err(Fault { line: given.len() + 2, why: Why::Openings });
     }
     Ok(())
 }
 
 /// Judges the next line by the size and the buffers of the lines before it, and gives its buffers.
-fn judge(list: &List, size: u64, given: &[Vec<u64>], numbers: &[u64]) -> Result<Vec<u64>, Why> {
-    let opening = list.openings.get(given.len()).ok_or(Why::TooMany)?;
-    let (file, buffers) = numbers.split_first().ok_or(Why::NoLine)?;
+fn judge(list: &List, size: u64, given: &[Vec<u64>], line: &[u8]) -> Result<Vec<u64>, Why> {
+    let opening = list.openings.get(given.len()).ok_or(Why::Openings)?;
+    let words = blank_words(line);
+    let buffers = buffers_of(opening.file, &words).ok_or(Why::NoLine)?;
     let held = |buffer: &u64| {
         let mut earlier = list.openings.iter().zip(given);
         earlier.any(|(other, held)| other.is_open_at(opening.opened) && held.contains(buffer))
     };
-    if *file != opening.file {
-        Err(Why::OtherFile)
-    } else if buffers.len() != opening.count() {
+    if words.len() != 1 + opening.count() {
         Err(Why::WrongCount)
     } else if buffers.iter().any(|&buffer| buffer >= size) {
         Err(Why::Outside)
@@ -111,7 +92,17 @@ fn judge(list: &List, size: u64, given: &[Vec<u64>], numbers: &[u64]) -> Result<
     } else if buffers.iter().any(held) {
         Err(Why::ServesTwo)
     } else {
-        Ok(buffers.to_vec())
+        Ok(buffers)
+    }
+}
+
+/// The buffers that a line of this file names, two at most. Choice: none if one of its first three words is
+/// no number, or the first is another file; a fourth word makes the count wrong, whatever it is.
+fn buffers_of(file: u64, words: &[&[u8]]) -> Option<Vec<u64>> {
+    let numbers: Option<Vec<u64>> = words.iter().take(3).map(|word| decimal(word)).collect();
+    match numbers?.split_first() {
+        Some((&first, buffers)) if first == file => Some(buffers.to_vec()),
+        _ => None,
     }
 }
 
@@ -121,12 +112,6 @@ fn size_of(line: &[u8]) -> Option<u64> {
         [b"size", size] => decimal(size),
         _ => None,
     }
-}
-
-/// The numbers of `F B` or `F B C`.
-fn numbers_of_line(line: &[u8]) -> Result<Vec<u64>, Why> {
-    let numbers: Option<Vec<u64>> = blank_words(line).into_iter().map(decimal).collect();
-    numbers.filter(|numbers| (2..=3).contains(&numbers.len())).ok_or(Why::NoLine)
 }
 
 #[cfg(test)]
@@ -144,7 +129,7 @@ mod tests {
     }
 
     fn at_fault(proposal: &str, line: usize, why: Why) {
-        says(LIST, proposal, &format!("not accepted: line {line}: {}", why.text()));
+        says(LIST, proposal, &format!("not accepted: {} at line {line}", why.text()));
     }
 
     #[test]
@@ -168,28 +153,28 @@ mod tests {
             at_fault(proposal, 1, Why::Size);
         }
         for proposal in ["", "\n", "size\n", "size x\n", "size 05\n", "size  5\n", "Size 5\n", "size 5 \n"] {
-            at_fault(proposal, 1, Why::NoLine);
+            at_fault(proposal, 1, Why::Size);
         }
         for proposal in ["5\n", "4 0\n", "size 5 5\n", "size 5\r\n", "size +5\n", "size -1\n", " size 5\n"] {
-            at_fault(proposal, 1, Why::NoLine);
+            at_fault(proposal, 1, Why::Size);
         }
     }
 
     #[test]
     fn counts_of_lines() {
-        at_fault("size 5\n", 2, Why::Missing);
-        at_fault("size 5", 2, Why::Missing);
-        at_fault("size 5\n4 0\n5 1 2\n6 3\n", 5, Why::Missing);
-        at_fault("size 5\n4 0\n5 1 2\n6 3\n4 0 4\n4 0 4\n", 6, Why::TooMany);
-        at_fault("size 5\n4 0\n5 1 2\n6 3\n4 0 4\n99 99 99\n\n", 6, Why::TooMany);
-        at_fault("size 5\n4 0\n5 1 2\n6 3\n4 0 4\n\n", 6, Why::NoLine);
-        at_fault("size 5\n4 0\n5 1 2\n6 3\n4 0 4\n4\n", 6, Why::NoLine);
+        at_fault("size 5\n", 2, Why::Openings);
+        at_fault("size 5", 2, Why::Openings);
+        at_fault("size 5\n4 0\n5 1 2\n6 3\n", 5, Why::Openings);
+        at_fault("size 5\n4 0\n5 1 2\n6 3\n4 0 4\n4 0 4\n", 6, Why::Openings);
+        at_fault("size 5\n4 0\n5 1 2\n6 3\n4 0 4\n99 99 99\n\n", 6, Why::Openings);
+        at_fault("size 5\n4 0\n5 1 2\n6 3\n4 0 4\n\n", 6, Why::Openings);
+        at_fault("size 5\n4 0\n5 1 2\n6 3\n4 0 4\n4\n", 6, Why::Openings);
     }
 
     #[test]
     fn lines_that_are_none() {
         for line in
-            ["", "5", "5 1 2 3", "5  1", "5 1 ", " 5 1 2", "5 01 2", "5 1 x", "5 1 2\r", "size 5", "5\t1 2"]
+            ["", "5  1", "5 1 ", " 5 1 2", "5 01 2", "5 1 x", "5 1 2\r", "size 5", "5\t1 2"]
         {
             at_fault(&format!("size 5\n4 0\n{line}\n6 3\n4 0 4\n"), 3, Why::NoLine);
         }
@@ -198,9 +183,12 @@ mod tests {
     #[test]
     fn faults_of_a_line_in_their_order() {
         for (line, why) in [
-            ("4 1 2", Why::OtherFile),
-            ("64 9", Why::OtherFile),
-            ("18446744073709551621 1 2", Why::OtherFile),
+            ("4 1 2", Why::NoLine),
+            ("64 9", Why::NoLine),
+            ("18446744073709551621 1 2", Why::NoLine),
+            ("5", Why::WrongCount),
+            ("5 1 2 3", Why::WrongCount),
+            ("5 1 2 ", Why::WrongCount),
             ("5 1", Why::WrongCount),
             ("5 99", Why::WrongCount),
             ("5 5 1", Why::Outside),
@@ -225,8 +213,8 @@ mod tests {
         for list in ["", "65\n", "5\nclose 0\n", "5\nopen 0 single\nopen 0 single\n"] {
             says(list, "size 1\n", plan_text(list.as_bytes()).text.trim_end());
         }
-        says("1\nopen 0 double\n", "size 2\n0 0 1\n", "not accepted: line 1: the size is not 1 to the limit");
-        says("1\nopen 0 double\n", "size 1\n0 0 1\n", "not accepted: line 2: a buffer is outside the size");
+        says("1\nopen 0 double\n", "size 2\n0 0 1\n", "not accepted: size at line 1");
+        says("1\nopen 0 double\n", "size 1\n0 0 1\n", "not accepted: a buffer outside the size at line 2");
     }
 
     #[test]
