@@ -1,99 +1,78 @@
+-- `play::played` meets its contract, with the lengths of the lent rooms as invariant. Assumes nothing.
+use mathlib.Core.Path.{_≡_, refl}
+use lib.ListN.{length}
+use borrow.Author.Needs.{needs}
 use Rattle.play.proofs.played.Statement.{statement}
 use Rattle.play.proofs.played.Tie as tie
-use Rattle.play.proofs.played.Reads as reads
-use Rattle.play.proofs.played.Lts as lts
-use Rattle.play.proofs.written.Reads as written-reads
-use Rattle.session.proofs.talk_part.Reads as talk-part-reads
 
 abbrev Inv-loop : tie.InvT-loop
-Inv-loop area₀ room₀ words₀ bytes out₀ talk₀ at₀ left₀ area room words out talk at left = ?
+Inv-loop area₀ room₀ words₀ bytes out₀ talk₀ at₀ left₀ area room words out talk at left = (length area ≡ length area₀) × (length room ≡ length room₀) × (length words ≡ length words₀) × (length out ≡ length out₀)
 
 abbrev μ-loop : tie.MeasureT-loop
-μ-loop area₀ room₀ words₀ bytes out₀ talk₀ at₀ left₀ area room words out talk at left = ?
+μ-loop area₀ room₀ words₀ bytes out₀ talk₀ at₀ left₀ area room words out talk at left = left
 
--- src/main.rt:41:5
 loop-holds : tie.Need-loop-holds Inv-loop μ-loop
-loop-holds c = ?
+loop-holds c = (refl, refl, refl, refl)
 
--- src/main.rt:42:13
 talk-part-requires : tie.Need-talk-part-requires Inv-loop μ-loop
-talk-part-requires c κs = ?
+talk-part-requires c κs = search needs
 
--- src/main.rt:45:13
 written-requires : tie.Need-written-requires Inv-loop μ-loop
-written-requires c κs = ?
+written-requires c κs = search needs
 
--- src/main.rt:47:13
 same-length : tie.Need-same-length Inv-loop μ-loop
-same-length c = ?
+same-length c = search needs
 
--- src/main.rt:47:13
 same-length-2 : tie.Need-same-length-2 Inv-loop μ-loop
-same-length-2 c = ?
+same-length-2 c = search needs
 
--- src/main.rt:47:13
 same-length-3 : tie.Need-same-length-3 Inv-loop μ-loop
-same-length-3 c = ?
+same-length-3 c = search needs
 
--- src/main.rt:47:13
 same-length-4 : tie.Need-same-length-4 Inv-loop μ-loop
-same-length-4 c = ?
+same-length-4 c = search needs
 
--- src/main.rt:47:13
 returns : tie.Need-returns Inv-loop μ-loop
-returns c = ?
+returns c = search needs
 
--- src/main.rt:50:13
 same-length-5 : tie.Need-same-length-5 Inv-loop μ-loop
-same-length-5 c = ?
+same-length-5 c = search needs
 
--- src/main.rt:50:13
 same-length-6 : tie.Need-same-length-6 Inv-loop μ-loop
-same-length-6 c = ?
+same-length-6 c = search needs
 
--- src/main.rt:50:13
 same-length-7 : tie.Need-same-length-7 Inv-loop μ-loop
-same-length-7 c = ?
+same-length-7 c = search needs
 
--- src/main.rt:50:13
 same-length-8 : tie.Need-same-length-8 Inv-loop μ-loop
-same-length-8 c = ?
+same-length-8 c = search needs
 
--- src/main.rt:50:13
 returns-2 : tie.Need-returns-2 Inv-loop μ-loop
-returns-2 c = ?
+returns-2 c = search needs
 
--- src/main.rt:52:9
 sub-left : tie.Need-sub-left Inv-loop μ-loop
-sub-left c = ?
+sub-left c = search needs
 
--- src/main.rt:41:5
 loop-less : tie.Need-loop-less Inv-loop μ-loop
-loop-less c = ?
+loop-less c = search needs
 
--- src/main.rt:41:5
 loop-again : tie.Need-loop-again Inv-loop μ-loop
-loop-again c = ?
+loop-again c = search needs
 
--- src/main.rt:30:1
 same-length-9 : tie.Need-same-length-9 Inv-loop μ-loop
-same-length-9 c = ?
+same-length-9 c = search needs
 
--- src/main.rt:30:1
 same-length-10 : tie.Need-same-length-10 Inv-loop μ-loop
-same-length-10 c = ?
+same-length-10 c = search needs
 
--- src/main.rt:30:1
 same-length-11 : tie.Need-same-length-11 Inv-loop μ-loop
-same-length-11 c = ?
+same-length-11 c = search needs
 
--- src/main.rt:30:1
 same-length-12 : tie.Need-same-length-12 Inv-loop μ-loop
-same-length-12 c = ?
+same-length-12 c = search needs
 
--- src/main.rt:30:1
 returns-3 : tie.Need-returns-3 Inv-loop μ-loop
-returns-3 c = ?
+returns-3 c = search needs
 
 pub played-spec : {M : Type 1} → statement M
 played-spec =
