@@ -55,7 +55,8 @@ pub fn talk_part(
     ensures { λ _. ⌜ now (words .exit) ≡ partCall (deskWith t (now (area .entry)) (now (room .entry)) (now (words .entry))) (now (bytes .entry)) at (now (out .entry)) .desk .words ⌝ }
     ensures { λ _. ⌜ now (out .exit) ≡ partCall (deskWith t (now (area .entry)) (now (room .entry)) (now (words .entry))) (now (bytes .entry)) at (now (out .entry)) .out ⌝ }
 {
-    if t.ended {
+    let over = t.ended;
+    if over {
         return refused(t, at);
     }
     let s = t.state;
