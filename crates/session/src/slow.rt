@@ -85,7 +85,8 @@ pub fn talk_end(t: Talk, area: &mut [u64], room: &[u8], words: &mut [u64], out: 
     ensures { λ _. ⌜ now (words .exit) ≡ endCall (deskWith t (now (area .entry)) (now (room .entry)) (now (words .entry))) (now (out .entry)) .desk .words ⌝ }
     ensures { λ _. ⌜ now (out .exit) ≡ endCall (deskWith t (now (area .entry)) (now (room .entry)) (now (words .entry))) (now (out .entry)) .out ⌝ }
 {
-    if t.ended {
+    let again = t.ended;
+    if again {
         return refused(t, 0);
     }
     let s = t.state;
