@@ -26,7 +26,7 @@ use Rattle.session.specs.Rooms.{mostWords, mostText}
 use Rattle.session.specs.Session.{Course, withText, playLines, areaWords, courseOf, sessionOf, feedsIn}
 use Rattle.session.specs.Player.{Player, isDone, playTurns, playPart, endOf}
 use Rattle.session.specs.declared.Talk.{Talk}
-use Rattle.session.specs.Talks.{talkWith, newTalk, Desk, deskWith, Call, refusedCall, playerAt, playedCall, partCall, endedCall, endCall, Said, saidAfter, Piece, sayPart, sayParts, AnyCall, APart, AnEnd, callOn, sayCalls, sayAll, playSession, takeAnswers, bytesIn}
+use Rattle.session.specs.Talks.{talkWith, newTalk, Desk, deskWith, Call, refusedCall, lacksRoom, playerAt, playedCall, partCall, endedCall, endCall, Said, saidAfter, Piece, sayPart, sayParts, AnyCall, APart, AnEnd, callOn, sayCalls, sayAll, playSession, takeAnswers, bytesIn}
 use Rattle.session.proofs.Calling.{part-over, end-over, part-on, end-on}
 use Rattle.session.proofs.Counting.{one-answer-each, overlong-single, lines-append}
 use Rattle.session.proofs.Playing.{linesFrom, with-none, with-more, Ready, Goes, part-goes-on, part-moves, end-told}
@@ -44,6 +44,10 @@ record Sits (d : Desk) (l : List ℕ) : Type 0 where
 sits-ready : (d : Desk) (l : List ℕ) → Sits d l → (at : ℕ) (out : List ℕ) → mostText ≤ length out → Ready (playerAt d at out) l
 sits-ready d l S at out h =
     record { good = S .good; counts = S .counts; held = S .held; room = S .room; words = S .words; space = h; within = omega arith }
+
+sits-roomy : (d : Desk) (l out : List ℕ) → Sits d l → mostText ≤ length out → lacksRoom d out ≡ false
+sits-roomy d l out S h =
+    or-neither _ _ (or-neither _ _ (le-ltb (length (d .room)) longest (omega (arith, S .room))) (le-ltb (length (d .words)) mostWords (S .words))) (le-ltb (length out) mostText h)
 
 ready-sits : (p : Player) (l : List ℕ) → Ready p l → Sits (playedCall p .desk) l
 unfolding playedCall
@@ -105,7 +109,7 @@ part-tells (suc calls) d bytes at out l later S h k =
     subst
     (λ (x : Call). Tells d l (drop at bytes) later (saidAfter (take (x .length) (x .out))
     (cond (leb (length bytes) (x .at)) (record { text = []; desk = x .desk }) (sayPart calls (x .desk) bytes (x .at) (x .out)))))
-    (sym (part-on d (S .on) bytes at out))
+    (sym (part-on d (S .on) out (sits-roomy d l out S h) bytes at))
     (call-tells d bytes at out l later G _
     (by-test
     (λ b. leb (length bytes) (playPart bytes (playerAt d at out) .at) ≡ b → Tells (playedCall (playPart bytes (playerAt d at out)) .desk) (G .next) (drop (playPart bytes (playerAt d at out) .at) bytes) later
@@ -151,7 +155,7 @@ record Ends (d : Desk) (l : List ℕ) (x : Call) : Type 0 where
 end-ends : (d : Desk) (l out : List ℕ) → Sits d l → mostText ≤ length out → Ends d l (endCall d out)
 unfolding endedCall courseAt
 end-ends d l out S h =
-    subst (λ (x : Call). Ends d l x) (sym (end-on d (S .on) out))
+    subst (λ (x : Call). Ends d l x) (sym (end-on d (S .on) out (sits-roomy d l out S h)))
     (record { course = end-told (playerAt d 0 out) l (sits-ready d l S 0 out h); over = refl; line = refl })
 
 -- ---- after the end: any number of calls, in any order, write nothing and change nothing, neither the session nor a word that it is lent
@@ -254,9 +258,9 @@ any-parts room words room' words' pieces others out out' late late' a b c e a' b
 
 -- ---- a part of no length does nothing
 
-pub empty-part : (d : Desk) (at : ℕ) (out : List ℕ) → d .talk .ended ≡ false → partCall d [] at out ≡ record { refusal = 0; at = at; length = 0; desk = d; out = out }
+pub empty-part : (d : Desk) (at : ℕ) (out : List ℕ) → d .talk .ended ≡ false → lacksRoom d out ≡ false → partCall d [] at out ≡ record { refusal = 0; at = at; length = 0; desk = d; out = out }
 unfolding playedCall playPart playTurns
-empty-part d at out on =
-    part-on d on [] at out
+empty-part d at out on roomy =
+    part-on d on out roomy [] at
     ∙ ap playedCall (cond-true _ _ (or-first (leb 0 at) _ (le-leb 0 at (omega arith))))
     ∙ ap (λ (b : Bool). record { refusal = 0; at = at; length = 0; desk = deskWith (talkWith (d .talk .state) (d .talk .line) b) (d .area) (d .room) (d .words); out = out }) (sym on)

@@ -1,17 +1,18 @@
 -- A session over a slow line: a part call and an end call on one value. Theorem `session-right` says that they write `sessionOf`, however the
 -- session is cut. Assumes nothing.
 use Prim.Native.Nat.{ℕ, zero, suc}
-use mathlib.Core.Bool.{Bool, true, false, cond}
+use mathlib.Core.Bool.{Bool, true, false, cond, _||_}
 use mathlib.Core.List.{List, [], _∷_, _++_, map}
-use lib.Dec.{leb}
+use lib.Dec.{leb, ltb}
 use lib.ListN.{length, take, replicate}
 use Rattle.area.specs.Lists.{allOf}
+use Rattle.session_frame.specs.Frames.{longest}
 use Rattle.session_line.specs.declared.Line.{Line}
 use Rattle.session_line.specs.Machine.{noLine}
 use Rattle.session_line.specs.Runs.{joined}
 use Rattle.state.specs.declared.State.{State}
 use Rattle.state.specs.Places.{beforeStart}
-use Rattle.session.specs.Rooms.{mostText, After}
+use Rattle.session.specs.Rooms.{mostWords, mostText, After}
 use Rattle.session.specs.Session.{areaWords}
 use Rattle.session.specs.Player.{Player, playerWith, playPart, endOf}
 use Rattle.session.specs.declared.Talk.{Talk}
@@ -20,6 +21,13 @@ use Rattle.session.specs.declared.Heard.{Heard}
 -- "after it any further part or end is refused 17."
 abbrev pub afterTheEnd : ℕ
 afterTheEnd = 17
+
+-- a room is too short for a line, for its words or for its answer: refused 1, as a short area is, while there is something to play
+abbrev pub tooShort : ℕ
+tooShort = 1
+
+abbrev pub shortRooms : ℕ → ℕ → ℕ → Bool
+shortRooms room words out = ltb room longest || ltb words mostWords || ltb out mostText
 
 -- the state, what has begun of a line, and whether the input has ended
 abbrev pub talkWith : State → Line → Bool → Talk
@@ -52,9 +60,12 @@ heardOf x = record { refusal = x .refusal; talk = x .desk .talk; at = x .at; len
 
 -- ---- the two calls
 
--- after the end nothing changes: no place further, nothing written
-unfoldable pub refusedCall : Desk → ℕ → List ℕ → Call
-refusedCall d at out = record { refusal = afterTheEnd; at = at; length = 0; desk = d; out = out }
+-- a refusal changes nothing: no place further, nothing written
+unfoldable pub refusedCall : ℕ → Desk → ℕ → List ℕ → Call
+refusedCall n d at out = record { refusal = n; at = at; length = 0; desk = d; out = out }
+
+abbrev pub lacksRoom : Desk → List ℕ → Bool
+lacksRoom d out = shortRooms (length (d .room)) (length (d .words)) (length out)
 
 abbrev pub playerAt : Desk → ℕ → List ℕ → Player
 playerAt d at out = playerWith (d .talk .state) (d .area) (d .talk .line) (d .room) (d .words) at out 0
@@ -65,7 +76,9 @@ playedCall p =
 
 -- a part from place `at` on, played until it is used up or the output has no room for one more answer
 unfoldable pub partCall : Desk → List ℕ → ℕ → List ℕ → Call
-partCall d bytes at out = cond (d .talk .ended) (refusedCall d at out) (playedCall (playPart bytes (playerAt d at out)))
+partCall d bytes at out =
+    cond (d .talk .ended) (refusedCall afterTheEnd d at out)
+    (cond (lacksRoom d out) (refusedCall tooShort d at out) (playedCall (playPart bytes (playerAt d at out))))
 
 unfoldable pub endedCall : List ℕ → After → Call
 endedCall room x =
@@ -74,8 +87,9 @@ endedCall room x =
 -- "A call that ends the input gives the last unterminated line its answer"
 unfoldable pub endCall : Desk → List ℕ → Call
 endCall d out =
-    cond (d .talk .ended) (refusedCall d 0 out)
-    (endedCall (d .room) (endOf (d .talk .state) (d .area) (d .talk .line) (d .room) (d .words) out))
+    cond (d .talk .ended) (refusedCall afterTheEnd d 0 out)
+    (cond (lacksRoom d out) (refusedCall tooShort d 0 out)
+    (endedCall (d .room) (endOf (d .talk .state) (d .area) (d .talk .line) (d .room) (d .words) out)))
 
 -- ---- a whole session, as its caller goes
 
