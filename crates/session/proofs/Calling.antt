@@ -7,10 +7,9 @@ use Rattle.area.proofs.Marks.{cond-true, cond-false}
 use Rattle.session_line.specs.declared.Line.{Line}
 use Rattle.session_line.specs.Machine.{noLine}
 use Rattle.state.specs.declared.State.{State}
-use Rattle.session.specs.Rooms.{After}
 use Rattle.session.specs.declared.Played.{Played}
 use Rattle.session.specs.declared.Heard.{Heard}
-use Rattle.session.specs.Player.{Player, playedOf, playPart, endOf}
+use Rattle.session.specs.Player.{playPart, endOf}
 use Rattle.session.specs.Talks.{afterTheEnd, tooShort, talkWith, Desk, Call, heardOf, refusedCall, lacksRoom, playerAt, playedCall, partCall, endedCall, endCall}
 use Rattle.session.proofs.Written.{IsAfter}
 use Rattle.session.proofs.Turning.{IsPlayer}

@@ -1,6 +1,6 @@
 -- Each line of a session gives exactly one answer line, counted by line feeds, and an overlong one gives 01. Assumes nothing.
 use mathlib.Core.Path.{_≡_, refl, ap, ap₂, _∙_}
-use mathlib.Core.Bool.{Bool, true, false}
+use mathlib.Core.Bool.{Bool, false}
 use mathlib.Core.List.{List, [], _∷_, _++_}
 use Prim.Native.Nat.{ℕ, _+_, _<_, _/_, _%_}
 use native.Mathlib.Omega.{arith}

@@ -4,26 +4,23 @@ use mathlib.Core.Bool.{true, false, cond}
 use mathlib.Core.List.{List, [], _∷_, _++_, append-assoc, append-nil}
 use Prim.Native.Nat.{ℕ, zero, suc, _+_, _-_, _≤_, _<_}
 use native.Mathlib.Omega.{arith}
-use borrow.Author.Tests.{leb-true, leb-false, ltb-false, le-ltb}
+use borrow.Author.Tests.{ltb-false}
 use lib.Dec.{leb}
-use lib.ListN.{length, take, drop, replicate, length-append, length-drop, drop-of-length-le}
+use lib.ListN.{length, take, drop, length-append, length-drop, drop-of-length-le}
 use lib.Seq.{drop-drop, length-take-le}
 use Rattle.area.specs.Parts.{paste}
 use Rattle.area.proofs.Pastes.{length-paste, paste-part}
 use Rattle.area.proofs.Marks.{cond-true, cond-false}
-use Rattle.area.proofs.Walks.{by-test, or-right, or-neither}
+use Rattle.area.proofs.Walks.{by-test, or-right}
 use Rattle.session_frame.specs.Frames.{longest}
 use Rattle.session_line.specs.declared.Step.{Step}
 use Rattle.session_line.specs.Lines.{feedAt, endedLines, begunLine, lastLine}
-use Rattle.session_line.specs.Machine.{noLine, Holds, stepOf, roomOf}
-use Rattle.session_line.specs.Runs.{joined}
-use Rattle.session_line.proofs.Laws.Feeds.{ended-append, begun-append, lines-ended}
+use Rattle.session_line.specs.Machine.{Holds, stepOf, roomOf}
+use Rattle.session_line.proofs.Laws.Feeds.{ended-append, begun-append}
 use Rattle.session_line.proofs.Laws.Holding.{holds-none, begun-none, begun-some}
 use Rattle.session_line.proofs.Laws.Steps.{step-length, step-holds, step-ended, step-stopped}
 use Rattle.state.specs.declared.State.{State}
-use Rattle.state.specs.Places.{beforeStart}
 use Rattle.state_sound.specs.Soundness.{sound}
-use Rattle.state_sound.proofs.Wholes.{before-start-sound}
 use Rattle.session_reply.specs.Replies.{Reply, answerTo, textOf}
 use Rattle.session.specs.Rooms.{mostWords, mostText, After}
 use Rattle.session_reply.proofs.Stores.{Counts}

@@ -1,8 +1,8 @@
 -- The part call and the end call write the answers of the session's lines, however it is cut and whatever the size of the outputs. Assumes nothing.
 use mathlib.Core.Path.{_≡_, refl, sym, ap, ap₂, _∙_, subst}
 use mathlib.Core.Bool.{Bool, true, false, cond}
-use mathlib.Core.List.{List, [], _∷_, _++_, map, append-assoc, append-nil}
-use Prim.Native.Nat.{ℕ, zero, suc, _+_, _-_, _≤_, _<_}
+use mathlib.Core.List.{List, [], _∷_, _++_, append-assoc, append-nil}
+use Prim.Native.Nat.{ℕ, zero, suc, _-_, _≤_, _<_}
 use native.Mathlib.Omega.{arith}
 use borrow.Author.Tests.{leb-true, leb-false, le-leb, lt-leb, le-ltb}
 use lib.Dec.{leb}
@@ -17,15 +17,13 @@ use Rattle.session_line.specs.Machine.{noLine, Holds}
 use Rattle.session_line.specs.Runs.{joined}
 use Rattle.session_line.proofs.Laws.Feeds.{lines-ended}
 use Rattle.session_line.proofs.Laws.Holding.{holds-none}
-use Rattle.state.specs.declared.State.{State}
 use Rattle.state.specs.Places.{beforeStart}
 use Rattle.state_sound.specs.Soundness.{sound}
 use Rattle.state_sound.proofs.Wholes.{before-start-sound}
 use Rattle.session_reply.proofs.Stores.{Counts}
 use Rattle.session.specs.Rooms.{mostWords, mostText}
 use Rattle.session.specs.Session.{Course, withText, playLines, areaWords, courseOf, sessionOf, feedsIn}
-use Rattle.session.specs.Player.{Player, isDone, playTurns, playPart, endOf}
-use Rattle.session.specs.declared.Talk.{Talk}
+use Rattle.session.specs.Player.{Player, playTurns, playPart}
 use Rattle.session.specs.Talks.{talkWith, newTalk, Desk, deskWith, Call, refusedCall, lacksRoom, playerAt, playedCall, partCall, endedCall, endCall, Said, saidAfter, Piece, sayPart, sayParts, AnyCall, APart, AnEnd, callOn, sayCalls, sayAll, playSession, takeAnswers, bytesIn}
 use Rattle.session.proofs.Calling.{part-over, end-over, part-on, end-on}
 use Rattle.session.proofs.Counting.{one-answer-each, overlong-single, lines-append}
