@@ -3,17 +3,14 @@
 use libc::STDERR_FILENO;
 use libc::STDIN_FILENO;
 use libc::STDOUT_FILENO;
-use session::play_end;
-use session::play_part;
-use session_line::Line;
-use session_line::no_line;
-use state::State;
-use state::before_start;
+use session::Talk;
+use session::new_talk;
+use session::talk_end;
+use session::talk_part;
 
-// The session so far, and whether it goes on.
+// The session so far, and whether more of it is read.
 struct Standing {
-    state: State,
-    line: Line,
+    talk: Talk,
     on: bool,
 }
 
@@ -31,68 +28,43 @@ fn written(out: &[u8], n: usize) -> bool {
 
 // Plays the bytes that were read, and writes their answers. A part has no more turns than bytes.
 fn played(
-    p: Standing,
+    t: Talk,
     area: &mut [u64],
     room: &mut [u8],
     words: &mut [u64],
     bytes: &[u8],
     out: &mut [u8],
 ) -> Standing {
-    let mut s = p.state;
-    let mut line = p.line;
+    let mut talk = t;
     let mut at = 0;
     let mut left = bytes.len();
     while 0 < left {
-        let r = play_part(s, area, line, room, words, bytes, at, out);
-        s = r.state;
-        line = r.line;
+        let r = talk_part(talk, area, room, words, bytes, at, out);
+        talk = r.talk;
         at = r.at;
         let good = written(&out[..], r.length);
         if !good {
-            return Standing {
-                state: s,
-                line,
-                on: false,
-            };
+            return Standing { talk, on: false };
         }
         if bytes.len() <= at {
-            return Standing {
-                state: s,
-                line,
-                on: true,
-            };
+            return Standing { talk, on: true };
         }
         left -= 1;
     }
-    Standing {
-        state: s,
-        line,
-        on: true,
-    }
+    Standing { talk, on: true }
 }
 
 // The end of the input: the last line, if one has begun.
-fn last(p: Standing, area: &mut [u64], room: &[u8], words: &mut [u64], out: &mut [u8]) {
-    let s = p.state;
-    let line = p.line;
-    let r = play_end(s, area, line, room, words, out);
+fn last(t: Talk, area: &mut [u64], room: &[u8], words: &mut [u64], out: &mut [u8]) -> Standing {
+    let r = talk_end(t, area, room, words, out);
     written(&out[..], r.length);
+    let talk = r.talk;
+    Standing { talk, on: false }
 }
 
-// The session, which does not go on.
-fn stopped(p: Standing) -> Standing {
-    let s = p.state;
-    let line = p.line;
-    Standing {
-        state: s,
-        line,
-        on: false,
-    }
-}
-
-// Reads once and plays what came.
+// Reads once and plays what came: a line is answered as soon as its line feed was read.
 fn once(
-    p: Standing,
+    t: Talk,
     area: &mut [u64],
     room: &mut [u8],
     words: &mut [u64],
@@ -102,28 +74,23 @@ fn once(
     let got = libc::read(STDIN_FILENO, input);
     if got < 0 {
         io::write_all(STDERR_FILENO, b"play: the session cannot be read\n");
-        return stopped(p);
+        return Standing { talk: t, on: false };
     }
     let n = io::count(got, input);
     if n == 0 {
-        last(p, area, &room[..], words, out);
-        return stopped(p);
+        return last(t, area, &room[..], words, out);
     }
-    played(p, area, room, words, &input[..n], out)
+    played(t, area, room, words, &input[..n], out)
 }
 
 // Reads until the input ends. It counts its turns down from a number that no run uses up.
 fn play(area: &mut [u64], room: &mut [u8], words: &mut [u64], input: &mut [u8], out: &mut [u8]) {
-    let s = before_start();
-    let line = no_line();
-    let mut p = Standing {
-        state: s,
-        line,
-        on: true,
-    };
+    let talk = new_talk();
+    let mut p = Standing { talk, on: true };
     let mut turns = u64::MAX;
     while 0 < turns {
-        p = once(p, area, room, words, input, out);
+        let t = p.talk;
+        p = once(t, area, room, words, input, out);
         if !p.on {
             return;
         }

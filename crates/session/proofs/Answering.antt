@@ -36,7 +36,7 @@ use Rattle.session.specs.Player.{heldText, afterHeld}
 
 -- ---- malformed lines are answered alike
 
-malformed-answer : (s : State) (area line : List ℕ) → frameOf line ≡ Malformed → answerTo s area line ≡ replyTo s area [] Malformed
+pub malformed-answer : (s : State) (area line : List ℕ) → frameOf line ≡ Malformed → answerTo s area line ≡ replyTo s area [] Malformed
 unfolding answerTo givenWords
 malformed-answer s area line e = ap (λ (f : Frame). replyTo s area (givenWords f line) f) e
 

@@ -2,5 +2,8 @@ pub mod Fits
 pub mod Written
 pub mod Turning
 pub mod Ending
+pub mod Calling
 pub mod Answering
+pub mod Playing
+pub mod Counting
 pub mod Sessions

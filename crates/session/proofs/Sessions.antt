@@ -1,315 +1,172 @@
--- The player writes the answers of the session's lines, however the session comes in parts and whatever the size of its output. Assumes nothing.
+-- The part call and the end call write the answers of the session's lines, however it is cut and whatever the size of the outputs. Assumes nothing.
 use mathlib.Core.Path.{_≡_, refl, sym, ap, ap₂, _∙_, subst}
-use mathlib.Core.Bool.{true, false, cond}
+use mathlib.Core.Bool.{Bool, true, false, cond}
 use mathlib.Core.List.{List, [], _∷_, _++_, append-assoc, append-nil}
-use Prim.Native.Nat.{ℕ, zero, suc, _+_, _-_, _≤_, _<_}
+use Prim.Native.Nat.{ℕ, zero, suc, _-_, _≤_, _<_}
 use native.Mathlib.Omega.{arith}
-use borrow.Author.Tests.{leb-true, leb-false, ltb-false, le-ltb}
+use borrow.Author.Tests.{leb-true, leb-false, le-leb, lt-leb, le-ltb}
 use lib.Dec.{leb}
-use lib.ListN.{length, take, drop, replicate, length-append, length-drop, drop-of-length-le}
-use lib.Seq.{drop-drop, length-take-le}
-use Rattle.area.specs.Parts.{paste}
-use Rattle.area.proofs.Pastes.{length-paste, paste-part}
-use Rattle.area.proofs.Marks.{cond-true, cond-false}
-use Rattle.area.proofs.Walks.{by-test, or-right, or-neither}
+use lib.ListN.{length, take, drop, replicate, drop-of-length-le}
+use Rattle.area.specs.Lists.{allOf}
+use Rattle.area.proofs.Marks.{cond-true}
+use Rattle.area.proofs.Walks.{by-test, and-left, and-right, or-first, or-neither}
 use Rattle.session_frame.specs.Frames.{longest}
-use Rattle.session_line.specs.declared.Step.{Step}
-use Rattle.session_line.specs.Lines.{feedAt, endedLines, begunLine, lastLine}
-use Rattle.session_line.specs.Machine.{noLine, Holds, stepOf, roomOf}
+use Rattle.session_line.specs.declared.Line.{Line}
+use Rattle.session_line.specs.Lines.{linesOf}
+use Rattle.session_line.specs.Machine.{noLine, Holds}
 use Rattle.session_line.specs.Runs.{joined}
-use Rattle.session_line.proofs.Laws.Feeds.{ended-append, begun-append, lines-ended}
-use Rattle.session_line.proofs.Laws.Holding.{holds-none, begun-none, begun-some}
-use Rattle.session_line.proofs.Laws.Steps.{step-length, step-holds, step-ended, step-stopped}
-use Rattle.state.specs.declared.State.{State}
+use Rattle.session_line.proofs.Laws.Feeds.{lines-ended}
+use Rattle.session_line.proofs.Laws.Holding.{holds-none}
 use Rattle.state.specs.Places.{beforeStart}
 use Rattle.state_sound.specs.Soundness.{sound}
 use Rattle.state_sound.proofs.Wholes.{before-start-sound}
-use Rattle.session_reply.specs.Replies.{Reply, answerTo, textOf}
-use Rattle.session.specs.Rooms.{mostWords, mostText, After}
 use Rattle.session_reply.proofs.Stores.{Counts}
-use Rattle.session_reply.proofs.Kept.{answer-kept, answer-counts, answer-area}
-use Rattle.session.proofs.Fits.{text-longest}
-use Rattle.session.specs.Session.{playLines, areaWords, sessionOf}
-use Rattle.session.specs.Player.{Player, afterHeld, answeredTurn, openTurn, turnOf, isDone, playTurns, playPart, endOf, Written, fromFront, after, playCalls, playParts, playSession}
-use Rattle.session.proofs.Answering.{Answered, held-answered, written-after}
-use Rattle.session.proofs.Turning.{not-done, turn-further}
+use Rattle.session.specs.Rooms.{mostWords, mostText}
+use Rattle.session.specs.Session.{Course, withText, playLines, areaWords, courseOf, sessionOf, feedsIn}
+use Rattle.session.specs.Player.{Player, playTurns, playPart}
+use Rattle.session.specs.Talks.{talkWith, newTalk, Desk, deskWith, Call, refusedCall, lacksRoom, playerAt, playedCall, partCall, endedCall, endCall, Said, saidAfter, Piece, sayPart, sayParts, AnyCall, APart, AnEnd, callOn, sayCalls, sayAll, playSession, takeAnswers, bytesIn}
+use Rattle.session.proofs.Calling.{part-over, end-over, part-on, end-on}
+use Rattle.session.proofs.Counting.{one-answer-each, overlong-single, lines-append}
+use Rattle.session.proofs.Playing.{linesFrom, with-none, with-more, Ready, Goes, part-goes-on, part-moves, end-told}
 
--- ---- the lines that are to come, when l has come of the first
+-- ---- a desk whose session holds l: the input has not ended, the state is sound, and the rooms are those that the calls ask for
 
-unfoldable pub linesFrom : List ℕ → List ℕ → List (List ℕ)
-linesFrom l xs = endedLines l xs ++ lastLine (begunLine l xs)
+record Sits (d : Desk) (l : List ℕ) : Type 0 where
+  on : d .talk .ended ≡ false
+  good : sound (d .talk .state) ≡ true
+  counts : Counts (d .talk .state)
+  held : Holds (d .talk .line) (d .room) l
+  room : length (d .room) ≡ longest
+  words : mostWords ≤ length (d .words)
 
-module _ (l xs ys : List ℕ) where
-  from-append : linesFrom l (xs ++ ys) ≡ (endedLines l xs ++ endedLines (begunLine l xs) ys) ++ lastLine (begunLine (begunLine l xs) ys)
-  unfolding linesFrom
-  from-append = ap₂ (λ (a : List (List ℕ)) (b : List ℕ). a ++ lastLine b) (ended-append l xs ys) (begun-append l xs ys)
+sits-ready : (d : Desk) (l : List ℕ) → Sits d l → (at : ℕ) (out : List ℕ) → mostText ≤ length out → Ready (playerAt d at out) l
+sits-ready d l S at out h =
+    record { good = S .good; counts = S .counts; held = S .held; room = S .room; words = S .words; space = h; within = omega arith }
 
-  -- a line has ended
-  from-ended : (k rest : List ℕ) → endedLines l xs ≡ k ∷ endedLines [] rest → begunLine l xs ≡ begunLine [] rest → linesFrom l (xs ++ ys) ≡ k ∷ linesFrom [] (rest ++ ys)
-  unfolding linesFrom
-  from-ended k rest e b =
-      from-append
-      ∙ ap₂ (λ (a : List (List ℕ)) (c : List ℕ). (a ++ endedLines c ys) ++ lastLine (begunLine c ys)) e b
-      ∙ ap (λ (ls : List (List ℕ)). k ∷ ls) (ap₂ (λ (a : List (List ℕ)) (c : List ℕ). a ++ lastLine c) (sym (ended-append [] rest ys)) (sym (begun-append [] rest ys)))
+sits-roomy : (d : Desk) (l out : List ℕ) → Sits d l → mostText ≤ length out → lacksRoom d out ≡ false
+sits-roomy d l out S h =
+    or-neither _ _ (or-neither _ _ (le-ltb (length (d .room)) longest (omega (arith, S .room))) (le-ltb (length (d .words)) mostWords (S .words))) (le-ltb (length out) mostText h)
 
-  -- none has
-  from-open : (k : List ℕ) → endedLines l xs ≡ [] → begunLine l xs ≡ k → linesFrom l (xs ++ ys) ≡ linesFrom k ys
-  unfolding linesFrom
-  from-open k e b = from-append ∙ ap₂ (λ (a : List (List ℕ)) (c : List ℕ). (a ++ endedLines c ys) ++ lastLine (begunLine c ys)) e b
+ready-sits : (p : Player) (l : List ℕ) → Ready p l → Sits (playedCall p .desk) l
+unfolding playedCall
+ready-sits p l R = record { on = refl; good = R .good; counts = R .counts; held = R .held; room = R .room; words = R .words }
 
--- ---- the text that is still to come
+-- ---- a part
 
-unfoldable pub rest-text : State → List ℕ → List (List ℕ) → List ℕ
-rest-text s area ls = playLines s area ls .text
+-- what is written and what is still to come are together what was to come
+record Tells (d : Desk) (l xs later : List ℕ) (r : Said) : Type 0 where
+  next : List ℕ
+  sits : Sits (r .desk) next
+  same : playLines (d .talk .state) (d .area) (linesFrom l (xs ++ later)) ≡ withText (r .text) (playLines (r .desk .talk .state) (r .desk .area) (linesFrom next later))
 
-text-cons : (s : State) (area l : List ℕ) (ls : List (List ℕ)) → rest-text s area (l ∷ ls) ≡ textOf (answerTo s area l) ++ rest-text (answerTo s area l .state) (answerTo s area l .area) ls
-unfolding rest-text playLines
-text-cons s area l ls = refl
-
--- ---- a player that holds l: its state is sound, and its rooms are those that it asks for
-
-pub record Ready (p : Player) (l : List ℕ) : Type 0 where
-  pub good : sound (p .state) ≡ true
-  pub counts : Counts (p .state)
-  pub held : Holds (p .line) (p .room) l
-  pub room : length (p .room) ≡ longest
-  pub words : mostWords ≤ length (p .words)
-  pub space : mostText ≤ length (p .out)
-  pub within : p .length ≤ length (p .out)
-
--- q comes after p: what is written and what is to come are together the same, whatever comes after this part
-pub record Goes (bytes : List ℕ) (p : Player) (l : List ℕ) (q : Player) : Type 0 where
-  pub next : List ℕ
-  pub ready : Ready q next
-  pub further : p .at ≤ q .at
-  pub area : length (q .area) ≡ length (p .area)
-  pub same : (later : List ℕ) → take (p .length) (p .out) ++ rest-text (p .state) (p .area) (linesFrom l (drop (p .at) bytes ++ later))
-      ≡ take (q .length) (q .out) ++ rest-text (q .state) (q .area) (linesFrom next (drop (q .at) bytes ++ later))
-
--- ---- one turn
-
-module _ (bytes : List ℕ) (p : Player) (l : List ℕ) (R : Ready p l) (on : isDone bytes p ≡ false) where
-  abbrev xs : List ℕ
-  xs = drop (p .at) bytes
-
-  abbrev step : Step
-  step = stepOf (p .line) xs (p .at) (p .room)
-
-  abbrev filled : List ℕ
-  filled = roomOf (p .line) xs (p .room)
-
-  abbrev line : List ℕ
-  line = l ++ take (feedAt xs) xs
-
-  abbrev end : ℕ
-  end = p .length
-
-  abbrev out : List ℕ
-  out = p .out
-
-  filled-size : length filled ≡ longest
-  filled-size = step-length (p .line) (p .room) l xs (p .at) (R .held) ∙ R .room
-
-  filled-holds : Holds (step .line) filled line
-  filled-holds = step-holds (p .line) (p .room) l xs (p .at) (R .held)
-
-  left : mostText ≤ length out - end
-  left = ltb-false (length out - end) mostText (or-right (leb (length bytes) (p .at)) _ on)
-
-  space : mostText ≤ length (drop end out)
-  space = omega (arith, left, length-drop end out)
-
-  answered : Answered (step .line) filled line filled-size filled-holds (p .state) (p .area) (p .words) (drop end out) (R .good) (R .counts) (R .words) space
-  answered = held-answered (step .line) filled line filled-size filled-holds (p .state) (p .area) (p .words) (drop end out) (R .good) (R .counts) (R .words) space
-
-  abbrev reply : Reply
-  reply = answerTo (p .state) (p .area) line
-
-  fit : end + length (textOf reply) ≤ length out
-  fit = omega (arith, text-longest (p .state) (p .area) line (R .counts), left)
-
-  ended-goes : step .ended ≡ true → Goes bytes p l (answeredTurn p step filled)
-  unfolding answeredTurn
-  ended-goes e =
-      let D = step-ended (p .line) (p .room) l xs (p .at) (R .held) e in
-      let A = answered in
-      let text : take (end + afterHeld (p .state) (p .area) (step .line) filled (p .words) (drop end out) .length) (take end out ++ afterHeld (p .state) (p .area) (step .line) filled (p .words) (drop end out) .out) ≡ take end out ++ textOf reply =
-      ap₂ (λ (n : ℕ) (zs : List ℕ). take (end + n) (take end out ++ zs)) (A .long) (A .text) ∙ written-after end (textOf reply) out fit in
-      let rest : drop (step .at) bytes ≡ drop (feedAt xs + 1) xs = ap (λ (k : ℕ). drop k bytes) (D .place) ∙ sym (drop-drop (feedAt xs + 1) (p .at) bytes) in
-      let long : length (take end out ++ afterHeld (p .state) (p .area) (step .line) filled (p .words) (drop end out) .out) ≡ length out =
-      length-append (take end out) _ ∙ omega (arith, length-take-le end out (R .within), ap length (A .text), length-paste 0 (textOf reply) (drop end out) (omega (arith, fit, length-drop end out)), length-drop end out, R .within) in
-      record {
-        next = [];
-        ready = record {
-          good = ap sound (A .state) ∙ answer-kept (p .state) (p .area) line (R .counts) (R .good);
-          counts = subst Counts (sym (A .state)) (answer-counts (p .state) (p .area) line (R .counts));
-          held = holds-none filled;
-          room = filled-size;
-          words = omega (arith, A .words', R .words);
-          space = omega (arith, long, R .space);
-          within = omega (arith, long, A .long, fit);
-        };
-        further = omega (arith, D .place);
-        area = ap length (A .area') ∙ answer-area (p .state) (p .area) line (R .counts);
-        same = λ later.
-            ap (λ (ls : List (List ℕ)). take end out ++ rest-text (p .state) (p .area) ls) (from-ended l xs later line (drop (feedAt xs + 1) xs) (D .lines) (D .begun))
-            ∙ ap (λ (t : List ℕ). take end out ++ t) (text-cons (p .state) (p .area) line (linesFrom [] (drop (feedAt xs + 1) xs ++ later)))
-            ∙ sym (append-assoc (take end out) (textOf reply) (rest-text (reply .state) (reply .area) (linesFrom [] (drop (feedAt xs + 1) xs ++ later))))
-            ∙ ap₂ (λ (t : List ℕ) (ys : List ℕ). t ++ rest-text (reply .state) (reply .area) (linesFrom [] (ys ++ later))) (sym text) (sym rest)
-            ∙ ap₂ (λ (s : State) (a : List ℕ). take (end + afterHeld (p .state) (p .area) (step .line) filled (p .words) (drop end out) .length) (take end out ++ afterHeld (p .state) (p .area) (step .line) filled (p .words) (drop end out) .out)
-            ++ rest-text s a (linesFrom [] (drop (step .at) bytes ++ later))) (sym (A .state)) (sym (A .area'));
-      }
-
-  open-goes : step .ended ≡ false → Goes bytes p l (openTurn p step filled)
-  unfolding openTurn
-  open-goes e =
-      let D = step-stopped (p .line) (p .room) l xs (p .at) (R .held) e in
-      let more = not-done bytes p on in
-      let all : length bytes ≤ step .at = omega (arith, D .place, length-drop (p .at) bytes) in
-      let rest : drop (step .at) bytes ≡ [] = drop-of-length-le bytes all in
-      record {
-        next = line;
-        ready = record {
-          good = R .good;
-          counts = R .counts;
-          held = filled-holds;
-          room = filled-size;
-          words = R .words;
-          space = R .space;
-          within = R .within;
-        };
-        further = omega (arith, all, more);
-        area = refl;
-        same = λ later.
-            ap (λ (ls : List (List ℕ)). take end out ++ rest-text (p .state) (p .area) ls)
-            (from-open l xs later line (D .lines) (D .begun) ∙ ap (λ (ys : List ℕ). linesFrom line (ys ++ later)) (sym rest));
-      }
-
-  pub turn-goes : Goes bytes p l (turnOf bytes p)
-  unfolding turnOf
-  turn-goes =
-      by-test (λ b. step .ended ≡ b → Goes bytes p l (cond b (answeredTurn p step filled) (openTurn p step filled))) (step .ended)
-      (λ q e. ended-goes e) (λ q e. open-goes e) refl
-
--- ---- turn after turn
-
-goes-self : (bytes : List ℕ) (p : Player) (l : List ℕ) → Ready p l → Goes bytes p l p
-goes-self bytes p l R = record { next = l; ready = R; further = omega arith; area = refl; same = λ later. refl }
-
-goes-then : (bytes : List ℕ) (p : Player) (l : List ℕ) (q r : Player) (G : Goes bytes p l q) → Goes bytes q (G .next) r → Goes bytes p l r
-goes-then bytes p l q r G H =
+tells-none : (d : Desk) (l xs later : List ℕ) → Sits d l → xs ≡ [] → Tells d l xs later (record { text = []; desk = d })
+tells-none d l xs later S e =
     record {
-      next = H .next;
-      ready = H .ready;
-      further = omega (arith, G .further, H .further);
-      area = H .area ∙ G .area;
-      same = λ later. G .same later ∙ H .same later;
+      next = l;
+      sits = S;
+      same =
+          ap (λ (ys : List ℕ). playLines (d .talk .state) (d .area) (linesFrom l (ys ++ later))) e
+          ∙ sym (with-none (playLines (d .talk .state) (d .area) (linesFrom l later)));
     }
 
-turns-go : (n : ℕ) (bytes : List ℕ) (p : Player) (l : List ℕ) → Ready p l → Goes bytes p l (playTurns n bytes p)
-unfolding playTurns
-turns-go zero bytes p l R = goes-self bytes p l R
-turns-go (suc n) bytes p l R =
-    by-test (λ b. isDone bytes p ≡ b → Goes bytes p l (cond b p (playTurns n bytes (turnOf bytes p)))) (isDone bytes p)
-    (λ q e. goes-self bytes p l R)
-    (λ q e. let G = turn-goes bytes p l R e in goes-then bytes p l (turnOf bytes p) _ G (turns-go n bytes (turnOf bytes p) (G .next) (G .ready)))
-    refl
+module _ (d : Desk) (bytes : List ℕ) (at : ℕ) (out l later : List ℕ) where
+  abbrev before : Player
+  before = playerAt d at out
 
--- a part: what is left of it after a call, and that a call goes on
-pub part-goes-on : (bytes : List ℕ) (p : Player) (l : List ℕ) → Ready p l → Goes bytes p l (playPart bytes p)
-unfolding playPart
-part-goes-on bytes p l R = turns-go (suc (length bytes - p .at)) bytes p l R
+  abbrev reached : Player
+  reached = playPart bytes before
 
-part-moves : (bytes : List ℕ) (p : Player) (l : List ℕ) → Ready p l → isDone bytes p ≡ false → p .at < playPart bytes p .at
-unfolding playPart playTurns
-part-moves bytes p l R e =
-    let G = turn-goes bytes p l R e in
-    let H = turns-go (length bytes - p .at) bytes (turnOf bytes p) (G .next) (G .ready) in
-    subst (λ (q : Player). p .at < q .at) (sym (cond-false _ _ e)) (omega (arith, turn-further bytes p e, H .further))
+  -- a call, and then the rest
+  call-tells : (G : Goes bytes before l reached) (r : Said) → Tells (playedCall reached .desk) (G .next) (drop (reached .at) bytes) later r
+      → Tells d l (drop at bytes) later (saidAfter (take (reached .length) (reached .out)) r)
+  unfolding playedCall saidAfter
+  call-tells G r T =
+      record {
+        next = T .next;
+        sits = T .sits;
+        same =
+            sym (with-none (playLines (d .talk .state) (d .area) (linesFrom l (drop at bytes ++ later))))
+            ∙ G .same later
+            ∙ ap (withText (take (reached .length) (reached .out))) (T .same)
+            ∙ with-more (take (reached .length) (reached .out)) (r .text) (playLines (r .desk .talk .state) (r .desk .area) (linesFrom (T .next) later));
+      }
 
--- ---- a session in parts
+  -- a part that is not used up has gone on
+  call-moves : Ready before l → reached .at < length bytes → at ≤ reached .at → at < reached .at
+  call-moves R more further =
+      part-moves bytes before l R
+      (or-neither _ _ (lt-leb (length bytes) at (omega arith)) (le-ltb (length out - 0) mostText (omega (arith, R .space))))
 
--- what is written of the session, and the player that plays the rest of it
-record Told (s : State) (area l xs : List ℕ) (later : List ℕ) (r : Written) : Type 0 where
-  next : List ℕ
-  ready : Ready (r .player) next
-  same : rest-text s area (linesFrom l (xs ++ later)) ≡ r .text ++ rest-text (r .player .state) (r .player .area) (linesFrom next later)
-
-told-none : (p : Player) (l bytes : List ℕ) (at : ℕ) (later : List ℕ) → Ready p l → length bytes ≤ at
-    → Told (p .state) (p .area) l (drop at bytes) later (record { text = []; player = p })
-told-none p l bytes at later R h =
-    let none : drop at bytes ≡ [] = drop-of-length-le bytes h in
-    record { next = l; ready = R; same = ap (λ (ys : List ℕ). rest-text (p .state) (p .area) (linesFrom l (ys ++ later))) none }
-
-front-ready : (p : Player) (l : List ℕ) (at : ℕ) → Ready p l → Ready (fromFront p at) l
-front-ready p l at R =
-    record { good = R .good; counts = R .counts; held = R .held; room = R .room; words = R .words; space = R .space; within = omega arith }
-
-calls-told : (calls : ℕ) (bytes : List ℕ) (p : Player) (at : ℕ) (l later : List ℕ) → Ready p l → length bytes - at ≤ calls
-    → Told (p .state) (p .area) l (drop at bytes) later (playCalls calls bytes p at)
-unfolding playCalls after
-calls-told zero bytes p at l later R h = told-none p l bytes at later R (omega arith)
-calls-told (suc calls) bytes p at l later R h =
-    let q = playPart bytes (fromFront p at) in
-    by-test (λ b. leb (length bytes) at ≡ b → Told (p .state) (p .area) l (drop at bytes) later
-    (cond b (record { text = []; player = p }) (record { text = take (playPart bytes (fromFront p at) .length) (playPart bytes (fromFront p at) .out) ++ playCalls calls bytes (playPart bytes (fromFront p at)) (playPart bytes (fromFront p at) .at) .text; player = playCalls calls bytes (playPart bytes (fromFront p at)) (playPart bytes (fromFront p at) .at) .player })))
-    (leb (length bytes) at)
-    (λ z e. told-none p l bytes at later R (leb-true (length bytes) at e))
+part-tells : (calls : ℕ) (d : Desk) (bytes : List ℕ) (at : ℕ) (out l later : List ℕ) → Sits d l → mostText ≤ length out → length bytes - at < calls
+    → Tells d l (drop at bytes) later (sayPart calls d bytes at out)
+unfolding sayPart playedCall
+part-tells zero d bytes at out l later S h k = absurd (omega arith)
+part-tells (suc calls) d bytes at out l later S h k =
+    let R = sits-ready d l S at out h in
+    let G = part-goes-on bytes (playerAt d at out) l R in
+    subst
+    (λ (x : Call). Tells d l (drop at bytes) later (saidAfter (take (x .length) (x .out))
+    (cond (leb (length bytes) (x .at)) (record { text = []; desk = x .desk }) (sayPart calls (x .desk) bytes (x .at) (x .out)))))
+    (sym (part-on d (S .on) out (sits-roomy d l out S h) bytes at))
+    (call-tells d bytes at out l later G _
+    (by-test
+    (λ b. leb (length bytes) (playPart bytes (playerAt d at out) .at) ≡ b → Tells (playedCall (playPart bytes (playerAt d at out)) .desk) (G .next) (drop (playPart bytes (playerAt d at out) .at) bytes) later
+    (cond b (record { text = []; desk = playedCall (playPart bytes (playerAt d at out)) .desk }) (sayPart calls (playedCall (playPart bytes (playerAt d at out)) .desk) bytes (playPart bytes (playerAt d at out) .at) (playPart bytes (playerAt d at out) .out))))
+    (leb (length bytes) (playPart bytes (playerAt d at out) .at))
+    (λ z e. tells-none _ (G .next) _ later (ready-sits _ (G .next) (G .ready)) (drop-of-length-le bytes (leb-true (length bytes) (playPart bytes (playerAt d at out) .at) e)))
     (λ z e.
-    let F = front-ready p l at R in
-    let on : isDone bytes (fromFront p at) ≡ false = or-neither _ _ e (le-ltb (length (p .out) - 0) mostText (omega (arith, R .space))) in
-    let G = part-goes-on bytes (fromFront p at) l F in
-    let more = part-moves bytes (fromFront p at) l F on in
-    let T = calls-told calls bytes (playPart bytes (fromFront p at)) (playPart bytes (fromFront p at) .at) (G .next) later (G .ready)
-    (omega (arith, more, leb-false (length bytes) at e)) in
-    record {
-      next = T .next;
-      ready = T .ready;
-      same =
-          G .same later
-          ∙ ap (λ (t : List ℕ). take (playPart bytes (fromFront p at) .length) (playPart bytes (fromFront p at) .out) ++ t) (T .same)
-          ∙ sym (append-assoc (take (playPart bytes (fromFront p at) .length) (playPart bytes (fromFront p at) .out)) (playCalls calls bytes (playPart bytes (fromFront p at)) (playPart bytes (fromFront p at) .at) .text) _);
-    })
-    refl
+    let more : playPart bytes (playerAt d at out) .at < length bytes = leb-false (length bytes) (playPart bytes (playerAt d at out) .at) e in
+    let moves = call-moves d bytes at out l later R more (G .further) in
+    part-tells calls (playedCall (playPart bytes (playerAt d at out)) .desk) bytes (playPart bytes (playerAt d at out) .at) (playPart bytes (playerAt d at out) .out) (G .next) later
+    (ready-sits _ (G .next) (G .ready)) (G .ready .space) (omega (arith, more, moves, k)))
+    refl))
 
-parts-told : (parts : List (List ℕ)) (p : Player) (l : List ℕ) → Ready p l → Told (p .state) (p .area) l (joined parts) [] (playParts p parts)
-unfolding playParts joined after
-parts-told [] p l R = record { next = l; ready = R; same = refl }
-parts-told (part ∷ parts) p l R =
-    let r = playCalls (length part) part p 0 in
-    let T = calls-told (length part) part p 0 l (joined parts ++ []) R (omega arith) in
-    let U = parts-told parts (playCalls (length part) part p 0 .player) (T .next) (T .ready) in
+-- ---- part after part
+
+parts-tell : (pieces : List Piece) (d : Desk) (l : List ℕ) → Sits d l → takeAnswers pieces ≡ true → Tells d l (bytesIn pieces) [] (sayParts d pieces)
+unfolding sayParts saidAfter bytesIn joined takeAnswers allOf
+parts-tell [] d l S h = tells-none d l [] [] S refl
+parts-tell (piece ∷ pieces) d l S h =
+    let T = part-tells (suc (length (piece .bytes))) d (piece .bytes) 0 (piece .out) l (bytesIn pieces ++ []) S (leb-true mostText (length (piece .out)) (and-left _ _ h)) (omega arith) in
+    let U = parts-tell pieces (sayPart (suc (length (piece .bytes))) d (piece .bytes) 0 (piece .out) .desk) (T .next) (T .sits) (and-right (leb mostText (length (piece .out))) _ h) in
     record {
       next = U .next;
-      ready = U .ready;
+      sits = U .sits;
       same =
-          ap (λ (ys : List ℕ). rest-text (p .state) (p .area) (linesFrom l ys)) (append-assoc part (joined parts) [])
+          ap (λ (ys : List ℕ). playLines (d .talk .state) (d .area) (linesFrom l ys)) (append-assoc (piece .bytes) (bytesIn pieces) [])
           ∙ T .same
-          ∙ ap (λ (t : List ℕ). playCalls (length part) part p 0 .text ++ t) (U .same)
-          ∙ sym (append-assoc (playCalls (length part) part p 0 .text) (playParts (playCalls (length part) part p 0 .player) parts .text) _);
+          ∙ ap (withText (sayPart (suc (length (piece .bytes))) d (piece .bytes) 0 (piece .out) .text)) (U .same)
+          ∙ with-more (sayPart (suc (length (piece .bytes))) d (piece .bytes) 0 (piece .out) .text) (sayParts (sayPart (suc (length (piece .bytes))) d (piece .bytes) 0 (piece .out) .desk) pieces .text) _;
     }
 
--- ---- its end
+-- ---- the end
 
--- a text at the front of the output
-front-text : (text out : List ℕ) → 0 + length text ≤ length out → take (length text) (paste 0 text out) ≡ text
-front-text text out fit = paste-part 0 text out fit
+-- what a session comes to at its end: the state, the area and the text
+courseAt : List ℕ → Desk → Course
+courseAt text d = record { state = d .talk .state; area = d .area; text = text }
 
-module _ (p : Player) where
-  abbrev ending : After
-  ending = endOf (p .state) (p .area) (p .line) (p .room) (p .words) (p .out)
+record Ends (d : Desk) (l : List ℕ) (x : Call) : Type 0 where
+  course : courseAt (take (x .length) (x .out)) (x .desk) ≡ playLines (d .talk .state) (d .area) (linesFrom l [])
+  over : x .desk .talk .ended ≡ true
+  line : x .desk .talk .line ≡ noLine
 
-  end-told : (l : List ℕ) → Ready p l → take (ending .length) (ending .out) ≡ rest-text (p .state) (p .area) (linesFrom l [])
-  unfolding linesFrom rest-text playLines endedLines begunLine lastLine endOf
-  end-told [] R = ap (λ (x : After). take (x .length) (x .out)) (cond-false _ _ (begun-none (p .line) (p .room) (R .held)))
-  end-told (c ∷ l) R =
-      let A = held-answered (p .line) (p .room) (c ∷ l) (R .room) (R .held) (p .state) (p .area) (p .words) (p .out) (R .good) (R .counts) (R .words) (R .space) in
-      let text = textOf (answerTo (p .state) (p .area) (c ∷ l)) in
-      let fit : 0 + length (textOf (answerTo (p .state) (p .area) (c ∷ l))) ≤ length (p .out) = omega (arith, text-longest (p .state) (p .area) (c ∷ l) (R .counts), R .space) in
-      ap (λ (x : After). take (x .length) (x .out)) (cond-true _ _ (begun-some (p .line) (p .room) c l (R .held)))
-      ∙ ap₂ (λ (n : ℕ) (zs : List ℕ). take n zs) (A .long) (A .text)
-      ∙ front-text (textOf (answerTo (p .state) (p .area) (c ∷ l))) (p .out) fit
-      ∙ sym (append-nil (textOf (answerTo (p .state) (p .area) (c ∷ l))))
+end-ends : (d : Desk) (l out : List ℕ) → Sits d l → mostText ≤ length out → Ends d l (endCall d out)
+unfolding endedCall courseAt
+end-ends d l out S h =
+    subst (λ (x : Call). Ends d l x) (sym (end-on d (S .on) out (sits-roomy d l out S h)))
+    (record { course = end-told (playerAt d 0 out) l (sits-ready d l S 0 out h); over = refl; line = refl })
+
+-- ---- after the end: any number of calls, in any order, write nothing and change nothing, neither the session nor a word that it is lent
+
+pub late-nothing : (calls : List AnyCall) (d : Desk) → d .talk .ended ≡ true → sayCalls d calls ≡ record { text = []; desk = d }
+unfolding sayCalls callOn refusedCall saidAfter
+late-nothing [] d over = refl
+late-nothing (APart bytes at out ∷ calls) d over =
+    ap (λ (x : Call). saidAfter (take (x .length) (x .out)) (sayCalls (x .desk) calls)) (part-over d over bytes at out)
+    ∙ ap (saidAfter []) (late-nothing calls d over)
+late-nothing (AnEnd out ∷ calls) d over =
+    ap (λ (x : Call). saidAfter (take (x .length) (x .out)) (sayCalls (x .desk) calls)) (end-over d over out)
+    ∙ ap (saidAfter []) (late-nothing calls d over)
 
 -- ---- the whole
 
@@ -317,24 +174,91 @@ before-counts : Counts beforeStart
 unfolding beforeStart
 before-counts = record { files = refl; channels = refl }
 
-module _ (room words out : List ℕ) (size : length room ≡ longest) (roomy : mostWords ≤ length words) (space : mostText ≤ length out) where
-  -- from the state before the first fresh start, in parts of any size, with an output of any size that takes one answer
-  pub session-right : (parts : List (List ℕ)) → playSession room words out parts ≡ sessionOf (joined parts)
-  unfolding playSession sessionOf rest-text linesFrom
-  session-right parts =
-      let start : Player = record { state = beforeStart; area = replicate areaWords 0; line = noLine; room = room; words = words; at = 0; out = out; length = 0 } in
-      let R : Ready (record { state = beforeStart; area = replicate areaWords 0; line = noLine; room = room; words = words; at = 0; out = out; length = 0 }) [] =
-      record { good = before-start-sound; counts = before-counts; held = holds-none room; room = size; words = roomy; space = space; within = omega arith } in
-      let T = parts-told parts start [] R in
-      let r = playParts start parts in
-      ap (λ (t : List ℕ). r .text ++ t) (end-told (r .player) (T .next) (T .ready))
-      ∙ sym (T .same)
-      ∙ ap (λ (ys : List ℕ). rest-text beforeStart (replicate areaWords 0) (linesFrom [] ys)) (append-nil (joined parts))
-      ∙ ap (rest-text beforeStart (replicate areaWords 0)) (sym (lines-ended (joined parts)))
+-- the answers' text, and the session and the area at the end
+pub record Right (bytes : List ℕ) (r : Said) : Type 0 where
+  pub text : r .text ≡ sessionOf bytes
+  pub talk : r .desk .talk ≡ talkWith (courseOf bytes .state) noLine true
+  pub area : r .desk .area ≡ courseOf bytes .area
 
--- two ways to cut one session, and two outputs, give the same text
-pub any-parts : (room words out room' words' out' : List ℕ) (parts others : List (List ℕ)) → length room ≡ longest → mostWords ≤ length words → mostText ≤ length out
-    → length room' ≡ longest → mostWords ≤ length words' → mostText ≤ length out' → joined parts ≡ joined others
-    → playSession room words out parts ≡ playSession room' words' out' others
-any-parts room words out room' words' out' parts others a b c a' b' c' e =
-    session-right room words out a b c parts ∙ ap sessionOf e ∙ sym (session-right room' words' out' a' b' c' others)
+all-right : (d : Desk) (pieces : List Piece) (out : List ℕ) (late : List AnyCall) → Sits d [] → takeAnswers pieces ≡ true → mostText ≤ length out
+    → (courseAt (sayAll d pieces out late .text) (sayAll d pieces out late .desk) ≡ playLines (d .talk .state) (d .area) (linesFrom [] (bytesIn pieces)))
+    × ((sayAll d pieces out late .desk .talk .ended ≡ true) × (sayAll d pieces out late .desk .talk .line ≡ noLine))
+unfolding sayAll saidAfter courseAt withText
+all-right d pieces out late S h k =
+    let T = parts-tell pieces d [] S h in
+    let E = end-ends (sayParts d pieces .desk) (T .next) out (T .sits) k in
+    let L = late-nothing late (endCall (sayParts d pieces .desk) out .desk) (E .over) in
+    let same : courseAt (sayParts d pieces .text ++ (take (endCall (sayParts d pieces .desk) out .length) (endCall (sayParts d pieces .desk) out .out) ++ [])) (endCall (sayParts d pieces .desk) out .desk)
+    ≡ playLines (d .talk .state) (d .area) (linesFrom [] (bytesIn pieces)) =
+    ap (λ (t : List ℕ). courseAt (sayParts d pieces .text ++ t) (endCall (sayParts d pieces .desk) out .desk)) (append-nil (take (endCall (sayParts d pieces .desk) out .length) (endCall (sayParts d pieces .desk) out .out)))
+    ∙ ap (withText (sayParts d pieces .text)) (E .course)
+    ∙ sym (T .same)
+    ∙ ap (λ (ys : List ℕ). playLines (d .talk .state) (d .area) (linesFrom [] ys)) (append-nil (bytesIn pieces)) in
+    subst (λ (z : Said). (courseAt (sayParts d pieces .text ++ (take (endCall (sayParts d pieces .desk) out .length) (endCall (sayParts d pieces .desk) out .out) ++ z .text)) (z .desk) ≡ playLines (d .talk .state) (d .area) (linesFrom [] (bytesIn pieces)))
+    × ((z .desk .talk .ended ≡ true) × (z .desk .talk .line ≡ noLine))) (sym L)
+    (same, (E .over, E .line))
+
+module _ (room words : List ℕ) (size : length room ≡ longest) (roomy : mostWords ≤ length words) where
+  -- from the state before the first fresh start, in parts of any size, each with an output of any size that takes one answer, then the end, and
+  -- then any calls more
+  pub session-right : (pieces : List Piece) (out : List ℕ) (late : List AnyCall) → takeAnswers pieces ≡ true → mostText ≤ length out
+      → Right (bytesIn pieces) (playSession room words pieces out late)
+  unfolding playSession sessionOf courseOf courseAt linesFrom
+  session-right pieces out late h k =
+      let S : Sits (deskWith newTalk (replicate areaWords 0) room words) [] =
+      record { on = refl; good = before-start-sound; counts = before-counts; held = holds-none room; room = size; words = roomy } in
+      let A = all-right (deskWith newTalk (replicate areaWords 0) room words) pieces out late S h k in
+      let same : courseAt (sayAll (deskWith newTalk (replicate areaWords 0) room words) pieces out late .text) (sayAll (deskWith newTalk (replicate areaWords 0) room words) pieces out late .desk) ≡ courseOf (bytesIn pieces) =
+      A .0 ∙ ap (playLines beforeStart (replicate areaWords 0)) (sym (lines-ended (bytesIn pieces))) in
+      record {
+        text = ap (λ (c : Course). c .text) same;
+        talk =
+            ap₂ (λ (l : Line) (b : Bool). talkWith (sayAll (deskWith newTalk (replicate areaWords 0) room words) pieces out late .desk .talk .state) l b) (A .1 .1) (A .1 .0)
+            ∙ ap (λ (c : Course). talkWith (c .state) noLine true) same;
+        area = ap (λ (c : Course). c .area) same;
+      }
+
+  -- each line has exactly one answer line, counted in what is written
+  pub answers-counted : (pieces : List Piece) (out : List ℕ) (late : List AnyCall) → takeAnswers pieces ≡ true → mostText ≤ length out
+      → feedsIn (playSession room words pieces out late .text) ≡ length (linesOf (bytesIn pieces))
+  answers-counted pieces out late h k = ap feedsIn (session-right pieces out late h k .text) ∙ one-answer-each (bytesIn pieces)
+
+  -- an overlong line, cut anywhere, has the single answer 01, and the lines after it are answered as if it were not there
+  pub overlong-answered : (pieces : List Piece) (out : List ℕ) (late : List AnyCall) → takeAnswers pieces ≡ true → mostText ≤ length out
+      → (ks ls : List (List ℕ)) (l : List ℕ) → linesOf (bytesIn pieces) ≡ ks ++ (l ∷ ls) → longest < length l
+      → let c = playLines beforeStart (replicate areaWords 0) ks in
+      playSession room words pieces out late .text ≡ c .text ++ ((48 ∷ 49 ∷ 10 ∷ []) ++ playLines (c .state) (c .area) ls .text)
+  unfolding sessionOf courseOf withText
+  overlong-answered pieces out late h k ks ls l e long =
+      let c = playLines beforeStart (replicate areaWords 0) ks in
+      session-right pieces out late h k .text
+      ∙ ap (λ (ms : List (List ℕ)). playLines beforeStart (replicate areaWords 0) ms .text) e
+      ∙ ap (λ (x : Course). x .text) (lines-append ks (l ∷ ls) beforeStart (replicate areaWords 0))
+      ∙ ap (λ (x : Course). c .text ++ x .text) (overlong-single (c .state) (c .area) l ls long)
+
+-- two ways to cut one session, as in one part and in many, with any outputs and any calls after the end, give the same text, session and area
+pub any-parts : (room words room' words' : List ℕ) (pieces others : List Piece) (out out' : List ℕ) (late late' : List AnyCall)
+    → length room ≡ longest → mostWords ≤ length words → takeAnswers pieces ≡ true → mostText ≤ length out
+    → length room' ≡ longest → mostWords ≤ length words' → takeAnswers others ≡ true → mostText ≤ length out'
+    → bytesIn pieces ≡ bytesIn others
+    → (playSession room words pieces out late .text ≡ playSession room' words' others out' late' .text)
+    × ((playSession room words pieces out late .desk .talk ≡ playSession room' words' others out' late' .desk .talk)
+    × (playSession room words pieces out late .desk .area ≡ playSession room' words' others out' late' .desk .area))
+any-parts room words room' words' pieces others out out' late late' a b c e a' b' c' e' same =
+    let R = session-right room words a b pieces out late c e in
+    let Q = session-right room' words' a' b' others out' late' c' e' in (
+      R .text ∙ ap sessionOf same ∙ sym (Q .text),
+      (
+        R .talk ∙ ap (λ (bytes : List ℕ). talkWith (courseOf bytes .state) noLine true) same ∙ sym (Q .talk),
+        R .area ∙ ap (λ (bytes : List ℕ). courseOf bytes .area) same ∙ sym (Q .area),
+      ),
+    )
+
+-- ---- a part of no length does nothing
+
+pub empty-part : (d : Desk) (at : ℕ) (out : List ℕ) → d .talk .ended ≡ false → lacksRoom d out ≡ false → partCall d [] at out ≡ record { refusal = 0; at = at; length = 0; desk = d; out = out }
+unfolding playedCall playPart playTurns
+empty-part d at out on roomy =
+    part-on d on out roomy [] at
+    ∙ ap playedCall (cond-true _ _ (or-first (leb 0 at) _ (le-leb 0 at (omega arith))))
+    ∙ ap (λ (b : Bool). record { refusal = 0; at = at; length = 0; desk = deskWith (talkWith (d .talk .state) (d .talk .line) b) (d .area) (d .room) (d .words); out = out }) (sym on)

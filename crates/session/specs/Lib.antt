@@ -1,3 +1,4 @@
 pub mod Rooms
 pub mod Player
 pub mod Session
+pub mod Talks

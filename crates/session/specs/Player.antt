@@ -1,19 +1,16 @@
--- The player: all that moves while a part of a session is played, and what each step makes of it. Theorem `session-right` says that it
--- writes `sessionOf`, however the session comes in parts. Assumes nothing.
+-- The player: all that moves while a part of a session is played, and what each step makes of it. Assumes nothing.
 use Prim.Native.Nat.{ℕ, zero, suc, _+_, _-_}
 use mathlib.Core.Bool.{Bool, false, cond, _||_}
-use mathlib.Core.List.{List, [], _∷_, _++_}
+use mathlib.Core.List.{List, [], _++_}
 use lib.Dec.{leb, ltb}
-use lib.ListN.{length, take, drop, replicate}
+use lib.ListN.{length, take, drop}
 use Rattle.session_line.specs.declared.Line.{Line}
 use Rattle.session_line.specs.declared.Step.{Step}
 use Rattle.session_line.specs.Machine.{noLine, hasBegun, stepOf, roomOf}
 use Rattle.state.specs.declared.State.{State}
-use Rattle.state.specs.Places.{beforeStart}
 use Rattle.session_reply.specs.Turns.{answerOn}
 use Rattle.session.specs.Rooms.{mostText, After, afterLine}
 use Rattle.session.specs.declared.Played.{Played}
-use Rattle.session.specs.Session.{areaWords}
 
 -- the state and the area, the line that has begun and its room, the room for a line's words, the place in the part, and the output with how
 -- much of it is written
@@ -102,34 +99,3 @@ playedOf p = record { state = p .state; line = p .line; at = p .at; length = p .
 unfoldable pub endOf : State → List ℕ → Line → List ℕ → List ℕ → List ℕ → After
 endOf s area line room words out =
     cond (hasBegun line) (afterHeld s area line room words out) (record { state = s; length = 0; area = area; words = words; out = out })
-
--- ---- a session in parts, as the program goes: a part is played until it is used up; what is written is taken off, and the output used anew
-
-pub record Written : Type 0 where
-  pub text : List ℕ
-  pub player : Player
-
-abbrev pub fromFront : Player → ℕ → Player
-fromFront p at = playerWith (p .state) (p .area) (p .line) (p .room) (p .words) at (p .out) 0
-
-unfoldable pub after : List ℕ → Written → Written
-after text r = record { text = text ++ r .text; player = r .player }
-
--- at most `calls` calls on one part, from place `at` on
-unfoldable pub playCalls : ℕ → List ℕ → Player → ℕ → Written
-playCalls zero bytes p at = record { text = []; player = p }
-playCalls (suc calls) bytes p at =
-    let q = playPart bytes (fromFront p at) in
-    cond (leb (length bytes) at) (record { text = []; player = p }) (after (take (q .length) (q .out)) (playCalls calls bytes q (q .at)))
-
--- one call for each byte is always enough
-unfoldable pub playParts : Player → List (List ℕ) → Written
-playParts p [] = record { text = []; player = p }
-playParts p (part ∷ parts) = let r = playCalls (length part) part p 0 in after (r .text) (playParts (r .player) parts)
-
-unfoldable pub playSession : List ℕ → List ℕ → List ℕ → List (List ℕ) → List ℕ
-playSession room words out parts =
-    let r = playParts (playerWith beforeStart (replicate areaWords 0) noLine room words 0 out 0) parts in
-    let p = r .player in
-    let x = endOf (p .state) (p .area) (p .line) (p .room) (p .words) (p .out) in
-    r .text ++ take (x .length) (x .out)

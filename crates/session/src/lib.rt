@@ -2,11 +2,13 @@
 // one before left. It knows nothing of where the parts come from and where the answers go.
 mod line;
 mod play;
+mod slow;
 
 pub use line::answer_line;
-pub use play::play_end;
-pub use play::play_part;
 use session_line::Line;
+pub use slow::new_talk;
+pub use slow::talk_end;
+pub use slow::talk_part;
 use state::State;
 
 // What a line comes to: the state after it, and the length of its answer.
@@ -19,6 +21,21 @@ pub struct Answered {
 pub struct Played {
     pub state: State,
     pub line: Line,
+    pub at: usize,
+    pub length: usize,
+}
+
+// A session that comes in parts: its state, what has begun of a line, and whether the input has ended.
+pub struct Talk {
+    pub state: State,
+    pub line: Line,
+    pub ended: bool,
+}
+
+// The answer to a part or to the end: 0 or the refusal, the session after it, the place reached in the part, and how much of the output is written.
+pub struct Heard {
+    pub refusal: u8,
+    pub talk: Talk,
     pub at: usize,
     pub length: usize,
 }

@@ -11,11 +11,8 @@ Inv-loop area₀ room₀ words₀ input₀ out₀ p₀ turns₀ area room words 
 abbrev μ-loop : tie.MeasureT-loop
 μ-loop area₀ room₀ words₀ input₀ out₀ p₀ turns₀ area room words input out p turns = turns
 
-before-start-requires : tie.Need-before-start-requires Inv-loop μ-loop
-before-start-requires c κs = search needs
-
-no-line-requires : tie.Need-no-line-requires Inv-loop μ-loop
-no-line-requires c κs = search needs
+new-talk-requires : tie.Need-new-talk-requires Inv-loop μ-loop
+new-talk-requires c κs = search needs
 
 loop-holds : tie.Need-loop-holds Inv-loop μ-loop
 loop-holds c = (refl, refl, refl, refl, refl)
@@ -74,8 +71,7 @@ play-spec =
     (tie.spec
     Inv-loop
     μ-loop
-    before-start-requires
-    no-line-requires
+    new-talk-requires
     loop-holds
     once-requires
     same-length

@@ -6,16 +6,16 @@ use Rattle.play.proofs.played.Statement.{statement}
 use Rattle.play.proofs.played.Tie as tie
 
 abbrev Inv-loop : tie.InvT-loop
-Inv-loop area₀ room₀ words₀ bytes out₀ s₀ line₀ at₀ left₀ area room words out s line at left = (length area ≡ length area₀) × (length room ≡ length room₀) × (length words ≡ length words₀) × (length out ≡ length out₀)
+Inv-loop area₀ room₀ words₀ bytes out₀ talk₀ at₀ left₀ area room words out talk at left = (length area ≡ length area₀) × (length room ≡ length room₀) × (length words ≡ length words₀) × (length out ≡ length out₀)
 
 abbrev μ-loop : tie.MeasureT-loop
-μ-loop area₀ room₀ words₀ bytes out₀ s₀ line₀ at₀ left₀ area room words out s line at left = left
+μ-loop area₀ room₀ words₀ bytes out₀ talk₀ at₀ left₀ area room words out talk at left = left
 
 loop-holds : tie.Need-loop-holds Inv-loop μ-loop
 loop-holds c = (refl, refl, refl, refl)
 
-play-part-requires : tie.Need-play-part-requires Inv-loop μ-loop
-play-part-requires c κs = search needs
+talk-part-requires : tie.Need-talk-part-requires Inv-loop μ-loop
+talk-part-requires c κs = search needs
 
 written-requires : tie.Need-written-requires Inv-loop μ-loop
 written-requires c κs = search needs
@@ -81,7 +81,7 @@ played-spec =
     Inv-loop
     μ-loop
     loop-holds
-    play-part-requires
+    talk-part-requires
     written-requires
     same-length
     same-length-2
