@@ -4,9 +4,11 @@ use libc::STDERR_FILENO;
 use libc::STDIN_FILENO;
 use libc::STDOUT_FILENO;
 use session::Talk;
+use session::WORDS;
 use session::new_talk;
 use session::talk_end;
 use session::talk_part;
+use session_frame::LONGEST;
 
 // The session so far, and whether more of it is read.
 struct Standing {
@@ -98,10 +100,13 @@ fn play(area: &mut [u64], room: &mut [u8], words: &mut [u64], input: &mut [u8], 
     }
 }
 
+// The words of the area.
+const AREA: usize = 4096;
+
 fn main() {
-    let mut area = [0u64; 4096];
-    let mut room = [0u8; 10248];
-    let mut words = [0u64; 1024];
+    let mut area = [0u64; AREA];
+    let mut room = [0u8; LONGEST];
+    let mut words = [0u64; WORDS];
     let mut input = io::large_buffer();
     let mut out = io::large_buffer();
     play(&mut area, &mut room, &mut words, &mut input, &mut out);

@@ -11,6 +11,11 @@ pub use slow::talk_end;
 pub use slow::talk_part;
 use state::State;
 
+// The most words that come with a line, and the most characters that an answer has with its line feed.
+pub const WORDS: usize = 1024;
+
+pub const ANSWER: usize = 10249;
+
 // What a line comes to: the state after it, and the length of its answer.
 pub struct Answered {
     pub state: State,

@@ -1,5 +1,7 @@
 // A line: its frame, what the frame comes to, and the answer.
+use crate::ANSWER;
 use crate::Answered;
+use crate::WORDS;
 use area::part;
 use session_frame::Frame;
 use session_frame::frame_of;
@@ -14,11 +16,6 @@ ghost use Rattle.area.specs.Parts.{paste};
 ghost use Rattle.session_reply.specs.Replies.{answerTo};
 ghost use Rattle.session_reply.specs.Turns.{answerOn};
 ghost use Rattle.session.specs.Rooms.{givenIn, afterLine};
-
-// The most words that come with a line, and the most characters that an answer has with its line feed.
-const WORDS: usize = 1024;
-
-const ANSWER: usize = 10249;
 
 // The words of the line to the front of the room; how many they are.
 fn given(f: Frame, line: &[u8], room: &mut [u64]) -> usize

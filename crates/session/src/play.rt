@@ -1,4 +1,5 @@
 // The player: a line more, answered; as many as a part has; and the last one.
+use crate::ANSWER;
 use crate::Answered;
 use crate::Played;
 use crate::line::answer_on;
@@ -11,9 +12,6 @@ ghost use mathlib.Core.Path.{_≡_};
 ghost use Prim.Native.Nat.{_≤_};
 ghost use lib.ListN.{length};
 ghost use Rattle.session.specs.Player.{heldText, playerWith, afterHeld, turnOf, playPart, playedOf, endOf};
-
-// The most characters that an answer has with its line feed.
-const ANSWER: usize = 10249;
 
 // The line in the room. Nothing is kept of an overlong line: it is malformed, and so is the empty one that stands for it.
 fn text_of(line: Line, room: &[u8]) -> &[u8]

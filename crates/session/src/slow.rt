@@ -1,19 +1,15 @@
 // A session over a slow line: it comes in parts, cut anywhere, and then it ends.
+use crate::ANSWER;
 use crate::Heard;
 use crate::Talk;
+use crate::WORDS;
 use crate::play::play_end;
 use crate::play::play_part;
+use session_frame::LONGEST;
 use session_line::no_line;
 use state::before_start;
 ghost use mathlib.Core.Path.{_≡_};
 ghost use Rattle.session.specs.Talks.{newTalk, shortRooms, deskWith, heardOf, partCall, endCall};
-
-// The rooms that a line, its words and its answer ask for.
-const LINE: usize = 10248;
-
-const WORDS: usize = 1024;
-
-const ANSWER: usize = 10249;
 
 // The numbers of the refusals: a room that is too short, and a call after the end.
 const SHORT: u8 = 1;
@@ -37,7 +33,7 @@ pub fn new_talk() -> Talk
 fn lacks_room(room: usize, words: usize, out: usize) -> bool
     ensures { λ r. ⌜ r ≡ shortRooms room words out ⌝ }
 {
-    (room < LINE) | (words < WORDS) | (out < ANSWER)
+    (room < LONGEST) | (words < WORDS) | (out < ANSWER)
 }
 
 // The answer to a call that is refused: the session stays, and nothing is read or written.

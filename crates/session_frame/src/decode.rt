@@ -5,6 +5,7 @@ ghost use Rattle.area.specs.Parts.{paste};
 ghost use Rattle.session_frame.specs.Digits.{bytesOf};
 ghost use Rattle.session_frame.specs.Frames.{isText, kindOf, frameOf, wordsFrom};
 use crate::Frame;
+use crate::LONGEST;
 use crate::kinds::ask;
 use crate::kinds::fresh;
 use crate::kinds::if_sized;
@@ -12,9 +13,6 @@ use crate::kinds::opening;
 use crate::kinds::put;
 use crate::kinds::report;
 use crate::read::byte_at;
-
-// The most characters that a line has: a report of 1,024 words.
-const LONGEST: usize = 10248;
 
 // Whether a line is pairs of digits, at most the longest line.
 fn is_text(line: &[u8]) -> bool

@@ -12,6 +12,9 @@ pub use decode::frame_of;
 pub use decode::words_into;
 pub use line::write_answer;
 
+// The most characters that a line has: a report of 1,024 words.
+pub const LONGEST: usize = 10248;
+
 // The unit masks of the five channels: bit u for unit u.
 pub struct Masks {
     pub a: u16,
