@@ -1,5 +1,5 @@
 -- Laws of `lowest`: the first row of a call's table that applies gives the number. Assumes nothing.
-use mathlib.Core.Path.{_≡_, refl, ap, _∙_}
+use mathlib.Core.Path.{_≡_, refl}
 use mathlib.Core.Bool.{Bool, true, false, cond}
 use mathlib.Core.List.{[], _∷_}
 use Prim.Native.Nat.{ℕ}
@@ -16,11 +16,6 @@ module _ (n : ℕ) (applies : Bool) (rows : Rows) where
   pub lowest-past : applies ≡ false → lowest ((n, applies) ∷ rows) ≡ lowest rows
   unfolding lowest
   lowest-past e = rw e
-
-  -- what the code's row gives is what the table's row gives, if what it gives later is
-  pub lowest-row : {later r : ℕ} → r ≡ cond applies n later → later ≡ lowest rows → r ≡ lowest ((n, applies) ∷ rows)
-  unfolding lowest
-  lowest-row h k = h ∙ ap (cond applies n) k
 
   -- no refusal is given: the row does not apply, nor any after it. A row's number is not 0
   pub lowest-none : (n ≡ 0 → ⊥) → lowest ((n, applies) ∷ rows) ≡ 0 → (applies ≡ false) × (lowest rows ≡ 0)
