@@ -17,3 +17,4 @@ pub mod Limits
 pub mod Lift
 pub mod Machine
 pub mod Bound
+pub mod Bookings

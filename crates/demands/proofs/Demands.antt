@@ -2,6 +2,7 @@
 use mathlib.Core.Path.{_≡_}
 use mathlib.Core.Logic.{_≢_}
 use mathlib.Core.Bool.{Bool, true, false}
+use mathlib.Core.Option.{Option, none}
 use mathlib.Core.List.{List, []}
 use Prim.Native.Nat.{ℕ, _+_, _%_}
 use lib.ListN.{length}
@@ -17,16 +18,24 @@ use Rattle.pack_start.specs.declared.Masks.{Masks}
 use Rattle.call_request.specs.Ask.{isPriority}
 use Rattle.pack.specs.Calls.{Call, fresh, opening, close, ask, report, answerOf}
 use Rattle.pack.specs.Histories.{Lent, after, count, freshStart, declaredOn}
+use Rattle.pack.specs.Books.{Book, Opened, toldResult, blankBook, bookAfter, openedAfter}
 use Rattle.pack.proofs.Kept.{Good, good-before, start-judged, good-start, history-kept}
 use Rattle.demands_ledger.specs.Ledgers.{Ledger, blankLedger, toldError, stateAfter, areaAfter, ledgerAfter}
 use Rattle.demands_ledger.specs.Blocks.{joined}
 use Rattle.demands_ledger.proofs.Frames.{Kept}
 use Rattle.demands_ledger.proofs.Always.{always, started as begun}
+use Rattle.pack.proofs.Seen.{stationAt}
+use Rattle.pack.proofs.Booking.{Shows, shows-start, shows-after}
+use Rattle.pack.proofs.Marking.{known-start, known-after}
+use Rattle.demands.specs.Results.{Results}
+use Rattle.demands.specs.Marks.{Marks}
 use Rattle.demands.specs.Demands.{Refuses, Holds, Frees, Takes, Books, dataIn, Writes, Reads, Answers}
 use Rattle.demands.proofs.Refusals.{refuses}
 use Rattle.demands.proofs.Buffers.{good-holds, closed-frees, opened-takes, reported-books}
 use Rattle.demands.proofs.Blocks.{ledger-writes, ledger-closed, ledger-reads, ledger-judged}
-use Rattle.demands.proofs.Turns.{answered}
+use Rattle.demands.proofs.Results.{reported-results}
+use Rattle.demands.proofs.Marks.{asked-marks}
+use Rattle.demands.proofs.Answering.{answered}
 
 -- "Any call, with any numbers, words and lengths, gets an answer. A refusal carries one number of document 01's table, is given exactly
 -- when the table says, and changes nothing. No caller need check first.": of every state value, every area and every call
@@ -79,6 +88,30 @@ module _ (s₀ : State) (area₀ : List ℕ) (m w : ℕ) (masks : Masks) (starte
   demand2-booked calls area channel unit outcome words =
       reported-books (after start calls) area channel unit outcome words (good calls)
 
+  -- "Scheduling, retry limits .. follow the manual and document 01." The book of a channel, and what is known of a file, after any calls:
+  abbrev pub bookThen : List Lent → ℕ → Book
+  bookThen calls c = bookAfter c start blankBook calls
+
+  abbrev pub openThen : List Lent → ℕ → Option Opened
+  openThen calls i = openedAfter i start none calls
+
+  shows : (calls : List Lent) (c : ℕ) → Shows (stationAt c (after start calls)) (bookThen calls c)
+  shows calls c = shows-after c start blankBook calls (good-start s₀ area₀ m w masks started) (shows-start c s₀ area₀ m w masks started)
+
+  -- the result of an accepted report is the table's
+  pub demand2-results : (calls : List Lent) (area : List ℕ) (channel unit outcome : ℕ) (words : List ℕ)
+      → answerOf (after start calls) area (report channel unit outcome words) .refusal ≡ 0
+      → Results (bookThen calls channel) unit outcome (toldResult (answerOf (after start calls) area (report channel unit outcome words) .added))
+  demand2-results calls area channel unit outcome words =
+      reported-results (after start calls) area channel unit outcome words (good calls) (bookThen calls channel) (shows calls channel)
+
+  -- an ask read is refused 10 exactly if a file mark has been read since the open, and no lower number is given
+  pub demand2-marks : (calls : List Lent) (area : List ℕ) (file op priority : ℕ)
+      → Marks (after start calls) area file op priority (openThen calls file)
+  demand2-marks calls area file op priority =
+      asked-marks (after start calls) area file op priority (openThen calls file)
+      (known-after file start none calls (good-start s₀ area₀ m w masks started) (known-start file s₀ area₀ m w masks started))
+
   -- "While only the pack writes the lent area": each call is given the area too that the last one left. The ledger of file i:
   abbrev pub account : List Call → ℕ → Ledger
   account calls i = ledgerAfter i start area₀ blankLedger calls
@@ -120,6 +153,6 @@ module _ (s₀ : State) (area₀ : List ℕ) (m w : ℕ) (masks : Masks) (starte
       → (file op priority : ℕ) (area : List ℕ) → isPriority priority ≡ false → answerOf (after start before) area (ask file op priority) .refusal ≡ 0
       → (later : List Lent) → count freshStart (answerOf (after start before) area (ask file op priority) .state) later ≡ 0
       → Answers (declaredOn start (fileAt (after start before) file .channel)) (fileAt (after start before) file .channel)
-      (fileAt (after start before) file .unit)
-      (after start before) (answerOf (after start before) area (ask file op priority) .state) later
+      (fileAt (after start before) file .unit) (bookAfter (fileAt (after start before) file .channel) start blankBook before)
+      (answerOf (after start before) area (ask file op priority) .state) later
   demand3 = answered s₀ area₀ m w masks started

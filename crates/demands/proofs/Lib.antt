@@ -1,6 +1,8 @@
 pub mod Refusals
 pub mod Buffers
-pub mod Turns
+pub mod Answering
 pub mod Blocks
+pub mod Results
+pub mod Marks
 pub mod Demands
 pub mod Examples

@@ -3,15 +3,13 @@
 use mathlib.Core.Path.{_≡_}
 use mathlib.Core.Logic.{_≢_}
 use mathlib.Core.Bool.{Bool, true, false, cond, _||_}
-use mathlib.Core.List.{List, _++_, map}
+use mathlib.Core.List.{List, [], _∷_, _++_, map}
 use Prim.Native.Nat.{ℕ, _+_, _*_, _≤_, _<_}
 use Rattle.area.specs.Refusals.{Given, NoneApplies}
 use Rattle.file.specs.declared.File.{File}
-use Rattle.channel_outcomes.specs.Rules.{mostReports}
 use Rattle.channel_turns.specs.Scans.{workingIn}
-use Rattle.area.specs.Lists.{isFound}
+use Rattle.area.specs.Lists.{isFound, countOf}
 use Rattle.channel.specs.Units.{operationAt}
-use Rattle.channel_theorems.specs.History.{urgentIn}
 use Rattle.pool.specs.Free.{heldBy, isFree, freeCount, holders, allHolding, Lowest}
 use Rattle.pool.specs.Serving.{serves}
 use Rattle.state.specs.declared.State.{State}
@@ -22,6 +20,7 @@ use Rattle.pack.specs.Calls.{Call, answerOf, numberAlone}
 use Rattle.pack.specs.Tables.{isTableNumber, rowsOf}
 use Rattle.demands_ledger.specs.Ledgers.{Ledger, dataOf}
 use Rattle.demands_ledger.specs.Blocks.{blocksIn, unreadOf, partIn, allChecked, joined, contents}
+use Rattle.pack.specs.Books.{Book, isUrgent}
 use Rattle.pack.specs.Histories.{Lent, after, count, isReportOn, isAnswerFor, isPriorityOn, isRequestOf}
 
 -- ---- Demand 1: "Any call, with any numbers, words and lengths, gets an answer." `answerOf` is one answer for every state, area and call.
@@ -96,17 +95,25 @@ pub record Reads (w : ℕ) (f : File) (area : List ℕ) (g : Ledger) : Type 0 wh
 abbrev pub workingOrFrozen : State → ℕ → Bool
 workingOrFrozen s c = s .frozen || isFound (workingIn (channelAt s c))
 
--- "P counting that channel's priority requests unanswered at its acceptance or accepted until its answer": accepted in the state s, and
--- since then in the calls `later` from the state d
-abbrev pub priorities : ℕ → State → State → List Lent → ℕ
-priorities c s d later = urgentIn (channelAt s c) + count (isPriorityOn c) d later
+-- "Units 0 to 9 on each"
+abbrev pub allUnits : List ℕ
+allUnits = 0 ∷ 1 ∷ 2 ∷ 3 ∷ 4 ∷ 5 ∷ 6 ∷ 7 ∷ 8 ∷ 9 ∷ []
+
+-- the priority requests that were accepted and have no answer, by the book of the calls before; a unit has one at most
+abbrev pub unanswered : Book → ℕ
+unanswered b = countOf (λ u. isUrgent (b .requests u)) allUnits
+
+-- "P counting that channel's priority requests unanswered at its acceptance or accepted until its answer": b is the channel's book at the
+-- acceptance, and `later` are the calls since, from the state d
+abbrev pub priorities : ℕ → Book → State → List Lent → ℕ
+priorities c b d later = unanswered b + count (isPriorityOn c) d later
 
 -- of any calls `later` after its acceptance
-pub record Answers (U c u : ℕ) (s d : State) (later : List Lent) : Type 0 where
+pub record Answers (U c u : ℕ) (b : Book) (d : State) (later : List Lent) : Type 0 where
   -- "is answered at most once;": a second answer to the unit is to a later request of it
   pub once : count (isAnswerFor c u) d later ≤ 1 + count (isRequestOf c u) d later
   -- "until then its channel is working or frozen;" and no other request of the unit is accepted
   pub alive : count (isAnswerFor c u) d later ≡ 0 → workingOrFrozen (after d later) c ≡ true
   pub sole : count (isAnswerFor c u) d later ≡ 0 → count (isRequestOf c u) d later ≡ 0
   -- "its answer comes by the time 101 x (U + P) reports have been accepted on that channel since": until then there are fewer
-  pub soon : count (isAnswerFor c u) d later ≡ 0 → count (isReportOn c) d later < mostReports * (U + priorities c s d later)
+  pub soon : count (isAnswerFor c u) d later ≡ 0 → count (isReportOn c) d later < 101 * (U + priorities c b d later)

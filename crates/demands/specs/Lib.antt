@@ -1,2 +1,4 @@
 pub mod Demands
+pub mod Results
+pub mod Marks
 pub mod Examples

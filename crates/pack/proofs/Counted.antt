@@ -116,7 +116,7 @@ module _ (c : ℕ) where
       asks-match test reports e thaw = every-seen event (isAccepted (answerOf s area thaw)) history.thaw thaws
 
     -- the result of an accepted report is the channel's verdict; every result but 00 answers
-    result-is : (channel unit outcome : ℕ) (words : List ℕ) → reportBy s area channel unit outcome words .refusal ≡ 0
+    pub result-is : (channel unit outcome : ℕ) (words : List ℕ) → reportBy s area channel unit outcome words .refusal ≡ 0
         → reportBy s area channel unit outcome words .result ≡ resultNumber (judgeOf (channelAt s channel) unit outcome)
     unfolding reportBy reportOn reportRefusal rowsOf
     result-is channel unit outcome words z =

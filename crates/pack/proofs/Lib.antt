@@ -4,3 +4,5 @@ pub mod Seen
 pub mod Around
 pub mod Counted
 pub mod Turns
+pub mod Booking
+pub mod Marking

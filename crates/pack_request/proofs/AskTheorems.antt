@@ -16,6 +16,7 @@ use Rattle.channel.specs.declared.Channel.{Channel}
 use Rattle.channel_turns.specs.declared.Asked.{Asked}
 use Rattle.channel.specs.declared.Work.the-variants.{At}
 use Rattle.channel.specs.Units.{declaredAt, turnAt, isIdle, hasRequest, acceptsAt}
+use Rattle.channel_turns.specs.Scans.{workingIn, unitNumber}
 use Rattle.channel_theorems.specs.History.{station, ask, accepted, stepTo, askStep, step}
 use Rattle.channel_theorems.specs.Lifted.{Agrees}
 use Rattle.channel_turns.proofs.Laws.Starts as turns
@@ -31,14 +32,14 @@ use Rattle.state_sound.specs.Requests.{requested, isRead}
 use Rattle.state_sound.specs.Soundness.{sound}
 use Rattle.state_sound.proofs.Facts.{SoundFacts, sound-facts, facts-sound}
 use Rattle.state_sound.proofs.ChannelCalls.{ask-moved}
-use Rattle.state_sound.proofs.Kept.{line-of}
+use Rattle.state_sound.proofs.Kept.{line-of, place-of}
 use Rattle.call_request.specs.declared.AskChange.{AskChange}
 use Rattle.pack_request.specs.declared.Asking.{Asking}
 use Rattle.call_request.specs.Ask.{isReading, isWriting, isMarking, isPriority, opOf, askRows, askRefusal, askedFile, askedChannel, askOn}
 use Rattle.pack_request.specs.Calls.{askWrong, askBy}
 use Rattle.call_request.proofs.AskFound.{ask-refused, ask-taken}
 use Rattle.pack_request.proofs.Ready.{not-false, ready-facts, kind, asked-file}
-use Rattle.pack_request.proofs.Changed.{Frame, changed-refused, changed-taken, changed-frame, here-channel, became-sound}
+use Rattle.pack_request.proofs.Changed.{Frame, changed-refused, changed-taken, changed-frame, here-file, here-channel, became-sound}
 
 -- ---- what an accepted ask found
 
@@ -195,3 +196,18 @@ module _ (s : State) (file op priority : ℕ) where
   pub ask-event : asked .refusal ≡ 0 → Agrees (station c (s .frozen)) (some (record { event = ask (f .unit) (opOf op) (isPriority priority); answer = accepted }))
       (station (channelAt (asked .state) (f .channel)) (asked .state .frozen))
   ask-event z = asked-event (sym ask-number ∙ z)
+
+  -- the file after it, and the working unit that it adds
+  pub ask-file : asked .refusal ≡ 0 → fileAt (asked .state) file ≡ askedFile op f
+  unfolding askBy
+  ask-file z =
+      let n = sym ask-number ∙ z in
+      here-file s file (f .channel) _ _ _ (taken-change n) (place-of s file (found n .isOpen))
+      ∙ ap (λ (x : AskChange). x .file) (ask-taken (askWrong s file) f c op priority (s .frozen) refusal refl n)
+
+  pub ask-working : asked .refusal ≡ 0 → asked .working ≡ unitNumber (workingIn (channelAt (asked .state) (f .channel)))
+  unfolding askBy
+  ask-working z =
+      let n = sym ask-number ∙ z in
+      ap (λ (x : AskChange). x .working) (ask-taken (askWrong s file) f c op priority (s .frozen) refusal refl n)
+      ∙ ap (λ (d : Channel). unitNumber (workingIn d)) (sym (asked-channel n))

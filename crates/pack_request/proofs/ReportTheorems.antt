@@ -50,7 +50,7 @@ use Rattle.state_sound.specs.Judged.{fileReady}
 use Rattle.state_sound.proofs.Everywhere.{place-inside}
 use Rattle.state_sound.proofs.Facts.{Served, SoundFacts, sound-facts, facts-sound}
 use Rattle.state_sound.proofs.ChannelCalls.{repeat-moved, end-moved}
-use Rattle.state_sound.proofs.Kept.{line-of}
+use Rattle.state_sound.proofs.Kept.{line-of, place-of}
 use Rattle.word.specs.CheckWords.{address, chosen}
 use Rattle.word.specs.Sums.{logicalSum, firstHalf, folded}
 use Rattle.block.specs.Blocks.{dataWords, judgeRefusal, judgedBlock, errorOf}
@@ -61,7 +61,7 @@ use Rattle.call_request.specs.Effects.{effectOf, opEffect, isDelivery}
 use Rattle.call_request.specs.Report.{isIdleFor, takesNoWords, isForbidden, shownStart, shownCount, shownBlock, effectAt, reportRows, reportRefusal, deliveryError, reportedFile, refusedReport, reportOn, reportOnArea}
 use Rattle.pack_request.specs.Calls.{fileOf, reportWrong, reportBy, reportByArea}
 use Rattle.pack_request.proofs.Ready.{not-false, ended-file}
-use Rattle.pack_request.proofs.Changed.{Frame, changed-refused, changed-taken, changed-frame, here-channel, became-sound}
+use Rattle.pack_request.proofs.Changed.{Frame, changed-refused, changed-taken, changed-frame, here-file, here-channel, became-sound}
 
 -- ---- what a report that is booked comes to
 
@@ -379,3 +379,17 @@ module _ (s : State) (area : List ℕ) (channel unit outcome : ℕ) (words : Lis
   report-books-own n z =
       let y = sym report-number ∙ z in
       record { works = ready n y .works; bound = serves-it n y; only = only-file n y; others = report-frame }
+
+  -- the file after it, and the working unit that it adds
+  pub report-file : length (s .files) ≡ fileCount → reported .refusal ≡ 0 → fileAt (reported .state) i ≡ became
+  unfolding reportBy
+  report-file n z =
+      let y = sym report-number ∙ z in
+      here-file s i channel _ _ _ (booked-number y) (place-of s i (isOpen n y)) ∙ ap (λ (x : ReportChange). x .file) (change-booked y)
+
+  pub report-working : length (s .files) ≡ fileCount → reported .refusal ≡ 0
+      → reported .working ≡ unitNumber (workingIn (channelAt (reported .state) channel))
+  unfolding reportBy
+  report-working n z =
+      let y = sym report-number ∙ z in
+      ap (λ (x : ReportChange). x .working) (change-booked y) ∙ ap (λ (d : Channel). unitNumber (workingIn d)) (sym (reported-channel n y))

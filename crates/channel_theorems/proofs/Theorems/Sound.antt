@@ -81,6 +81,18 @@ verdict-again r outcome q = byRow (isAllowed (r .op) outcome) (not (isFailure ou
     byRow true false true i e = absurd (let z : _≡_ {A = ℕ} 0 1 = cc in omega arith)
     byRow true false false i e = let same : nextAttempt r outcome ≡ q = cc in subst (λ (k : Request). Again r k) same (again-next r outcome i)
 
+-- it is the same request with one attempt more
+pub verdict-next : (r : Request) (outcome : ℕ) (q : Request) → verdictOf r outcome ≡ Repeats q → nextAttempt r outcome ≡ q
+unfolding verdictOf
+verdict-next r outcome q = byRow (isAllowed (r .op) outcome) (not (isFailure outcome) || isPermanent r outcome)
+  where
+    byRow : (a e : Bool)
+        → cond a (cond e (Ends (endingOf (r .op) (r .attempts) outcome)) (Repeats (nextAttempt r outcome))) (Refused 12) ≡ Repeats q
+        → nextAttempt r outcome ≡ q
+    byRow false e i = absurd (let z : _≡_ {A = ℕ} 0 1 = cc in omega arith)
+    byRow true true i = absurd (let z : _≡_ {A = ℕ} 0 1 = cc in omega arith)
+    byRow true false i = let same : nextAttempt r outcome ≡ q = cc in same
+
 pub again-counted : (r q : Request) → Again r q → Counted r → Counted q
 again-counted r q a k = record { from = omega (arith, a .more); limit = a .left; words = a .words (k .words) }
 

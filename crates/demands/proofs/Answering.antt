@@ -1,16 +1,25 @@
 -- Demand 3 from what the system around a channel keeps: the same counts, in the pack's own words. Assumes nothing.
 use mathlib.Core.Path.{_≡_, refl, sym, ap, subst, _∙_}
-use mathlib.Core.Bool.{true, false}
-use mathlib.Core.Option.{some}
+use mathlib.Core.Bool.{Bool, true, false, cond}
+use mathlib.Core.Option.{Option, none, some}
 use mathlib.Core.List.{List}
 use Prim.Native.Nat.{ℕ, _+_, _*_, _<_}
 use native.Mathlib.Omega.{arith}
 use borrow.Author.Tests.{eq-eqb}
+use Rattle.area.specs.Lists.{countOf}
 use Rattle.channel.specs.declared.Op.{Op}
+use Rattle.channel.specs.declared.Turn.{Turn}
+use Rattle.channel.specs.declared.Turn.the-variants.{Idle, Waiting, Displaced, Working}
+use Rattle.channel.specs.declared.Unit.{Unit}
+use Rattle.channel.specs.declared.Channel.{Channel}
+use Rattle.channel.specs.Units.{unitCount, size, idleUnit, turnAt}
 use Rattle.channel_outcomes.specs.Rules.{mostReports}
 use Rattle.channel_theorems.specs.History as history
-use Rattle.channel_theorems.specs.History.{accepted, aReport, aPriority, aRequestOf, anAnswerTo, urgentIn, isAlive}
-use Rattle.channel_theorems.specs.Lifted.{runIn, KeptIn}
+use Rattle.channel_theorems.specs.History.{accepted, aReport, aPriority, aRequestOf, anAnswerTo, holdsPriority, urgentIn, isAlive}
+use Rattle.channel_theorems.specs.Lifted.{runIn, countIn, KeptIn}
+use Rattle.channel_theorems.proofs.Laws.Sums.{sum, sum-le, count-sum}
+use Rattle.channel_theorems.proofs.Theorems.Turning.{held}
+use Rattle.channel_theorems.proofs.Theorems.Bookings.{urgentHeld}
 use Rattle.state.specs.declared.State.{State}
 use Rattle.state.specs.Places.{fileAt, channelAt}
 use Rattle.pack_start.specs.declared.Masks.{Masks}
@@ -19,17 +28,50 @@ use Rattle.pack_start.proofs.FreshTheorems.{fresh-accepted}
 use Rattle.call_request.specs.Ask.{opOf, isPriority}
 use Rattle.pack.specs.Calls.{fresh, ask, answerOf}
 use Rattle.pack.specs.Histories.{Lent, after, count, freshStart, isReportOn, isAnswerFor, isPriorityOn, isRequestOf, declaredOn}
+use Rattle.pack.specs.Books.{Pending, Book, blankBook, isUrgent, bookAfter}
 use Rattle.pack.proofs.Kept.{Good, good-start, history-kept, call-kept}
 use Rattle.pack.proofs.Seen.{stationAt, seen, nextOf}
 use Rattle.pack.proofs.Around.{packAround, run-same, count-same}
 use Rattle.pack.proofs.Counted.{report-matches, answer-matches, priority-matches, request-matches}
 use Rattle.pack.proofs.Turns.{fresh-declared, turns-kept}
-use Rattle.demands.specs.Demands.{Answers}
+use Rattle.pack.proofs.Booking.{asHeld, Shows, shows-start, shows-after}
+use Rattle.demands.specs.Demands.{unanswered, Answers}
 
--- in the pack's words
-in-words : (U c u : ℕ) (s d : State) (later : List Lent) → Good d → count freshStart d later ≡ 0 → KeptIn (packAround c) U u s d later
-    → Answers U c u s d later
-in-words U c u s d later g z K =
+-- ---- the priority requests without an answer, by the history
+
+sum-same : (n : ℕ) (f g : ℕ → ℕ) → ((x : ℕ) → f x ≡ g x) → sum n f ≡ sum n g
+sum-same n f g e =
+    let a = sum-le n f g (λ x l. omega (arith, e x)) in
+    let b = sum-le n g f (λ x l. omega (arith, e x)) in
+    omega arith
+
+urgent-same : (t : Turn) (h : Option Pending) → held t ≡ asHeld h → holdsPriority t ≡ isUrgent h
+urgent-same t h e = of-turn t ∙ ap urgentHeld e ∙ of-book h
+  where
+    of-turn : (x : Turn) → holdsPriority x ≡ urgentHeld (held x)
+    of-turn Idle = refl
+    of-turn (Waiting q) = refl
+    of-turn (Displaced q) = refl
+    of-turn (Working q) = refl
+
+    of-book : (x : Option Pending) → urgentHeld (asHeld x) ≡ isUrgent x
+    of-book none = refl
+    of-book (some p) = refl
+
+urgent-counted : (c : Channel) (b : Book) → ((u : ℕ) → held (turnAt c u) ≡ asHeld (b .requests u)) → size c ≡ unitCount → urgentIn c ≡ unanswered b
+unfolding urgentIn sum countOf
+urgent-counted c b holds long =
+    count-sum (λ (x : Unit). holdsPriority (x .turn)) (idleUnit false) (c .units)
+    ∙ ap (λ (n : ℕ). sum n (λ x. cond (holdsPriority (turnAt c x)) 1 0)) long
+    ∙ sum-same unitCount (λ x. cond (holdsPriority (turnAt c x)) 1 0) (λ x. cond (isUrgent (b .requests x)) 1 0)
+    (λ x. ap (λ (t : Bool). cond t 1 0) (urgent-same (turnAt c x) (b .requests x) (holds x)))
+    ∙ omega arith
+
+-- ---- in the pack's words
+
+in-words : (U c u : ℕ) (s d : State) (b : Book) (later : List Lent) → Good d → Shows (stationAt c s) b → count freshStart d later ≡ 0
+    → KeptIn (packAround c) U u s d later → Answers U c u b d later
+in-words U c u s d b later g S z K =
     let a = count-same c (isAnswerFor c u) (anAnswerTo u) (answer-matches c u) d later g z in
     let r = count-same c (isRequestOf c u) (aRequestOf u) (request-matches c u) d later g z in
     let n = count-same c (isReportOn c) aReport (report-matches c) d later g z in
@@ -39,8 +81,10 @@ in-words U c u s d later g z K =
       alive = λ e. subst (λ (t : State). isAlive (stationAt c t) ≡ true) (run-same c d later z) (K .alive (a ∙ e));
       sole = λ e. let k = K .sole (a ∙ e) in omega arith;
       soon =
-          λ e. let k = K .soon (a ∙ e) in subst (λ (i : ℕ). count (isReportOn c) d later < mostReports * (U + (urgentIn (channelAt s c) + i))) p
-          (omega arith);
+          λ e. let k = K .soon (a ∙ e) in
+          subst (λ (i : ℕ). count (isReportOn c) d later < mostReports * (U + (unanswered b + i))) p
+          (subst (λ (i : ℕ). count (isReportOn c) d later < mostReports * (U + (i + countIn (packAround c) aPriority d later)))
+          (urgent-counted (channelAt s c) b (S .holds) (S .long)) (omega arith));
     }
 
 -- in the states that the calls lead to
@@ -82,13 +126,14 @@ module _ (s₀ : State) (area₀ : List ℕ) (m w : ℕ) (masks : Masks) (starte
       seen-ask =
           rw (eq-eqb (answerOf s area (ask file op priority) .refusal) 0 asked, eq-eqb (fileAt s file .channel) (fileAt s file .channel) refl, ordinary)
 
-      pub answered : Answers (declaredOn start (fileAt s file .channel)) (fileAt s file .channel) (fileAt s file .unit) s
-          (answerOf s area (ask file op priority) .state) later
+      pub answered : Answers (declaredOn start (fileAt s file .channel)) (fileAt s file .channel) (fileAt s file .unit)
+          (bookAfter (fileAt s file .channel) start blankBook before) (answerOf s area (ask file op priority) .state) later
       unfolding Kept
       answered =
           let g = good-start s₀ area₀ m w masks started in
           in-words (declaredOn start (fileAt s file .channel)) (fileAt s file .channel) (fileAt s file .unit) s
-          (answerOf s area (ask file op priority) .state) later
-          (call-kept s area (history-kept start before g) (ask file op priority)) noLater
+          (answerOf s area (ask file op priority) .state) (bookAfter (fileAt s file .channel) start blankBook before) later
+          (call-kept s area (history-kept start before g) (ask file op priority))
+          (shows-after (fileAt s file .channel) start blankBook before g (shows-start (fileAt s file .channel) s₀ area₀ m w masks started)) noLater
           (from-start (fileAt s file .channel) m w masks (fileAt s file .unit) (opOf op) (record { call = ask file op priority; area = area }) before
           later start start-is g noSecond seen-ask)

@@ -1,0 +1,92 @@
+-- An ask is refused 10 by what the history says of its file. Assumes nothing.
+use mathlib.Core.Path.{_≡_, refl, sym, _∙_}
+use mathlib.Core.Logic.{_≢_}
+use mathlib.Core.Bool.{Bool, true, false, not, _&&_}
+use mathlib.Core.Option.{Option, none, some}
+use mathlib.Core.List.{List, [], _∷_}
+use Prim.Native.Nat.{ℕ, _≤_}
+use native.Mathlib.Omega.{arith}
+use borrow.Author.Tests.{eqb-true, eq-eqb}
+use Rattle.area.specs.Refusals.{Rows, lowest}
+use Rattle.area.proofs.Walks.{true-not-false, and-left, and-right, and-both}
+use Rattle.channel.specs.declared.Channel.{Channel}
+use Rattle.file.specs.declared.File.{File}
+use Rattle.state.specs.declared.State.{State}
+use Rattle.state.specs.Places.{fileAt, channelAt}
+use Rattle.call_request.specs.Ask.{isReading, askRows, askRefusal}
+use Rattle.pack_request.specs.Calls.{askWrong}
+use Rattle.pack_request.proofs.Ready.{not-false}
+use Rattle.pack_request.proofs.AskTheorems.{ask-ready, ask-exactly}
+use Rattle.pack.specs.Calls.{ask, answerOf}
+use Rattle.pack.specs.Books.{Opened}
+use Rattle.pack.proofs.Marking.{Known}
+use Rattle.demands.specs.Marks.{Marks}
+
+-- ---- rows of a table
+
+-- a row with another number than the one given does not apply
+row-past : (n m : ℕ) (b : Bool) (rows : Rows) → n ≢ m → lowest ((m, b) ∷ rows) ≡ n → (b ≡ false) × (lowest rows ≡ n)
+unfolding lowest
+row-past n m true rows ne e = absurd (ne (sym e))
+row-past n m false rows ne e = (refl, e)
+
+row-ten : (x y : Bool) → lowest ((10, x) ∷ (15, y) ∷ []) ≡ 10 → x ≡ true
+unfolding lowest
+row-ten true y e = refl
+row-ten false true e = absurd (omega arith)
+row-ten false false e = absurd (omega arith)
+
+row-most : (n m : ℕ) (b : Bool) (rows : Rows) → n ≤ m → lowest rows ≤ m → lowest ((n, b) ∷ rows) ≤ m
+unfolding lowest
+row-most n m true rows l k = l
+row-most n m false rows l k = k
+
+row-here : (n m : ℕ) (b : Bool) (rows : Rows) → n ≤ m → b ≡ true → lowest ((n, b) ∷ rows) ≤ m
+unfolding lowest
+row-here n m true rows l e = l
+row-here n m false rows l e = true-not-false e refl
+
+-- ---- an ask
+
+module _ (s : State) (area : List ℕ) (file op priority : ℕ) where
+  abbrev f : File
+  f = fileAt s file
+
+  abbrev c : Channel
+  c = channelAt s (f .channel)
+
+  number : answerOf s area (ask file op priority) .refusal ≡ lowest (askRows (askWrong s file) f c op priority)
+  unfolding answerOf
+  number = ask-exactly s file op priority .number
+
+  ten-only : answerOf s area (ask file op priority) .refusal ≡ 10 → (op ≡ 0) × (f .opened ≡ true) × (f .marked ≡ true)
+  ten-only e =
+      let a = row-past 10 1 _ _ (λ q. omega arith) (sym number ∙ e) in
+      let b = row-past 10 5 (not (f .opened)) _ (λ q. omega arith) (a .1) in
+      let d = row-past 10 6 _ _ (λ q. omega arith) (b .1) in
+      let g = row-past 10 8 _ _ (λ q. omega arith) (d .1) in
+      let h = row-past 10 9 _ _ (λ q. omega arith) (g .1) in
+      let k = row-ten (isReading op && f .marked) _ (h .1) in
+      (eqb-true op 0 (and-left (isReading op) _ k), not-false (f .opened) (b .0), and-right (isReading op) _ k)
+
+  ten-refuses : op ≡ 0 → f .marked ≡ true
+      → (answerOf s area (ask file op priority) .refusal ≢ 0) × (answerOf s area (ask file op priority) .refusal ≤ 10)
+  unfolding askRefusal
+  ten-refuses r m =
+      let row : (isReading op && f .marked) ≡ true = and-both (isReading op) _ (eq-eqb op 0 r) m in
+      let most : lowest (askRows (askWrong s file) f c op priority) ≤ 10 =
+      row-most 1 10 _ _ (omega arith) (row-most 5 10 _ _ (omega arith) (row-most 6 10 _ _ (omega arith) (row-most 8 10 _ _ (omega arith)
+      (row-most 9 10 _ _ (omega arith) (row-here 10 10 (isReading op && f .marked) _ (omega arith) row))))) in (
+        λ z. true-not-false row (ask-ready (askWrong s file) f c op priority (sym number ∙ z) .unmarked),
+        omega (arith, number, most),
+      )
+
+  pub asked-marks : (o : Option Opened) → Known f o → Marks s area file op priority o
+  asked-marks none K = record {
+    only = λ e. let x = ten-only e in true-not-false (x .1) K;
+    refuses = λ r m. true-not-false m refl;
+  }
+  asked-marks (some x) K = record {
+    only = λ e. let y = ten-only e in (y .0, sym (K .marked) ∙ y .2);
+    refuses = λ r m. ten-refuses r (K .marked ∙ m);
+  }

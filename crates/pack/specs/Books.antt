@@ -1,0 +1,145 @@
+-- What a history says of the requests on a channel, and of a file's mark: noted from the calls and their answers alone. Assumes nothing.
+use Prim.Native.Nat.{ℕ, _+_}
+use mathlib.Core.Bool.{Bool, true, false, not, cond, _&&_, _||_}
+use mathlib.Core.Option.{Option, none, some}
+use mathlib.Core.List.{List, [], _∷_}
+use lib.Dec.{eqb}
+use Rattle.channel.specs.declared.Op.{Op}
+use Rattle.channel.specs.declared.Op.the-variants.{Read, Write, Mark}
+use Rattle.state.specs.declared.State.{State}
+use Rattle.state.specs.Places.{fileAt}
+use Rattle.pack.specs.Calls.{Call, fresh, opening, close, ask, report, get, put, seal, skip, freeze, thaw, Added, nothing, working, reported, got, Answer}
+use Rattle.pack.specs.Histories.{Lent, answerTo, isAccepted}
+
+-- "Report adds result, ..": the result that an answer gives
+abbrev pub toldResult : Added → ℕ
+toldResult nothing = 0
+toldResult (working u) = 0
+toldResult (reported result error u) = result
+toldResult (got g) = 0
+
+-- ---- the requests on a channel
+
+-- "operation(0 read, 1 write, 2 mark)"
+abbrev pub operation : ℕ → Op
+operation op = cond (eqb op 0) Read (cond (eqb op 1) Write Mark)
+
+-- a request that has no answer yet; how many of its attempts have failed since it was accepted, and how many of these failures were an
+-- incomplete word
+pub record Pending : Type 0 where
+  pub op : Op
+  pub priority : Bool
+  pub failures : ℕ
+  pub incomplete : ℕ
+
+-- of a channel: the request of each unit that has no answer yet; the unit of the last ordinary request that was answered, if any was since the
+-- fresh start; and whether the pack is frozen
+pub record Book : Type 0 where
+  pub requests : ℕ → Option Pending
+  pub last : Option ℕ
+  pub frozen : Bool
+
+-- as a fresh start leaves it
+abbrev pub blankBook : Book
+blankBook = record { requests = λ u. none; last = none; frozen = false }
+
+abbrev pub isUrgent : Option Pending → Bool
+isUrgent none = false
+isUrgent (some p) = p .priority
+
+abbrev pub isOrdinary : Option Pending → Bool
+isOrdinary none = false
+isOrdinary (some p) = not (p .priority)
+
+-- "priority(0/1)"
+abbrev pub accepted : ℕ → ℕ → Pending
+accepted op priority = record { op = operation op; priority = eqb priority 1; failures = 0; incomplete = 0 }
+
+-- "2 incomplete word"
+abbrev pub failedOnce : ℕ → Pending → Pending
+failedOnce outcome p = record {
+  op = p .op;
+  priority = p .priority;
+  failures = p .failures + 1;
+  incomplete = cond (eqb outcome 2) (p .incomplete + 1) (p .incomplete);
+}
+
+abbrev pub failed : ℕ → Option Pending → Option Pending
+failed outcome none = none
+failed outcome (some p) = some (failedOnce outcome p)
+
+abbrev pub withRequest : ℕ → Option Pending → Book → Book
+withRequest u r b = record { requests = λ y. cond (eqb y u) r (b .requests y); last = b .last; frozen = b .frozen }
+
+abbrev pub withAnswer : ℕ → Book → Book
+withAnswer u b = record {
+  requests = λ y. cond (eqb y u) none (b .requests y);
+  last = cond (isOrdinary (b .requests u)) (some u) (b .last);
+  frozen = b .frozen;
+}
+
+abbrev pub withFreeze : Bool → Book → Book
+withFreeze frozen b = record { requests = b .requests; last = b .last; frozen = frozen }
+
+-- the book of channel c after an accepted call in the state s; "results are 00 repeated, ..": every other result answers the request
+abbrev pub booked : ℕ → State → Call → Answer → Book → Book
+booked c s (fresh m w masks) a b = blankBook
+booked c s (opening file channel unit flags size rlen) a b = b
+booked c s (close file) a b = b
+booked c s (ask file op priority) a b =
+    cond (eqb (fileAt s file .channel) c) (withRequest (fileAt s file .unit) (some (accepted op priority)) b) b
+booked c s (report channel unit outcome words) a b =
+    cond (eqb channel c) (cond (eqb (toldResult (a .added)) 0) (withRequest unit (failed outcome (b .requests unit)) b) (withAnswer unit b)) b
+booked c s (get file) a b = b
+booked c s (put file words) a b = b
+booked c s (seal file) a b = b
+booked c s (skip file) a b = b
+booked c s freeze a b = withFreeze true b
+booked c s thaw a b = withFreeze false b
+
+-- a refused call enters no book
+abbrev pub noted : ℕ → State → Lent → Book → Book
+noted c s x b = cond (isAccepted (answerTo s x)) (booked c s (x .call) (answerTo s x) b) b
+
+unfoldable pub bookAfter : ℕ → State → Book → List Lent → Book
+bookAfter c s b [] = b
+bookAfter c s b (x ∷ h) = bookAfter c (answerTo s x .state) (noted c s x b) h
+
+-- ---- a file
+
+-- an open file: its unit, and whether a report for that unit has answered 03 since its open
+pub record Opened : Type 0 where
+  pub channel : ℕ
+  pub unit : ℕ
+  pub marked : Bool
+
+-- "03 mark"
+abbrev pub told : ℕ → ℕ → ℕ → Option Opened → Option Opened
+told channel unit result none = none
+told channel unit result (some f) =
+    some
+    (record {
+      channel = f .channel;
+      unit = f .unit;
+      marked = f .marked || (eqb (f .channel) channel && (eqb (f .unit) unit && eqb result 3));
+    })
+
+-- what is known of file i after an accepted call
+abbrev pub openedBy : ℕ → Call → Answer → Option Opened → Option Opened
+openedBy i (fresh m w masks) a o = none
+openedBy i (opening file channel unit flags size rlen) a o =
+    cond (eqb file i) (some (record { channel = channel; unit = unit; marked = false })) o
+openedBy i (close file) a o = cond (eqb file i) none o
+openedBy i (ask file op priority) a o = o
+openedBy i (report channel unit outcome words) a o = told channel unit (toldResult (a .added)) o
+openedBy i (get file) a o = o
+openedBy i (put file words) a o = o
+openedBy i (seal file) a o = o
+openedBy i (skip file) a o = o
+openedBy i freeze a o = o
+openedBy i thaw a o = o
+
+unfoldable pub openedAfter : ℕ → State → Option Opened → List Lent → Option Opened
+openedAfter i s o [] = o
+openedAfter i s o (x ∷ h) =
+    openedAfter i (answerTo s x .state) (cond (isAccepted (answerTo s x)) (openedBy i (x .call) (answerTo s x) o) o) h
