@@ -18,3 +18,4 @@ pub mod Lift
 pub mod Machine
 pub mod Bound
 pub mod Bookings
+pub mod Starting

@@ -1,12 +1,14 @@
 -- Demand 3 from what the system around a channel keeps: the same counts, in the pack's own words. Assumes nothing.
 use mathlib.Core.Path.{_≡_, refl, sym, ap, subst, _∙_}
+use mathlib.Core.Logic.{inl, inr}
 use mathlib.Core.Bool.{Bool, true, false, cond}
 use mathlib.Core.Option.{Option, none, some}
 use mathlib.Core.List.{List}
 use Prim.Native.Nat.{ℕ, _+_, _*_, _<_}
 use native.Mathlib.Omega.{arith}
 use borrow.Author.Tests.{eq-eqb}
-use Rattle.area.specs.Lists.{countOf}
+use Rattle.area.specs.Lists.{countOf, isFound}
+use Rattle.area.proofs.Walks.{or-either}
 use Rattle.channel.specs.declared.Op.{Op}
 use Rattle.channel.specs.declared.Turn.{Turn}
 use Rattle.channel.specs.declared.Turn.the-variants.{Idle, Waiting, Displaced, Working}
@@ -14,12 +16,13 @@ use Rattle.channel.specs.declared.Unit.{Unit}
 use Rattle.channel.specs.declared.Channel.{Channel}
 use Rattle.channel.specs.Units.{unitCount, size, idleUnit, turnAt}
 use Rattle.channel_outcomes.specs.Rules.{mostReports}
+use Rattle.channel_turns.specs.Scans.{workingIn}
 use Rattle.channel_theorems.specs.History as history
 use Rattle.channel_theorems.specs.History.{accepted, aReport, aPriority, aRequestOf, anAnswerTo, holdsPriority, urgentIn, isAlive}
 use Rattle.channel_theorems.specs.Lifted.{runIn, countIn, KeptIn}
 use Rattle.channel_theorems.proofs.Laws.Sums.{sum, sum-le, count-sum}
 use Rattle.channel_theorems.proofs.Theorems.Turning.{held}
-use Rattle.channel_theorems.proofs.Theorems.Bookings.{urgentHeld}
+use Rattle.channel_theorems.proofs.Theorems.Bookings.{urgentHeld, found-busy}
 use Rattle.state.specs.declared.State.{State}
 use Rattle.state.specs.Places.{fileAt, channelAt}
 use Rattle.pack_start.specs.declared.Masks.{Masks}
@@ -35,7 +38,7 @@ use Rattle.pack.proofs.Around.{packAround, run-same, count-same}
 use Rattle.pack.proofs.Counted.{report-matches, answer-matches, priority-matches, request-matches}
 use Rattle.pack.proofs.Turns.{fresh-declared, turns-kept}
 use Rattle.pack.proofs.Booking.{asHeld, Shows, shows-start, shows-after}
-use Rattle.demands.specs.Demands.{unanswered, Answers}
+use Rattle.demands.specs.Demands.{unanswered, WorkingOrFrozen, Answers}
 
 -- ---- the priority requests without an answer, by the history
 
@@ -67,6 +70,13 @@ urgent-counted c b holds long =
     (λ x. ap (λ (t : Bool). cond t 1 0) (urgent-same (turnAt c x) (b .requests x) (holds x)))
     ∙ omega arith
 
+-- ---- working or frozen
+
+works-or : (s : State) (c : ℕ) → isAlive (stationAt c s) ≡ true → WorkingOrFrozen s c
+works-or s c e =
+    or-either (s .frozen) (isFound (workingIn (channelAt s c))) e inr
+    (λ f. let k = found-busy (channelAt s c) f in inl (record { unit = k .unit; works = k .works }))
+
 -- ---- in the pack's words
 
 in-words : (U c u : ℕ) (s d : State) (b : Book) (later : List Lent) → Good d → Shows (stationAt c s) b → count freshStart d later ≡ 0
@@ -78,7 +88,7 @@ in-words U c u s d b later g S z K =
     let p = count-same c (isPriorityOn c) aPriority (priority-matches c) d later g z in
     record {
       once = let k = K .once in omega arith;
-      alive = λ e. subst (λ (t : State). isAlive (stationAt c t) ≡ true) (run-same c d later z) (K .alive (a ∙ e));
+      alive = λ e. works-or (after d later) c (subst (λ (t : State). isAlive (stationAt c t) ≡ true) (run-same c d later z) (K .alive (a ∙ e)));
       sole = λ e. let k = K .sole (a ∙ e) in omega arith;
       soon =
           λ e. let k = K .soon (a ∙ e) in

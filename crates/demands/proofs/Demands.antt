@@ -17,8 +17,8 @@ use Rattle.state_sound.specs.Soundness.{sound}
 use Rattle.pack_start.specs.declared.Masks.{Masks}
 use Rattle.call_request.specs.Ask.{isPriority}
 use Rattle.pack.specs.Calls.{Call, fresh, opening, close, ask, report, answerOf}
-use Rattle.pack.specs.Histories.{Lent, after, count, freshStart, declaredOn}
-use Rattle.pack.specs.Books.{Book, Opened, toldResult, blankBook, bookAfter, openedAfter}
+use Rattle.pack.specs.Histories.{Lent, answerTo, after, count, freshStart, declaredOn}
+use Rattle.pack.specs.Books.{Book, Opened, toldResult, blankBook, noted, bookAfter, openedAfter}
 use Rattle.pack.proofs.Kept.{Good, good-before, start-judged, good-start, history-kept}
 use Rattle.demands_ledger.specs.Ledgers.{Ledger, blankLedger, toldError, stateAfter, areaAfter, ledgerAfter}
 use Rattle.demands_ledger.specs.Blocks.{joined}
@@ -29,12 +29,14 @@ use Rattle.pack.proofs.Booking.{Shows, shows-start, shows-after}
 use Rattle.pack.proofs.Marking.{known-start, known-after}
 use Rattle.demands.specs.Results.{Results}
 use Rattle.demands.specs.Marks.{Marks}
+use Rattle.demands.specs.Turns.{Turns, Continues, toldWorking, Tells}
 use Rattle.demands.specs.Demands.{Refuses, Holds, Frees, Takes, Books, dataIn, Writes, Reads, Answers}
 use Rattle.demands.proofs.Refusals.{refuses}
 use Rattle.demands.proofs.Buffers.{good-holds, closed-frees, opened-takes, reported-books}
 use Rattle.demands.proofs.Blocks.{ledger-writes, ledger-closed, ledger-reads, ledger-judged}
 use Rattle.demands.proofs.Results.{reported-results}
 use Rattle.demands.proofs.Marks.{asked-marks}
+use Rattle.demands.proofs.Turns.{call-turns, report-continues, ask-tells, report-tells}
 use Rattle.demands.proofs.Answering.{answered}
 
 -- "Any call, with any numbers, words and lengths, gets an answer. A refusal carries one number of document 01's table, is given exactly
@@ -104,6 +106,39 @@ module _ (s₀ : State) (area₀ : List ℕ) (m w : ℕ) (masks : Masks) (starte
       → Results (bookThen calls channel) unit outcome (toldResult (answerOf (after start calls) area (report channel unit outcome words) .added))
   demand2-results calls area channel unit outcome words =
       reported-results (after start calls) area channel unit outcome words (good calls) (bookThen calls channel) (shows calls channel)
+
+  -- who works on channel c after a call x that is accepted: the book has the call in it
+  abbrev pub bookWith : List Lent → Lent → ℕ → Book
+  bookWith calls x c = noted c (after start calls) x (bookThen calls c)
+
+  pub demand2-turns : (calls : List Lent) (x : Lent) (c : ℕ) → answerTo (after start calls) x .refusal ≡ 0
+      → Turns c (after start calls) (x .call) (answerTo (after start calls) x .state) (bookWith calls x c)
+  demand2-turns calls x c = call-turns c (after start calls) (x .area) (good calls) (bookThen calls c) (shows calls c) (x .call)
+
+  -- after a report on that channel: "a waiting priority request starts, displacing an incomplete ordinary one; else the incomplete operation
+  -- continues; else a scan starts a waiting or displaced one."
+  pub demand2-continues : (calls : List Lent) (area : List ℕ) (channel unit outcome : ℕ) (words : List ℕ)
+      → answerOf (after start calls) area (report channel unit outcome words) .refusal ≡ 0
+      → Continues channel unit (toldResult (answerOf (after start calls) area (report channel unit outcome words) .added))
+      (answerOf (after start calls) area (report channel unit outcome words) .state)
+      (bookWith calls (record { call = report channel unit outcome words; area = area }) channel)
+  demand2-continues calls area channel unit outcome words =
+      report-continues (after start calls) area (good calls) channel unit outcome words (bookThen calls channel) (shows calls channel)
+
+  -- and the answers tell who works: "ask adds the channel's working unit, FF for none. Report adds .. working unit"
+  pub demand2-asked : (calls : List Lent) (area : List ℕ) (file op priority : ℕ) → answerOf (after start calls) area (ask file op priority) .refusal ≡ 0
+      → Tells (answerOf (after start calls) area (ask file op priority) .state) (fileAt (after start calls) file .channel)
+      (toldWorking (answerOf (after start calls) area (ask file op priority) .added))
+  demand2-asked calls area file op priority =
+      ask-tells (after start calls) area (good calls) file op priority (bookThen calls (fileAt (after start calls) file .channel))
+      (shows calls (fileAt (after start calls) file .channel))
+
+  pub demand2-reported : (calls : List Lent) (area : List ℕ) (channel unit outcome : ℕ) (words : List ℕ)
+      → answerOf (after start calls) area (report channel unit outcome words) .refusal ≡ 0
+      → Tells (answerOf (after start calls) area (report channel unit outcome words) .state) channel
+      (toldWorking (answerOf (after start calls) area (report channel unit outcome words) .added))
+  demand2-reported calls area channel unit outcome words =
+      report-tells (after start calls) area (good calls) channel unit outcome words (bookThen calls channel) (shows calls channel)
 
   -- an ask read is refused 10 exactly if a file mark has been read since the open, and no lower number is given
   pub demand2-marks : (calls : List Lent) (area : List ℕ) (file op priority : ℕ)

@@ -4,5 +4,6 @@ pub mod Answering
 pub mod Blocks
 pub mod Results
 pub mod Marks
+pub mod Turns
 pub mod Demands
 pub mod Examples

@@ -1,5 +1,5 @@
 -- An ask is refused 10 by what the history says of its file. Assumes nothing.
-use mathlib.Core.Path.{_≡_, refl, sym, _∙_}
+use mathlib.Core.Path.{_≡_, refl, sym, ap, _∙_}
 use mathlib.Core.Logic.{_≢_}
 use mathlib.Core.Bool.{Bool, true, false, not, _&&_}
 use mathlib.Core.Option.{Option, none, some}
@@ -83,10 +83,14 @@ module _ (s : State) (area : List ℕ) (file op priority : ℕ) where
 
   pub asked-marks : (o : Option Opened) → Known f o → Marks s area file op priority o
   asked-marks none K = record {
+    bound = λ x e. absurd (let z : _≡_ {A = ℕ} 0 1 = cc in omega arith);
+    shut = λ e. K;
     only = λ e. let x = ten-only e in true-not-false (x .1) K;
     refuses = λ r m. true-not-false m refl;
   }
   asked-marks (some x) K = record {
+    bound = λ y e. let same : x ≡ y = cc in (K .opened, K .channel ∙ ap (λ (z : Opened). z .channel) same, K .unit ∙ ap (λ (z : Opened). z .unit) same);
+    shut = λ e. absurd (let z : _≡_ {A = ℕ} 0 1 = cc in omega arith);
     only = λ e. let y = ten-only e in (y .0, sym (K .marked) ∙ y .2);
     refuses = λ r m. ten-refuses r (K .marked ∙ m);
   }

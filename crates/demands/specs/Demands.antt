@@ -1,14 +1,13 @@
 -- The user's demands, sentence by sentence, as statements of the pack's own definitions. `proofs/Demands` proves each by one citation.
 -- Assumes nothing.
 use mathlib.Core.Path.{_≡_}
-use mathlib.Core.Logic.{_≢_}
-use mathlib.Core.Bool.{Bool, true, false, cond, _||_}
+use mathlib.Core.Logic.{_≢_, _⊎_}
+use mathlib.Core.Bool.{true, false, cond}
 use mathlib.Core.List.{List, [], _∷_, _++_, map}
 use Prim.Native.Nat.{ℕ, _+_, _*_, _≤_, _<_}
 use Rattle.area.specs.Refusals.{Given, NoneApplies}
 use Rattle.file.specs.declared.File.{File}
-use Rattle.channel_turns.specs.Scans.{workingIn}
-use Rattle.area.specs.Lists.{isFound, countOf}
+use Rattle.area.specs.Lists.{countOf}
 use Rattle.channel.specs.Units.{operationAt}
 use Rattle.pool.specs.Free.{heldBy, isFree, freeCount, holders, allHolding, Lowest}
 use Rattle.pool.specs.Serving.{serves}
@@ -20,6 +19,7 @@ use Rattle.pack.specs.Calls.{Call, answerOf, numberAlone}
 use Rattle.pack.specs.Tables.{isTableNumber, rowsOf}
 use Rattle.demands_ledger.specs.Ledgers.{Ledger, dataOf}
 use Rattle.demands_ledger.specs.Blocks.{blocksIn, unreadOf, partIn, allChecked, joined, contents}
+use Rattle.demands.specs.Turns.{SomeWorks}
 use Rattle.pack.specs.Books.{Book, isUrgent}
 use Rattle.pack.specs.Histories.{Lent, after, count, isReportOn, isAnswerFor, isPriorityOn, isRequestOf}
 
@@ -92,8 +92,8 @@ pub record Reads (w : ℕ) (f : File) (area : List ℕ) (g : Ledger) : Type 0 wh
 -- ---- Demand 3: "an accepted ordinary request on a channel of U declared units", of unit u on channel c
 
 -- "its channel is working or frozen"
-abbrev pub workingOrFrozen : State → ℕ → Bool
-workingOrFrozen s c = s .frozen || isFound (workingIn (channelAt s c))
+abbrev pub WorkingOrFrozen : State → ℕ → Type 0
+WorkingOrFrozen s c = SomeWorks s c ⊎ (s .frozen ≡ true)
 
 -- "Units 0 to 9 on each"
 abbrev pub allUnits : List ℕ
@@ -113,7 +113,7 @@ pub record Answers (U c u : ℕ) (b : Book) (d : State) (later : List Lent) : Ty
   -- "is answered at most once;": a second answer to the unit is to a later request of it
   pub once : count (isAnswerFor c u) d later ≤ 1 + count (isRequestOf c u) d later
   -- "until then its channel is working or frozen;" and no other request of the unit is accepted
-  pub alive : count (isAnswerFor c u) d later ≡ 0 → workingOrFrozen (after d later) c ≡ true
+  pub alive : count (isAnswerFor c u) d later ≡ 0 → WorkingOrFrozen (after d later) c
   pub sole : count (isAnswerFor c u) d later ≡ 0 → count (isRequestOf c u) d later ≡ 0
   -- "its answer comes by the time 101 x (U + P) reports have been accepted on that channel since": until then there are fewer
   pub soon : count (isAnswerFor c u) d later ≡ 0 → count (isReportOn c) d later < 101 * (U + priorities c b d later)

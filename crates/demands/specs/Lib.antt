@@ -1,4 +1,5 @@
 pub mod Demands
 pub mod Results
 pub mod Marks
+pub mod Turns
 pub mod Examples
