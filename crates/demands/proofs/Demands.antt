@@ -27,14 +27,14 @@ use Rattle.demands_ledger.proofs.Always.{always, started as begun}
 use Rattle.pack.proofs.Seen.{stationAt}
 use Rattle.pack.proofs.Booking.{Shows, shows-start, shows-after}
 use Rattle.pack.proofs.Marking.{known-start, known-after}
-use Rattle.demands.specs.Results.{Results}
+use Rattle.demands.specs.Results.{Results, Forbids}
 use Rattle.demands.specs.Marks.{Marks}
 use Rattle.demands.specs.Turns.{Turns, Continues, toldWorking, Tells}
 use Rattle.demands.specs.Demands.{Refuses, Holds, Frees, Takes, Books, dataIn, Writes, Reads, Answers}
 use Rattle.demands.proofs.Refusals.{refuses}
 use Rattle.demands.proofs.Buffers.{good-holds, closed-frees, opened-takes, reported-books}
 use Rattle.demands.proofs.Blocks.{ledger-writes, ledger-closed, ledger-reads, ledger-judged}
-use Rattle.demands.proofs.Results.{reported-results}
+use Rattle.demands.proofs.Results.{reported-results, refused-forbids}
 use Rattle.demands.proofs.Marks.{asked-marks}
 use Rattle.demands.proofs.Turns.{call-turns, report-continues, ask-tells, report-tells}
 use Rattle.demands.proofs.Answering.{answered}
@@ -106,6 +106,12 @@ module _ (s₀ : State) (area₀ : List ℕ) (m w : ℕ) (masks : Masks) (starte
       → Results (bookThen calls channel) unit outcome (toldResult (answerOf (after start calls) area (report channel unit outcome words) .added))
   demand2-results calls area channel unit outcome words =
       reported-results (after start calls) area channel unit outcome words (good calls) (bookThen calls channel) (shows calls channel)
+
+  -- and a report is refused 12 only if the table has no result for its outcome
+  pub demand2-forbidden : (calls : List Lent) (area : List ℕ) (channel unit outcome : ℕ) (words : List ℕ)
+      → answerOf (after start calls) area (report channel unit outcome words) .refusal ≡ 12 → Forbids (bookThen calls channel) unit outcome
+  demand2-forbidden calls area channel unit outcome words =
+      refused-forbids (after start calls) area channel unit outcome words (bookThen calls channel) (shows calls channel)
 
   -- who works on channel c after a call x that is accepted: the book has the call in it
   abbrev pub bookWith : List Lent → Lent → ℕ → Book

@@ -2,6 +2,7 @@ pub mod Refusals
 pub mod Buffers
 pub mod Answering
 pub mod Blocks
+pub mod Rows
 pub mod Results
 pub mod Marks
 pub mod Turns

@@ -1,13 +1,13 @@
 -- An ask is refused 10 by what the history says of its file. Assumes nothing.
 use mathlib.Core.Path.{_≡_, refl, sym, ap, _∙_}
 use mathlib.Core.Logic.{_≢_}
-use mathlib.Core.Bool.{Bool, true, false, not, _&&_}
+use mathlib.Core.Bool.{true, not, _&&_}
 use mathlib.Core.Option.{Option, none, some}
-use mathlib.Core.List.{List, [], _∷_}
+use mathlib.Core.List.{List}
 use Prim.Native.Nat.{ℕ, _≤_}
 use native.Mathlib.Omega.{arith}
 use borrow.Author.Tests.{eqb-true, eq-eqb}
-use Rattle.area.specs.Refusals.{Rows, lowest}
+use Rattle.area.specs.Refusals.{lowest}
 use Rattle.area.proofs.Walks.{true-not-false, and-left, and-right, and-both}
 use Rattle.channel.specs.declared.Channel.{Channel}
 use Rattle.file.specs.declared.File.{File}
@@ -21,30 +21,7 @@ use Rattle.pack.specs.Calls.{ask, answerOf}
 use Rattle.pack.specs.Books.{Opened}
 use Rattle.pack.proofs.Marking.{Known}
 use Rattle.demands.specs.Marks.{Marks}
-
--- ---- rows of a table
-
--- a row with another number than the one given does not apply
-row-past : (n m : ℕ) (b : Bool) (rows : Rows) → n ≢ m → lowest ((m, b) ∷ rows) ≡ n → (b ≡ false) × (lowest rows ≡ n)
-unfolding lowest
-row-past n m true rows ne e = absurd (ne (sym e))
-row-past n m false rows ne e = (refl, e)
-
-row-ten : (x y : Bool) → lowest ((10, x) ∷ (15, y) ∷ []) ≡ 10 → x ≡ true
-unfolding lowest
-row-ten true y e = refl
-row-ten false true e = absurd (omega arith)
-row-ten false false e = absurd (omega arith)
-
-row-most : (n m : ℕ) (b : Bool) (rows : Rows) → n ≤ m → lowest rows ≤ m → lowest ((n, b) ∷ rows) ≤ m
-unfolding lowest
-row-most n m true rows l k = l
-row-most n m false rows l k = k
-
-row-here : (n m : ℕ) (b : Bool) (rows : Rows) → n ≤ m → b ≡ true → lowest ((n, b) ∷ rows) ≤ m
-unfolding lowest
-row-here n m true rows l e = l
-row-here n m false rows l e = true-not-false e refl
+use Rattle.demands.proofs.Rows.{row-past, row-given, row-most, row-here}
 
 -- ---- an ask
 
@@ -66,7 +43,7 @@ module _ (s : State) (area : List ℕ) (file op priority : ℕ) where
       let d = row-past 10 6 _ _ (λ q. omega arith) (b .1) in
       let g = row-past 10 8 _ _ (λ q. omega arith) (d .1) in
       let h = row-past 10 9 _ _ (λ q. omega arith) (g .1) in
-      let k = row-ten (isReading op && f .marked) _ (h .1) in
+      let k = row-given 10 15 (isReading op && f .marked) _ (omega arith) (λ q. omega arith) (h .1) in
       (eqb-true op 0 (and-left (isReading op) _ k), not-false (f .opened) (b .0), and-right (isReading op) _ k)
 
   ten-refuses : op ≡ 0 → f .marked ≡ true

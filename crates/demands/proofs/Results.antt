@@ -1,21 +1,21 @@
 -- The result of an accepted report is the table's, by what the history has counted. Assumes nothing.
 use mathlib.Core.Path.{_≡_, refl, sym, ap, subst, _∙_}
 use mathlib.Core.Bool.{Bool, true, false, cond, _||_}
-use mathlib.Core.Option.{Option, some}
+use mathlib.Core.Option.{Option, none, some}
 use mathlib.Core.List.{List}
 use Prim.Native.Nat.{ℕ, zero, suc, _+_, _≤_, _<_}
 use native.Mathlib.Decide.{ℕ-discrete}
 use native.Mathlib.Omega.{arith}
 use lib.Dec.{eqb, leb}
 use lib.ListN.{length}
-use borrow.Author.Tests.{eq-eqb, ne-eqb, leb-true, leb-false, le-leb}
+use borrow.Author.Tests.{eq-eqb, ne-eqb, leb-true, leb-false, le-leb, not-true}
 use Rattle.area.specs.Lists.{anyOf}
-use Rattle.area.proofs.Walks.{true-not-false, or-right}
+use Rattle.area.proofs.Walks.{true-not-false, or-left, or-right}
 use Rattle.channel.specs.declared.Op.{Op}
 use Rattle.channel.specs.declared.Op.the-variants.{Read, Write, Mark}
 use Rattle.channel.specs.declared.Request.{Request}
 use Rattle.channel.specs.declared.Turn.{Turn}
-use Rattle.channel.specs.declared.Turn.the-variants.{Working}
+use Rattle.channel.specs.declared.Turn.the-variants.{Idle, Waiting, Displaced, Working}
 use Rattle.channel.specs.declared.Channel.{Channel}
 use Rattle.channel.specs.Units.{unitCount, turnAt, workOf, operationAt}
 use Rattle.channel_outcomes.specs.declared.Ending.the-variants.{Good, Opposite, LostRedundancy, LostIncomplete}
@@ -27,7 +27,7 @@ use Rattle.channel_theorems.proofs.Theorems.Sound.{Counted, works}
 use Rattle.state.specs.declared.State.{State}
 use Rattle.state.specs.Places.{fileAt, channelAt}
 use Rattle.state_sound.proofs.Facts.{sound-facts}
-use Rattle.call_request.specs.Report.{isForbidden, reportRefusal}
+use Rattle.call_request.specs.Report.{isIdleFor, isForbidden, reportRefusal}
 use Rattle.pack_request.specs.Calls.{fileOf, reportWrong}
 use Rattle.pack_request.proofs.Ready.{not-false}
 use Rattle.pack_request.proofs.ReportTheorems.{Booked, again, ended, ReportReady, report-ready, report-exactly, view}
@@ -37,7 +37,8 @@ use Rattle.pack.proofs.Kept as kept
 use Rattle.pack.proofs.Seen.{stationAt}
 use Rattle.pack.proofs.Counted.{result-is}
 use Rattle.pack.proofs.Booking.{Held, holding, held-by, Shows}
-use Rattle.demands.specs.Results.{resultsOf, givenFor, Results}
+use Rattle.demands.specs.Results.{resultsOf, givenFor, Results, Forbids}
+use Rattle.demands.proofs.Rows.{row-past, row-given}
 
 -- ---- the table is what the rules come to
 
@@ -108,6 +109,27 @@ module _ (p : Bool) (a i : ℕ) where
   table-is Mark (suc (suc (suc (suc zero)))) l k h = refl
   table-is Mark (suc (suc (suc (suc (suc o))))) l k h = absurd (omega arith)
 
+  table-not : (op : Op) (o : ℕ) → o < 5 → isAllowed op o ≡ false → givenFor o (resultsOf op a i) ≡ none
+  unfolding givenFor isAllowed rowOf anyOf
+  table-not Read zero l h = true-not-false refl h
+  table-not Read (suc zero) l h = true-not-false refl h
+  table-not Read (suc (suc zero)) l h = true-not-false refl h
+  table-not Read (suc (suc (suc zero))) l h = true-not-false refl h
+  table-not Read (suc (suc (suc (suc zero)))) l h = refl
+  table-not Read (suc (suc (suc (suc (suc o))))) l h = absurd (omega arith)
+  table-not Write zero l h = true-not-false refl h
+  table-not Write (suc zero) l h = true-not-false refl h
+  table-not Write (suc (suc zero)) l h = true-not-false refl h
+  table-not Write (suc (suc (suc zero))) l h = refl
+  table-not Write (suc (suc (suc (suc zero)))) l h = true-not-false refl h
+  table-not Write (suc (suc (suc (suc (suc o))))) l h = absurd (omega arith)
+  table-not Mark zero l h = true-not-false refl h
+  table-not Mark (suc zero) l h = true-not-false refl h
+  table-not Mark (suc (suc zero)) l h = refl
+  table-not Mark (suc (suc (suc zero))) l h = refl
+  table-not Mark (suc (suc (suc (suc zero)))) l h = true-not-false refl h
+  table-not Mark (suc (suc (suc (suc (suc o))))) l h = absurd (omega arith)
+
 -- ---- a report
 
 module _ (s : State) (area : List ℕ) (channel unit outcome : ℕ) (words : List ℕ) (g : kept.Good s) (b : Book) (S : Shows (stationAt channel s) b)
@@ -153,3 +175,33 @@ module _ (s : State) (area : List ℕ) (channel unit outcome : ℕ) (words : Lis
       go : Booked c unit outcome → Results b unit outcome (toldResult (answerOf s area (report channel unit outcome words) .added))
       go (again r q i j) = for r i
       go (ended r e i j) = for r i
+
+-- ---- a report whose outcome is not allowed
+
+module _ (s : State) (area : List ℕ) (channel unit outcome : ℕ) (words : List ℕ) (b : Book) (S : Shows (stationAt channel s) b)
+    (z : answerOf s area (report channel unit outcome words) .refusal ≡ 12) where
+  pub refused-forbids : Forbids b unit outcome
+  unfolding answerOf operationAt
+  refused-forbids =
+      let one = row-past 12 1 _ _ (λ q. omega arith) (sym (report-exactly s area channel unit outcome words .number) ∙ z) in
+      let two = row-past 12 2 _ _ (λ q. omega arith) (one .1) in
+      let eleven = row-past 12 11 (isIdleFor (workOf (turnAt (channelAt s channel) unit))) _ (λ q. omega arith) (two .1) in
+      let low = or-left (leb unitCount unit || leb outcomeCount outcome) _ (or-right (reportWrong s (length area) channel) _ (one .0)) in
+      go (turnAt (channelAt s channel) unit) refl (eleven .0)
+      (row-given 12 13 (isForbidden (workOf (turnAt (channelAt s channel) unit)) outcome) _ (omega arith) (λ q. omega arith) (eleven .1))
+      (leb-false outcomeCount outcome (or-right (leb unitCount unit) _ low))
+    where
+      for : (r : Request) (h : Option Pending) → b .requests unit ≡ h → Held r h → isAllowed (r .op) outcome ≡ false → outcome < outcomeCount → Forbids b unit outcome
+      for r h e (holding p k) never l = record {
+        request = p;
+        pending = e;
+        row = table-not (p .priority) (p .failures + 1) (p .incomplete) (p .op) outcome l (subst (λ (x : Request). isAllowed (x .op) outcome ≡ false) k never);
+      }
+
+      go : (t : Turn) → turnAt (channelAt s channel) unit ≡ t → isIdleFor (workOf t) ≡ false → isForbidden (workOf t) outcome ≡ true
+          → outcome < outcomeCount → Forbids b unit outcome
+      go Idle i w f l = true-not-false refl w
+      go (Waiting q) i w f l = true-not-false refl w
+      go (Displaced q) i w f l = true-not-false refl w
+      go (Working r) i w f l =
+          for r (b .requests unit) refl (held-by r (b .requests unit) (sym (ap held i) ∙ S .holds unit)) (not-true (isAllowed (r .op) outcome) f) l

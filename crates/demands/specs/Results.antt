@@ -34,3 +34,9 @@ pub record Results (b : Book) (u outcome result : ℕ) : Type 0 where
   pub pending : b .requests u ≡ some request
   -- and the result is the table's: the attempt is one above the failures since the request was accepted
   pub row : givenFor outcome (resultsOf (request .op) (request .failures + 1) (request .incomplete)) ≡ some result
+
+-- Of a report that is refused 12, "outcome not allowed for the operation": the table has no result for it.
+pub record Forbids (b : Book) (u outcome : ℕ) : Type 0 where
+  pub request : Pending
+  pub pending : b .requests u ≡ some request
+  pub row : givenFor outcome (resultsOf (request .op) (request .failures + 1) (request .incomplete)) ≡ none
