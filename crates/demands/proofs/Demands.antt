@@ -36,7 +36,7 @@ use Rattle.demands.proofs.Buffers.{good-holds, closed-frees, opened-tak
 use Rattle.demands.proofs.Blocks.{ledger-writes, ledger-closed, ledger-reads, ledger-judged}
 use Rattle.demands.proofs.Results.{reported-results, refused-forbids}
 use Rattle.demands.proofs.Marks.{asked-marks}
-use Rattle.demands.proofs.Turns.{call-turns, report-continues, ask-tells, report-tells}
+use Rattle.demands.proofs.Turns.{call-turns, report-continues, ask-tells, report-tells, ask-single}
 use Rattle.demands.proofs.Answering.{answered}
 
 -- "Any call, with any numbers, words and lengths, gets an answer. A refusal carries one number of document 01's table, is given exactly
@@ -125,11 +125,18 @@ module _ (s₀ : State) (area₀ : List ℕ) (m w : ℕ) (masks : Masks) (starte
   -- continues; else a scan starts a waiting or displaced one."
   pub demand2-continues : (calls : List Lent) (area : List ℕ) (channel unit outcome : ℕ) (words : List ℕ)
       → answerOf (after start calls) area (report channel unit outcome words) .refusal ≡ 0
-      → Continues channel unit (toldResult (answerOf (after start calls) area (report channel unit outcome words) .added))
+      → Continues channel unit (toldResult (answerOf (after start calls) area (report channel unit outcome words) .added)) (after start calls)
       (answerOf (after start calls) area (report channel unit outcome words) .state)
       (bookWith calls (record { call = report channel unit outcome words; area = area }) channel)
   demand2-continues calls area channel unit outcome words =
       report-continues (after start calls) area (good calls) channel unit outcome words (bookThen calls channel) (shows calls channel)
+
+  -- "A unit holds one unanswered request at most; requests are not stacked.": where an ask is accepted, its unit has none
+  pub demand2-single : (calls : List Lent) (area : List ℕ) (file op priority : ℕ) → answerOf (after start calls) area (ask file op priority) .refusal ≡ 0
+      → bookThen calls (fileAt (after start calls) file .channel) .requests (fileAt (after start calls) file .unit) ≡ none
+  demand2-single calls area file op priority =
+      ask-single (after start calls) area file op priority (bookThen calls (fileAt (after start calls) file .channel))
+      (shows calls (fileAt (after start calls) file .channel))
 
   -- and the answers tell who works: "ask adds the channel's working unit, FF for none. Report adds .. working unit"
   pub demand2-asked : (calls : List Lent) (area : List ℕ) (file op priority : ℕ) → answerOf (after start calls) area (ask file op priority) .refusal ≡ 0

@@ -1,7 +1,7 @@
 -- Who works after each accepted call is whose turn it is by the channel's book. Assumes nothing.
 use mathlib.Core.Path.{_≡_, refl, sym, ap, subst, _∙_}
 use mathlib.Core.Logic.{_≢_, _⊎_, inl, inr}
-use mathlib.Core.Bool.{Bool, true, false, cond, _&&_}
+use mathlib.Core.Bool.{Bool, true, false, not, cond, _&&_}
 use mathlib.Core.Option.{Option, none, some}
 use mathlib.Core.List.{List}
 use Prim.Native.Nat.{ℕ, _≤_, _<_}
@@ -15,7 +15,7 @@ use Rattle.channel.specs.declared.Request.{Request}
 use Rattle.channel.specs.declared.Turn.{Turn}
 use Rattle.channel.specs.declared.Turn.the-variants.{Idle, Waiting, Displaced, Working}
 use Rattle.channel.specs.declared.Channel.{Channel}
-use Rattle.channel.specs.Units.{unitCount, size, turnAt, isIdle, isWorking}
+use Rattle.channel.specs.Units.{unitCount, size, turnAt, isIdle, hasRequest, isWorking}
 use Rattle.channel_outcomes.specs.declared.Ending.{Ending}
 use Rattle.channel_outcomes.specs.declared.Ending.the-variants.{Good, Opposite, MarkRead, MediumEnd, LostRedundancy, LostIncomplete}
 use Rattle.channel_outcomes.specs.declared.Verdict.{Verdict}
@@ -40,9 +40,10 @@ use Rattle.state.specs.declared.State.{State}
 use Rattle.state.specs.Places.{fileAt, channelAt}
 use Rattle.state_sound.proofs.ChannelFacts.{ChannelFacts}
 use Rattle.state_sound.proofs.Facts.{sound-facts}
-use Rattle.call_request.specs.Ask.{opOf, isPriority}
+use Rattle.call_request.specs.Ask.{opOf, isPriority, askRefusal}
 use Rattle.call_request.specs.Report.{reportRefusal}
-use Rattle.pack_request.proofs.AskTheorems.{ask-frame, ask-working}
+use Rattle.pack_request.specs.Calls.{askWrong}
+use Rattle.pack_request.proofs.AskTheorems.{ask-ready, ask-exactly, ask-frame, ask-working}
 use Rattle.pack_request.proofs.ReportTheorems.{Booked, again, ended, report-exactly, view, report-event, report-frame, report-working}
 use Rattle.pack.specs.Calls.{Call, fresh, opening, close, ask, report, get, put, seal, skip, freeze, thaw, answerOf}
 use Rattle.pack.specs.Histories.{isAccepted}
@@ -353,9 +354,10 @@ module _ (s : State) (area : List ℕ) (g : kept.Good s) (channel unit outcome :
   one : OneWorks e
   one = sound-facts s (g .right) .channels channel .one
 
-  goes-again : (r q : Request) → turnAt e unit ≡ Working r → judgeOf e unit outcome ≡ Repeats q → Continues channel unit result t b
+  goes-again : (r q : Request) → turnAt e unit ≡ Working r → judgeOf e unit outcome ≡ Repeats q → Continues channel unit result s t b
   unfolding bookOf
   goes-again r q i j = record {
+    worked = ap isWorking i;
     onward = λ f k alt. ap (λ (d : Channel). isWorking (turnAt d unit)) (now false (was-frozen false f)) ∙ goes-on alt;
     displaced = λ f k p x turn.
         starts-from t channel b shown
@@ -390,9 +392,10 @@ module _ (s : State) (area : List ℕ) (g : kept.Good s) (channel unit outcome :
       goes-on (inl p) = onward-urgent e unit r q i (own ∙ p)
       goes-on (inr p) = onward-alone e unit r q i (λ y ne. other y ne ∙ p y)
 
-  goes-out : (r : Request) (x : Ending) → turnAt e unit ≡ Working r → judgeOf e unit outcome ≡ Ends x → Continues channel unit result t b
+  goes-out : (r : Request) (x : Ending) → turnAt e unit ≡ Working r → judgeOf e unit outcome ≡ Ends x → Continues channel unit result s t b
   unfolding bookOf
   goes-out r x i j = record {
+    worked = ap isWorking i;
     onward = λ f k alt. absurd (ends-some x (sym (told-as ∙ ap resultNumber j) ∙ k));
     displaced = λ f k p y turn. absurd (ends-some x (sym (told-as ∙ ap resultNumber j) ∙ k));
     next = λ f n. starts-from t channel b shown (subst StartedFrom (sym (now false (was-frozen false f))) (end-starts e one unit r i));
@@ -402,11 +405,11 @@ module _ (s : State) (area : List ℕ) (g : kept.Good s) (channel unit outcome :
       now : (f : Bool) → s .frozen ≡ f → channelAt t channel ≡ endOf e unit f
       now f k = became (Ends x) j ∙ ap (endOf e unit) k
 
-  pub report-continues : Continues channel unit result t b
+  pub report-continues : Continues channel unit result s t b
   unfolding answerOf reportRefusal
   report-continues = go (view s area channel unit outcome words (g .sixteen) (sym (report-exactly s area channel unit outcome words .number) ∙ z))
     where
-      go : Booked e unit outcome → Continues channel unit result t b
+      go : Booked e unit outcome → Continues channel unit result s t b
       go (again r q i j) = goes-again r q i j
       go (ended r x i j) = goes-out r x i j
 
@@ -423,3 +426,20 @@ ask-tells s area g file op priority b₀ S z =
     tells (answerOf s area (ask file op priority) .state) (fileAt s file .channel) _
     (call-shows (fileAt s file .channel) s area g b₀ S (ask file op priority)) (call-kept s area g (ask file op priority)) _
     (ask-working s file op priority z)
+
+-- ---- an accepted ask: its unit had no request
+
+pub ask-single : (s : State) (area : List ℕ) (file op priority : ℕ) (b : Book) → Shows (stationAt (fileAt s file .channel) s) b
+    → answerOf s area (ask file op priority) .refusal ≡ 0 → b .requests (fileAt s file .unit) ≡ none
+unfolding answerOf askRefusal hasRequest
+ask-single s area file op priority b S z =
+    let f = fileAt s file in
+    let ready = ask-ready (askWrong s file) f (channelAt s (f .channel)) op priority (sym (ask-exactly s file op priority .number) ∙ z) in
+    go (turnAt (channelAt s (f .channel)) (f .unit)) (b .requests (f .unit)) (S .holds (f .unit)) (ready .quiet)
+  where
+    go : (t : Turn) (h : Option Pending) → held t ≡ asHeld h → not (isIdle t) ≡ false → h ≡ none
+    go t none e q = refl
+    go Idle (some p) e q = absurd (let z : _≡_ {A = ℕ} 0 1 = cc in omega arith)
+    go (Waiting r) (some p) e q = true-not-false refl q
+    go (Displaced r) (some p) e q = true-not-false refl q
+    go (Working r) (some p) e q = true-not-false refl q

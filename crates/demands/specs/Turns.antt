@@ -32,9 +32,13 @@ pub record SomeWorks (s : State) (c : ℕ) : Type 0 where
 -- "The scan for ordinary ones begins one unit above that of the last ordinary operation to end on the channel, wraps after 9, and comes to that
 -- unit last; it begins at 0 at first.": it comes to unit y before it comes to unit x
 pub data Earlier : Option ℕ → ℕ → ℕ → Type 0 where
+  -- none has ended: from 0 upward
   fromZero : {y x : ℕ} → y < x → Earlier none y x
+  -- first the units above the last one, upward,
   above : {last y x : ℕ} → last < y → y < x → Earlier (some last) y x
+  -- then the others,
   wrapped : {last y x : ℕ} → last < y → x ≤ last → Earlier (some last) y x
+  -- from 0 upward, the last one at the end
   below : {last y x : ℕ} → y < x → x ≤ last → Earlier (some last) y x
 
 -- "Among priority requests the lowest unit goes first."
@@ -83,9 +87,10 @@ pub record Turns (c : ℕ) (s : State) (call : Call) (t : State) (b : Book) : Ty
   -- and nothing else: neither a freeze nor any call but those of `Changes` changes who works ("A priority request never breaks into an activity.")
   pub still : (Changes c s call → ⊥) → (u : ℕ) → worksFor t c u ≡ worksFor s c u
 
--- ---- after an accepted report for unit u of channel c
+-- ---- after an accepted report for unit u of channel c, for which the channel worked
 
-pub record Continues (c u result : ℕ) (t : State) (b : Book) : Type 0 where
+pub record Continues (c u result : ℕ) (s t : State) (b : Book) : Type 0 where
+  pub worked : worksFor s c u ≡ true
   -- "the incomplete operation continues", with its next attempt: if it is a priority one ("a priority operation is not displaced"), or no priority
   -- request waits
   pub onward : b .frozen ≡ false → result ≡ 0 → (isUrgent (b .requests u) ≡ true) ⊎ ((y : ℕ) → isUrgent (b .requests y) ≡ false)

@@ -44,7 +44,7 @@ use Rattle.pack_request.proofs.ReportTheorems.{Booked, again, ended, report-exa
 use Rattle.pack.specs.Calls.{Call, fresh, opening, close, ask, report, get, put, seal, skip, freeze, thaw, Answer, answerOf}
 use Rattle.pack.specs.Histories.{Lent, answerTo, after, isAccepted}
 use Rattle.pack.specs.Tables.{rowsOf}
-use Rattle.pack.specs.Books.{toldResult, Pending, Book, blankBook, isOrdinary, accepted, failed, withRequest, withAnswer, withFreeze, booked, noted, bookAfter}
+use Rattle.pack.specs.Books.{toldResult, Pending, Book, blankBook, isOrdinary, newPending, failed, withRequest, withAnswer, withFreeze, booked, noted, bookAfter}
 use Rattle.pack.proofs.Refused.{call-alone}
 use Rattle.pack.proofs.Kept as kept
 use Rattle.pack.proofs.Kept.{call-kept}
@@ -117,10 +117,10 @@ module _ (k d : Station) (b : Book) (S : Shows k b) (u : ℕ) where
 
   shows-ask : (op priority : ℕ)
       → Agrees k (some (record { event = history.ask u (opOf op) (isPriority priority); answer = history.accepted })) d
-      → Shows d (withRequest u (some (accepted op priority)) b)
+      → Shows d (withRequest u (some (newPending op priority)) b)
   unfolding step opOf
   shows-ask op priority A = record {
-    holds = λ y. ask-held k u (opOf op) (isPriority priority) (stepTo history.accepted d) T refl y ∙ others (some (accepted op priority)) y;
+    holds = λ y. ask-held k u (opOf op) (isPriority priority) (stepTo history.accepted d) T refl y ∙ others (some (newPending op priority)) y;
     mark = subst (MarkIs (b .last)) (sym (ask-mark k u (opOf op) (isPriority priority) (stepTo history.accepted d) T)) (S .mark);
     frozen = sym (ap (λ (r : Step). r .after .frozen) A) ∙ S .frozen;
     long = units-step k (history.ask u (opOf op) (isPriority priority)) (stepTo history.accepted d) T .long ∙ S .long;
@@ -229,7 +229,7 @@ module _ (c : ℕ) (s : State) (area : List ℕ) (g : kept.Good s) (b : Book) (S
       flag : (t : Bool) → eqb (fileAt s file .channel) c ≡ t → (isAccepted (answerOf s area (ask file op priority)) && eqb (fileAt s file .channel) c) ≡ t
       flag t e = rw (eq-eqb (answerOf s area (ask file op priority) .refusal) 0 z, e)
 
-      go : (t : Bool) → eqb (fileAt s file .channel) c ≡ t → Shows d (cond t (withRequest (fileAt s file .unit) (some (accepted op priority)) b) b)
+      go : (t : Bool) → eqb (fileAt s file .channel) c ≡ t → Shows d (cond t (withRequest (fileAt s file .unit) (some (newPending op priority)) b) b)
       go true e = shows-ask (stationAt c s) d b S (fileAt s file .unit) op priority (seen-as true (flag true e))
       go false e = unseen d (seen-as false (flag false e))
 

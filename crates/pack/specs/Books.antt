@@ -51,11 +51,11 @@ abbrev pub isOrdinary : Option Pending → Bool
 isOrdinary none = false
 isOrdinary (some p) = not (p .priority)
 
--- "priority(0/1)"
-abbrev pub accepted : ℕ → ℕ → Pending
-accepted op priority = record { op = operation op; priority = eqb priority 1; failures = 0; incomplete = 0 }
+-- as it is accepted; "priority(0/1)"
+abbrev pub newPending : ℕ → ℕ → Pending
+newPending op priority = record { op = operation op; priority = eqb priority 1; failures = 0; incomplete = 0 }
 
--- "2 incomplete word"
+-- after one failure more; "2 incomplete word"
 abbrev pub failedOnce : ℕ → Pending → Pending
 failedOnce outcome p = record {
   op = p .op;
@@ -68,6 +68,7 @@ abbrev pub failed : ℕ → Option Pending → Option Pending
 failed outcome none = none
 failed outcome (some p) = some (failedOnce outcome p)
 
+-- the book with r for unit u, and the book with an answer to unit u
 abbrev pub withRequest : ℕ → Option Pending → Book → Book
 withRequest u r b = record { requests = λ y. cond (eqb y u) r (b .requests y); last = b .last; frozen = b .frozen }
 
@@ -87,7 +88,7 @@ booked c s (fresh m w masks) a b = blankBook
 booked c s (opening file channel unit flags size rlen) a b = b
 booked c s (close file) a b = b
 booked c s (ask file op priority) a b =
-    cond (eqb (fileAt s file .channel) c) (withRequest (fileAt s file .unit) (some (accepted op priority)) b) b
+    cond (eqb (fileAt s file .channel) c) (withRequest (fileAt s file .unit) (some (newPending op priority)) b) b
 booked c s (report channel unit outcome words) a b =
     cond (eqb channel c) (cond (eqb (toldResult (a .added)) 0) (withRequest unit (failed outcome (b .requests unit)) b) (withAnswer unit b)) b
 booked c s (get file) a b = b
