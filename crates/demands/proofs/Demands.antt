@@ -29,14 +29,14 @@ use Rattle.pack.proofs.Booking.{Shows, shows-start, shows-after}
 use Rattle.pack.proofs.Marking.{known-start, known-after}
 use Rattle.demands.specs.Results.{Results, Forbids}
 use Rattle.demands.specs.Marks.{Marks}
-use Rattle.demands.specs.Turns.{Turns, Continues, toldWorking, Tells}
+use Rattle.demands.specs.Turns.{worksFor, isPending, Turns, Continues, toldWorking, Tells}
 use Rattle.demands.specs.Demands.{Refuses, Holds, Frees, Takes, Books, dataIn, Writes, Reads, Answers}
 use Rattle.demands.proofs.Refusals.{refuses}
 use Rattle.demands.proofs.Buffers.{good-holds, closed-frees, opened-takes, reported-books}
 use Rattle.demands.proofs.Blocks.{ledger-writes, ledger-closed, ledger-reads, ledger-judged}
 use Rattle.demands.proofs.Results.{reported-results, refused-forbids}
 use Rattle.demands.proofs.Marks.{asked-marks}
-use Rattle.demands.proofs.Turns.{call-turns, report-continues, ask-tells, report-tells, ask-single}
+use Rattle.demands.proofs.Turns.{call-turns, report-continues, ask-tells, report-tells, ask-single, report-idle, ask-holding}
 use Rattle.demands.proofs.Answering.{answered}
 
 -- "Any call, with any numbers, words and lengths, gets an answer. A refusal carries one number of document 01's table, is given exactly
@@ -113,6 +113,11 @@ module _ (s₀ : State) (area₀ : List ℕ) (m w : ℕ) (masks : Masks) (starte
   demand2-forbidden calls area channel unit outcome words =
       refused-forbids (after start calls) area channel unit outcome words (bookThen calls channel) (shows calls channel)
 
+  -- a report is refused 11 only if the channel is not working for that unit
+  pub demand2-idle : (calls : List Lent) (area : List ℕ) (channel unit outcome : ℕ) (words : List ℕ)
+      → answerOf (after start calls) area (report channel unit outcome words) .refusal ≡ 11 → worksFor (after start calls) channel unit ≡ false
+  demand2-idle calls area channel unit outcome words = report-idle (after start calls) area channel unit outcome words
+
   -- who works on channel c after a call x that is accepted: the book has the call in it
   abbrev pub bookWith : List Lent → Lent → ℕ → Book
   bookWith calls x c = noted c (after start calls) x (bookThen calls c)
@@ -136,6 +141,13 @@ module _ (s₀ : State) (area₀ : List ℕ) (m w : ℕ) (masks : Masks) (starte
       → bookThen calls (fileAt (after start calls) file .channel) .requests (fileAt (after start calls) file .unit) ≡ none
   demand2-single calls area file op priority =
       ask-single (after start calls) area file op priority (bookThen calls (fileAt (after start calls) file .channel))
+      (shows calls (fileAt (after start calls) file .channel))
+
+  -- and it is refused 8 only if its unit has one
+  pub demand2-holding : (calls : List Lent) (area : List ℕ) (file op priority : ℕ) → answerOf (after start calls) area (ask file op priority) .refusal ≡ 8
+      → isPending (bookThen calls (fileAt (after start calls) file .channel) .requests (fileAt (after start calls) file .unit)) ≡ true
+  demand2-holding calls area file op priority =
+      ask-holding (after start calls) area file op priority (bookThen calls (fileAt (after start calls) file .channel))
       (shows calls (fileAt (after start calls) file .channel))
 
   -- and the answers tell who works: "ask adds the channel's working unit, FF for none. Report adds .. working unit"

@@ -21,7 +21,7 @@ use Rattle.pack.specs.Calls.{ask, answerOf}
 use Rattle.pack.specs.Books.{Opened}
 use Rattle.pack.proofs.Marking.{Known}
 use Rattle.demands.specs.Marks.{Marks}
-use Rattle.demands.proofs.Rows.{row-past, row-given, row-most, row-here}
+use Rattle.demands.proofs.Rows.{row-past, row-given, none-gives, not-gives, row-most, row-here}
 
 -- ---- an ask
 
@@ -43,7 +43,7 @@ module _ (s : State) (area : List ℕ) (file op priority : ℕ) where
       let d = row-past 10 6 _ _ (λ q. omega arith) (b .1) in
       let g = row-past 10 8 _ _ (λ q. omega arith) (d .1) in
       let h = row-past 10 9 _ _ (λ q. omega arith) (g .1) in
-      let k = row-given 10 15 (isReading op && f .marked) _ (omega arith) (λ q. omega arith) (h .1) in
+      let k = row-given 10 (isReading op && f .marked) _ (not-gives 10 15 _ _ (λ q. omega arith) (none-gives 10 (omega arith))) (h .1) in
       (eqb-true op 0 (and-left (isReading op) _ k), not-false (f .opened) (b .0), and-right (isReading op) _ k)
 
   ten-refuses : op ≡ 0 → f .marked ≡ true

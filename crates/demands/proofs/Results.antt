@@ -38,7 +38,7 @@ use Rattle.pack.proofs.Seen.{stationAt}
 use Rattle.pack.proofs.Counted.{result-is}
 use Rattle.pack.proofs.Booking.{Held, holding, held-by, Shows}
 use Rattle.demands.specs.Results.{resultsOf, givenFor, Results, Forbids}
-use Rattle.demands.proofs.Rows.{row-past, row-given}
+use Rattle.demands.proofs.Rows.{row-past, row-given, none-gives, not-gives}
 
 -- ---- the table is what the rules come to
 
@@ -188,7 +188,8 @@ module _ (s : State) (area : List ℕ) (channel unit outcome : ℕ) (words : Lis
       let eleven = row-past 12 11 (isIdleFor (workOf (turnAt (channelAt s channel) unit))) _ (λ q. omega arith) (two .1) in
       let low = or-left (leb unitCount unit || leb outcomeCount outcome) _ (or-right (reportWrong s (length area) channel) _ (one .0)) in
       go (turnAt (channelAt s channel) unit) refl (eleven .0)
-      (row-given 12 13 (isForbidden (workOf (turnAt (channelAt s channel) unit)) outcome) _ (omega arith) (λ q. omega arith) (eleven .1))
+      (row-given 12 (isForbidden (workOf (turnAt (channelAt s channel) unit)) outcome) _
+      (not-gives 12 13 _ _ (λ q. omega arith) (none-gives 12 (omega arith))) (eleven .1))
       (leb-false outcomeCount outcome (or-right (leb unitCount unit) _ low))
     where
       for : (r : Request) (h : Option Pending) → b .requests unit ≡ h → Held r h → isAllowed (r .op) outcome ≡ false → outcome < outcomeCount → Forbids b unit outcome

@@ -14,12 +14,19 @@ unfolding lowest
 row-past n m true rows ne e = absurd (ne (sym e))
 row-past n m false rows ne e = (refl, e)
 
--- the last row but one is given, so it applies
-pub row-given : (n m : ℕ) (x y : Bool) → 0 < n → n ≢ m → lowest ((n, x) ∷ (m, y) ∷ []) ≡ n → x ≡ true
+-- a row is given that no later row gives, so it applies
+pub row-given : (n : ℕ) (b : Bool) (rows : Rows) → (lowest rows ≡ n → ⊥) → lowest ((n, b) ∷ rows) ≡ n → b ≡ true
 unfolding lowest
-row-given n m true y l ne e = refl
-row-given n m false true l ne e = absurd (ne (sym e))
-row-given n m false false l ne e = absurd (omega arith)
+row-given n true rows other e = refl
+row-given n false rows other e = absurd (other e)
+
+-- later rows that all have another number
+pub none-gives : (n : ℕ) → 0 < n → lowest [] ≡ n → ⊥
+unfolding lowest
+none-gives n l e = omega arith
+
+pub not-gives : (n m : ℕ) (b : Bool) (rows : Rows) → n ≢ m → (lowest rows ≡ n → ⊥) → lowest ((m, b) ∷ rows) ≡ n → ⊥
+not-gives n m b rows ne other e = other (row-past n m b rows ne e .1)
 
 -- a row applies, so its number or a lower one is given
 pub row-most : (n m : ℕ) (b : Bool) (rows : Rows) → n ≤ m → lowest rows ≤ m → lowest ((n, b) ∷ rows) ≤ m

@@ -15,7 +15,7 @@ use Rattle.channel.specs.declared.Request.{Request}
 use Rattle.channel.specs.declared.Turn.{Turn}
 use Rattle.channel.specs.declared.Turn.the-variants.{Idle, Waiting, Displaced, Working}
 use Rattle.channel.specs.declared.Channel.{Channel}
-use Rattle.channel.specs.Units.{unitCount, size, turnAt, isIdle, hasRequest, isWorking}
+use Rattle.channel.specs.Units.{unitCount, size, turnAt, isIdle, workOf, operationAt, hasRequest, isWorking}
 use Rattle.channel_outcomes.specs.declared.Ending.{Ending}
 use Rattle.channel_outcomes.specs.declared.Ending.the-variants.{Good, Opposite, MarkRead, MediumEnd, LostRedundancy, LostIncomplete}
 use Rattle.channel_outcomes.specs.declared.Verdict.{Verdict}
@@ -41,7 +41,7 @@ use Rattle.state.specs.Places.{fileAt, channelAt}
 use Rattle.state_sound.proofs.ChannelFacts.{ChannelFacts}
 use Rattle.state_sound.proofs.Facts.{sound-facts}
 use Rattle.call_request.specs.Ask.{opOf, isPriority, askRefusal}
-use Rattle.call_request.specs.Report.{reportRefusal}
+use Rattle.call_request.specs.Report.{isIdleFor, reportRefusal}
 use Rattle.pack_request.specs.Calls.{askWrong}
 use Rattle.pack_request.proofs.AskTheorems.{ask-ready, ask-exactly, ask-frame, ask-working}
 use Rattle.pack_request.proofs.ReportTheorems.{Booked, again, ended, report-exactly, view, report-event, report-frame, report-working}
@@ -55,6 +55,7 @@ use Rattle.pack.proofs.Counted.{result-is}
 use Rattle.pack.proofs.Booking.{asHeld, MarkIs, Shows, call-shows}
 use Rattle.demands.specs.Turns as turns
 use Rattle.demands.specs.Turns.{worksFor, NoneWorks, SomeWorks, Earlier, fromZero, above, below, Starts, isPending, Begins, asks, thaws, Changes, reports, begins, afresh, Turns, Continues, toldWorking, Tells}
+use Rattle.demands.proofs.Rows.{row-past, row-given, none-gives, not-gives}
 
 -- ---- the order of the scan
 
@@ -443,3 +444,41 @@ ask-single s area file op priority b S z =
     go (Waiting r) (some p) e q = true-not-false refl q
     go (Displaced r) (some p) e q = true-not-false refl q
     go (Working r) (some p) e q = true-not-false refl q
+
+-- ---- a report that is refused 11, and an ask that is refused 8
+
+pub report-idle : (s : State) (area : List ℕ) (channel unit outcome : ℕ) (words : List ℕ)
+    → answerOf s area (report channel unit outcome words) .refusal ≡ 11 → worksFor s channel unit ≡ false
+unfolding answerOf operationAt
+report-idle s area channel unit outcome words z =
+    let one = row-past 11 1 _ _ (λ q. omega arith) (sym (report-exactly s area channel unit outcome words .number) ∙ z) in
+    let two = row-past 11 2 _ _ (λ q. omega arith) (one .1) in
+    go (turnAt (channelAt s channel) unit)
+    (row-given 11 (isIdleFor (workOf (turnAt (channelAt s channel) unit))) _
+    (not-gives 11 12 _ _ (λ q. omega arith) (not-gives 11 13 _ _ (λ q. omega arith) (none-gives 11 (omega arith)))) (two .1))
+  where
+    go : (t : Turn) → isIdleFor (workOf t) ≡ true → isWorking t ≡ false
+    go Idle e = refl
+    go (Waiting r) e = refl
+    go (Displaced r) e = refl
+    go (Working r) e = true-not-false e refl
+
+pub ask-holding : (s : State) (area : List ℕ) (file op priority : ℕ) (b : Book) → Shows (stationAt (fileAt s file .channel) s) b
+    → answerOf s area (ask file op priority) .refusal ≡ 8 → isPending (b .requests (fileAt s file .unit)) ≡ true
+unfolding answerOf hasRequest
+ask-holding s area file op priority b S z =
+    let f = fileAt s file in
+    let one = row-past 8 1 _ _ (λ q. omega arith) (sym (ask-exactly s file op priority .number) ∙ z) in
+    let five = row-past 8 5 _ _ (λ q. omega arith) (one .1) in
+    let six = row-past 8 6 _ _ (λ q. omega arith) (five .1) in
+    go (turnAt (channelAt s (f .channel)) (f .unit)) (b .requests (f .unit)) (S .holds (f .unit))
+    (row-given 8 (not (isIdle (turnAt (channelAt s (f .channel)) (f .unit)))) _
+    (not-gives 8 9 _ _ (λ q. omega arith) (not-gives 8 10 _ _ (λ q. omega arith) (not-gives 8 15 _ _ (λ q. omega arith) (none-gives 8 (omega arith)))))
+    (six .1))
+  where
+    go : (t : Turn) (h : Option Pending) → held t ≡ asHeld h → not (isIdle t) ≡ true → isPending h ≡ true
+    go t (some p) e q = refl
+    go Idle none e q = true-not-false q refl
+    go (Waiting r) none e q = absurd (let k : _≡_ {A = ℕ} 0 1 = cc in omega arith)
+    go (Displaced r) none e q = absurd (let k : _≡_ {A = ℕ} 0 1 = cc in omega arith)
+    go (Working r) none e q = absurd (let k : _≡_ {A = ℕ} 0 1 = cc in omega arith)

@@ -2,17 +2,16 @@
 -- Assumes nothing.
 use mathlib.Core.Path.{_≡_, refl, sym, ap, subst, _∙_}
 use mathlib.Core.Logic.{_≢_}
-use mathlib.Core.Bool.{Bool, true, false, cond, _&&_, _||_}
+use mathlib.Core.Bool.{Bool, true, false, not, cond, _&&_, _||_}
 use mathlib.Core.Option.{Option, none, some}
 use mathlib.Core.List.{List, [], _∷_}
-use Prim.Native.Nat.{ℕ, zero, suc, _-_, _<_}
+use Prim.Native.Nat.{ℕ, zero, suc, _-_}
 use native.Mathlib.Decide.{ℕ-discrete}
-use native.Mathlib.Omega.{arith}
 use lib.Dec.{eqb, leb}
 use lib.ListN.{length, getD, replicate}
-use borrow.Author.Tests.{eq-eqb, ne-eqb, eqb-true, leb-false}
+use borrow.Author.Tests.{eq-eqb, ne-eqb, eqb-true}
 use Rattle.area.specs.Lists.{anyOf}
-use Rattle.area.proofs.Walks.{true-not-false, and-left, and-right, and-both, or-right}
+use Rattle.area.proofs.Walks.{true-not-false, and-left, and-right, and-both}
 use Rattle.channel.specs.declared.Op.{Op}
 use Rattle.channel.specs.declared.Op.the-variants.{Read, Write, Mark}
 use Rattle.channel.specs.declared.Request.{Request}
@@ -20,10 +19,12 @@ use Rattle.channel.specs.declared.Turn.{Turn}
 use Rattle.channel.specs.declared.Turn.the-variants.{Working}
 use Rattle.channel.specs.declared.Channel.{Channel}
 use Rattle.channel.specs.declared.Work.the-variants.{At}
-use Rattle.channel.specs.Units.{unitCount, turnAt, workOf, operationAt}
-use Rattle.channel_outcomes.specs.declared.Ending.the-variants.{Good, Opposite, LostRedundancy, LostIncomplete}
-use Rattle.channel_outcomes.specs.declared.Verdict.the-variants.{Repeats, Ends}
-use Rattle.channel_outcomes.specs.Rules.{outcomeCount, rowOf, isAllowed, isPermanent, nextAttempt, endingOf, verdictOf, resultNumber}
+use Rattle.channel.specs.Units.{turnAt, workOf, operationAt}
+use Rattle.channel_outcomes.specs.declared.Ending.{Ending}
+use Rattle.channel_outcomes.specs.declared.Ending.the-variants.{Good, Opposite, MarkRead, MediumEnd, LostRedundancy, LostIncomplete}
+use Rattle.channel_outcomes.specs.declared.Verdict.{Verdict}
+use Rattle.channel_outcomes.specs.declared.Verdict.the-variants.{Refused, Repeats, Ends}
+use Rattle.channel_outcomes.specs.Rules.{good, redundancy, incompleteWord, fileMark, rowOf, isAllowed, isFailure, isPermanent, nextAttempt, goodEnding, endingOf, verdictOf, resultNumber}
 use Rattle.channel_turns.specs.Turns.{judgeTurn, judgeOf}
 use Rattle.word.specs.CheckWords.{extra, nextNumber}
 use Rattle.file.specs.declared.Slot.{Slot}
@@ -68,7 +69,7 @@ use Rattle.pack_record.proofs.PutTheorems.{put-file, put-frame}
 use Rattle.pack_record.proofs.SealTheorems.{seal-file, seal-frame}
 use Rattle.pack.specs.Calls.{Call, fresh, opening, close, ask, report, get, put, seal, skip, freeze, thaw, Answer, answerOf}
 use Rattle.pack.specs.Histories.{Lent, answerTo, after, isAccepted}
-use Rattle.pack.specs.Books.{toldResult, Opened, told, openedBy, openedAfter}
+use Rattle.pack.specs.Books.{toldResult, Opened, withResult, openedBy, openedAfter}
 use Rattle.pack.proofs.Refused.{call-alone}
 use Rattle.pack.proofs.Kept as kept
 use Rattle.pack.proofs.Kept.{call-kept}
@@ -185,63 +186,93 @@ effect-file GivesBack f n e = (event-alike f giveBack, event-marked f giveBack r
 effect-file Sends f n e = (event-alike f send, event-marked f send refl ∙ or-none (f .marked))
 effect-file Keeps f n e = (alike-self f, or-none (f .marked))
 
--- a mark is met exactly if the result is 03
-module _ (p : Bool) (a i : ℕ) where
-  abbrev asked : Op → Request
-  asked op = record { op = op; priority = p; attempts = a; incomplete = i }
+-- a mark is met exactly if the result is 03: of a read whatever it comes to, and no other operation comes to a mark
+abbrev isMark : Ending → Bool
+isMark Good = false
+isMark Opposite = false
+isMark MarkRead = true
+isMark MediumEnd = false
+isMark LostRedundancy = false
+isMark LostIncomplete = false
 
-  abbrev Meets : Op → ℕ → Type 0
-  Meets op o = meetsMark (effectOf (At op) (verdictOf (asked op) o)) ≡ eqb (resultNumber (verdictOf (asked op) o)) 3
+abbrev marks : Verdict → Bool
+marks (Refused n) = false
+marks (Repeats q) = false
+marks (Ends e) = isMark e
 
-  meets-three : (op : Op) (o : ℕ) → o < 5 → isAllowed op o ≡ true → Meets op o
-  unfolding verdictOf isAllowed isPermanent endingOf rowOf anyOf
-  meets-three Read zero l h = go (eqb a 4)
-    where
-      go : (t : Bool) → meetsMark (effectOf (At Read) (Ends (cond t Opposite Good))) ≡ eqb (resultNumber (Ends (cond t Opposite Good))) 3
-      go true = refl
-      go false = refl
-  meets-three Read (suc zero) l h = go (leb 101 a || false)
-    where
-      go : (t : Bool) → meetsMark (effectOf (At Read) (cond t (Ends LostRedundancy) (Repeats (nextAttempt (asked Read) 1))))
-          ≡ eqb (resultNumber (cond t (Ends LostRedundancy) (Repeats (nextAttempt (asked Read) 1)))) 3
-      go true = refl
-      go false = refl
-  meets-three Read (suc (suc zero)) l h = go (leb 101 a || leb 1 i)
-    where
-      go : (t : Bool) → meetsMark (effectOf (At Read) (cond t (Ends LostIncomplete) (Repeats (nextAttempt (asked Read) 2))))
-          ≡ eqb (resultNumber (cond t (Ends LostIncomplete) (Repeats (nextAttempt (asked Read) 2)))) 3
-      go true = refl
-      go false = refl
-  meets-three Read (suc (suc (suc zero))) l h = refl
-  meets-three Read (suc (suc (suc (suc zero)))) l h = true-not-false h refl
-  meets-three Read (suc (suc (suc (suc (suc o))))) l h = absurd (omega arith)
-  meets-three Write zero l h = refl
-  meets-three Write (suc zero) l h = go (leb 27 a || false)
-    where
-      go : (t : Bool) → meetsMark (effectOf (At Write) (cond t (Ends LostRedundancy) (Repeats (nextAttempt (asked Write) 1))))
-          ≡ eqb (resultNumber (cond t (Ends LostRedundancy) (Repeats (nextAttempt (asked Write) 1)))) 3
-      go true = refl
-      go false = refl
-  meets-three Write (suc (suc zero)) l h = go (leb 27 a || leb 0 i)
-    where
-      go : (t : Bool) → meetsMark (effectOf (At Write) (cond t (Ends LostIncomplete) (Repeats (nextAttempt (asked Write) 2))))
-          ≡ eqb (resultNumber (cond t (Ends LostIncomplete) (Repeats (nextAttempt (asked Write) 2)))) 3
-      go true = refl
-      go false = refl
-  meets-three Write (suc (suc (suc zero))) l h = true-not-false h refl
-  meets-three Write (suc (suc (suc (suc zero)))) l h = refl
-  meets-three Write (suc (suc (suc (suc (suc o))))) l h = absurd (omega arith)
-  meets-three Mark zero l h = refl
-  meets-three Mark (suc zero) l h = go (leb 27 a || false)
-    where
-      go : (t : Bool) → meetsMark (effectOf (At Mark) (cond t (Ends LostRedundancy) (Repeats (nextAttempt (asked Mark) 1))))
-          ≡ eqb (resultNumber (cond t (Ends LostRedundancy) (Repeats (nextAttempt (asked Mark) 1)))) 3
-      go true = refl
-      go false = refl
-  meets-three Mark (suc (suc zero)) l h = true-not-false h refl
-  meets-three Mark (suc (suc (suc zero))) l h = true-not-false h refl
-  meets-three Mark (suc (suc (suc (suc zero)))) l h = refl
-  meets-three Mark (suc (suc (suc (suc (suc o))))) l h = absurd (omega arith)
+abbrev Meets : Op → Verdict → Type 0
+Meets op v = meetsMark (effectOf (At op) v) ≡ eqb (resultNumber v) 3
+
+meets-read : (v : Verdict) → Meets Read v
+meets-read (Refused n) = refl
+meets-read (Repeats q) = refl
+meets-read (Ends Good) = refl
+meets-read (Ends Opposite) = refl
+meets-read (Ends MarkRead) = refl
+meets-read (Ends MediumEnd) = refl
+meets-read (Ends LostRedundancy) = refl
+meets-read (Ends LostIncomplete) = refl
+
+meets-write : (v : Verdict) → marks v ≡ false → Meets Write v
+meets-write (Refused n) h = refl
+meets-write (Repeats q) h = refl
+meets-write (Ends Good) h = refl
+meets-write (Ends Opposite) h = refl
+meets-write (Ends MarkRead) h = true-not-false refl h
+meets-write (Ends MediumEnd) h = refl
+meets-write (Ends LostRedundancy) h = refl
+meets-write (Ends LostIncomplete) h = refl
+
+meets-mark : (v : Verdict) → marks v ≡ false → Meets Mark v
+meets-mark (Refused n) h = refl
+meets-mark (Repeats q) h = refl
+meets-mark (Ends Good) h = refl
+meets-mark (Ends Opposite) h = refl
+meets-mark (Ends MarkRead) h = true-not-false refl h
+meets-mark (Ends MediumEnd) h = refl
+meets-mark (Ends LostRedundancy) h = refl
+meets-mark (Ends LostIncomplete) h = refl
+
+-- an outcome that is not a file mark ends with none
+ending-not : (op : Op) (a o : ℕ) → isMark (goodEnding op a) ≡ false → eqb o fileMark ≡ false → isMark (endingOf op a o) ≡ false
+unfolding endingOf
+ending-not op a o g n = go (eqb o good) (eqb o redundancy) (eqb o incompleteWord) (eqb o fileMark) n
+  where
+    go : (x y z w : Bool) → w ≡ false → isMark (cond x (goodEnding op a) (cond y LostRedundancy (cond z LostIncomplete (cond w MarkRead MediumEnd)))) ≡ false
+    go true y z w e = g
+    go false true z w e = refl
+    go false false true w e = refl
+    go false false false true e = e
+    go false false false false e = refl
+
+verdict-not : (q : Request) (o : ℕ) → isMark (endingOf (q .op) (q .attempts) o) ≡ false → marks (verdictOf q o) ≡ false
+unfolding verdictOf
+verdict-not q o h = go (isAllowed (q .op) o) (not (isFailure o) || isPermanent q o)
+  where
+    go : (a e : Bool) → marks (cond a (cond e (Ends (endingOf (q .op) (q .attempts) o)) (Repeats (nextAttempt q o))) (Refused 12)) ≡ false
+    go true true = h
+    go true false = refl
+    go false e = refl
+
+meets-three : (q : Request) (o : ℕ) → isAllowed (q .op) o ≡ true → Meets (q .op) (verdictOf q o)
+unfolding isAllowed rowOf anyOf
+meets-three q o h = by (q .op) refl
+  where
+    never : (op : Op) → q .op ≡ op → isAllowed op fileMark ≡ false → eqb o fileMark ≡ false
+    never op e n = go (ℕ-discrete o fileMark)
+      where
+        go : Dec (o ≡ fileMark) → eqb o fileMark ≡ false
+        go (yes k) = true-not-false (sym (ap (λ (x : Op). isAllowed x o) e ∙ ap (isAllowed op) k) ∙ h) n
+        go (no ne) = ne-eqb o fileMark ne
+
+    by : (op : Op) → q .op ≡ op → Meets op (verdictOf q o)
+    by Read e = meets-read (verdictOf q o)
+    by Write e =
+        meets-write (verdictOf q o)
+        (verdict-not q o (ending-not (q .op) (q .attempts) o (ap (λ (x : Op). isMark (goodEnding x (q .attempts))) e) (never Write e refl)))
+    by Mark e =
+        meets-mark (verdictOf q o)
+        (verdict-not q o (ending-not (q .op) (q .attempts) o (ap (λ (x : Op). isMark (goodEnding x (q .attempts))) e) (never Mark e refl)))
 
 -- ---- one call
 
@@ -331,9 +362,6 @@ module _ (i : ℕ) (s : State) (area : List ℕ) (g : kept.Good s) (o : Option O
     ready : ReportReady (reportWrong s (length area) channel) (fileAt s j) c unit outcome (s .w) area words
     ready = report-ready (reportWrong s (length area) channel) (fileAt s j) c unit outcome (s .w) area words number
 
-    in-range : outcome < outcomeCount
-    in-range = leb-false outcomeCount outcome (or-right (leb unitCount unit) _ (ready .range))
-
     allowed : (r : Request) → turnAt c unit ≡ Working r → isAllowed (r .op) outcome ≡ true
     unfolding operationAt
     allowed r w = not-false (isAllowed (r .op) outcome) (sym (ap (λ (x : Turn). isForbidden (workOf x) outcome) w) ∙ ready .allowed)
@@ -345,7 +373,7 @@ module _ (i : ℕ) (s : State) (area : List ℕ) (g : kept.Good s) (o : Option O
         for : (r : Request) → turnAt c unit ≡ Working r → meetsMark (effectAt c unit outcome) ≡ eqb result 3
         for r w =
             ap (λ (x : Turn). meetsMark (effectOf (workOf x) (judgeTurn x outcome))) w
-            ∙ meets-three (r .priority) (r .attempts) (r .incomplete) (r .op) outcome in-range (allowed r w)
+            ∙ meets-three r outcome (allowed r w)
             ∙ sym (ap (λ (n : ℕ). eqb n 3) (result-is channel s area channel unit outcome words z ∙ ap (λ (x : Turn). resultNumber (judgeTurn x outcome)) w))
 
         go : Booked c unit outcome → meetsMark (effectAt c unit outcome) ≡ eqb result 3
@@ -368,7 +396,7 @@ module _ (i : ℕ) (s : State) (area : List ℕ) (g : kept.Good s) (o : Option O
     unfolding answerOf
     only = report-books-own s area channel unit outcome words (g .sixteen) z .only i
 
-    report-known : Known (fileAt t i) (told channel unit result o)
+    report-known : Known (fileAt t i) (withResult channel unit result o)
     report-known = go o K (ℕ-discrete i j)
       where
         mine : (x : Opened) → Shown (fileAt s j) x → Shown (fileAt t j) (record {
@@ -402,11 +430,11 @@ module _ (i : ℕ) (s : State) (area : List ℕ) (g : kept.Good s) (o : Option O
                 absurd (ne (only (and-both (fileAt s i .opened) _ (Kx .opened)
                 (and-both (eqb (fileAt s i .channel) channel) _ (ap (λ (n : ℕ). eqb n channel) (Kx .channel) ∙ p) (ap (λ (n : ℕ). eqb n unit) (Kx .unit) ∙ q)))))
 
-        go : (h : Option Opened) → Known (fileAt s i) h → Dec (i ≡ j) → Known (fileAt t i) (told channel unit result h)
+        go : (h : Option Opened) → Known (fileAt s i) h → Dec (i ≡ j) → Known (fileAt t i) (withResult channel unit result h)
         go none Kn (yes q) = true-not-false (and-left (fileAt s j .opened) _ bound) (subst (λ (n : ℕ). fileAt s n .opened ≡ false) q Kn)
         go none Kn (no ne) = ap (λ (f : File). f .opened) (others i ne) ∙ Kn
         go (some x) Kx (yes q) =
-            subst (λ (n : ℕ). Known (fileAt t n) (told channel unit result (some x))) (sym q) (mine x (subst (λ (n : ℕ). Shown (fileAt s n) x) q Kx))
+            subst (λ (n : ℕ). Known (fileAt t n) (withResult channel unit result (some x))) (sym q) (mine x (subst (λ (n : ℕ). Shown (fileAt s n) x) q Kx))
         go (some x) Kx (no ne) =
             let e = others i ne in
             record {

@@ -114,10 +114,10 @@ pub record Opened : Type 0 where
   pub unit : ℕ
   pub marked : Bool
 
--- "03 mark"
-abbrev pub told : ℕ → ℕ → ℕ → Option Opened → Option Opened
-told channel unit result none = none
-told channel unit result (some f) =
+-- after a report with that result; "03 mark"
+abbrev pub withResult : ℕ → ℕ → ℕ → Option Opened → Option Opened
+withResult channel unit result none = none
+withResult channel unit result (some f) =
     some
     (record {
       channel = f .channel;
@@ -132,7 +132,7 @@ openedBy i (opening file channel unit flags size rlen) a o =
     cond (eqb file i) (some (record { channel = channel; unit = unit; marked = false })) o
 openedBy i (close file) a o = cond (eqb file i) none o
 openedBy i (ask file op priority) a o = o
-openedBy i (report channel unit outcome words) a o = told channel unit (toldResult (a .added)) o
+openedBy i (report channel unit outcome words) a o = withResult channel unit (toldResult (a .added)) o
 openedBy i (get file) a o = o
 openedBy i (put file words) a o = o
 openedBy i (seal file) a o = o
