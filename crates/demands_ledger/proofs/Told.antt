@@ -6,7 +6,7 @@ use mathlib.Core.List.{List, [], _∷_, _++_}
 use Prim.Native.Nat.{ℕ}
 use Rattle.file.specs.declared.File.{File}
 use Rattle.file_input.specs.Ages.{Block, line}
-use Rattle.demands_ledger.specs.Ledgers.{Item, Ledger}
+use Rattle.demands_ledger.specs.Ledgers.{Item, Choice, Ledger}
 use Rattle.demands_ledger.specs.Blocks.{blocksIn, unreadOf, partIn, allChecked, joined, contents, numberAfter}
 
 -- every element has the property
@@ -34,14 +34,17 @@ pub record Brought (w : ℕ) (f : File) (area : List ℕ) (came : List (List ℕ
   pub untold : All UntoldFirst (line f)
 
 -- what the open of the file chose
-pub record Chose (f : File) (channel unit : ℕ) (sequence check : Bool) : Type 0 where
-  pub onChannel : channel ≡ f .channel
-  pub onUnit : unit ≡ f .unit
-  pub sequences : sequence ≡ f .sequence
-  pub checks : check ≡ f .check
+pub record Chose (f : File) (c : Choice) : Type 0 where
+  pub onChannel : c .channel ≡ f .channel
+  pub onUnit : c .unit ≡ f .unit
+  pub sequences : c .sequence ≡ f .sequence
+  pub checks : c .check ≡ f .check
+  pub sizes : c .size ≡ f .size
+  pub rlens : c .rlen ≡ f .rlen
 
 pub record Told (w : ℕ) (f : File) (area : List ℕ) (g : Ledger) : Type 0 where
   pub opened : g .opened ≡ f .opened
-  pub chose : f .opened ≡ true → Chose f (g .channel) (g .unit) (g .sequence) (g .check)
+  pub chose : f .opened ≡ true → Chose f (g .chosen)
+  pub marks : f .opened ≡ true → f .output ≡ false → g .marked ≡ f .marked
   pub wrote : f .opened ≡ true → f .output ≡ true → Wrote w f area (g .puts) (g .sent)
   pub brought : f .opened ≡ true → f .output ≡ false → Brought w f area (g .came) (g .gone) (g .owed)
