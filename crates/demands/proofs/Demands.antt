@@ -15,17 +15,19 @@ use Rattle.state.specs.Places.{beforeStart, fileAt}
 use Rattle.state_sound.specs.Soundness.{sound}
 use Rattle.pack_start.specs.declared.Masks.{Masks}
 use Rattle.call_request.specs.Ask.{isPriority}
-use Rattle.pack.specs.Calls.{Call, fresh, opening, close, ask, report, answerOf}
+use Rattle.pack.specs.Calls.{Call, fresh, opening, close, ask, report, get, skip, answerOf}
 use Rattle.pack.specs.Histories.{Lent, after, count, freshStart, declaredOn}
 use Rattle.pack.proofs.Kept.{Good, good-before, start-judged, good-start, history-kept}
-use Rattle.demands_ledger.specs.Ledgers.{Ledger, blankLedger, toldError, stateAfter, areaAfter, ledgerAfter}
-use Rattle.demands_ledger.specs.Blocks.{joined}
+use Rattle.demands_ledger.specs.Ledgers.{Ledger, blankLedger, toldError, noted, stateAfter, areaAfter, ledgerAfter}
+use Rattle.demands_ledger.specs.Blocks.{unreadOf, joined}
 use Rattle.demands_ledger.proofs.Frames.{Kept}
 use Rattle.demands_ledger.proofs.Always.{always, started as begun}
 use Rattle.demands.specs.Demands.{Refuses, Holds, Frees, Takes, Books, dataIn, Writes, Reads, Answers}
+use Rattle.demands.specs.Records.{Gives, Drops}
 use Rattle.demands.proofs.Refusals.{refuses}
 use Rattle.demands.proofs.Buffers.{good-holds, closed-frees, opened-takes, reported-books}
 use Rattle.demands.proofs.Blocks.{ledger-writes, ledger-closed, ledger-reads, ledger-judged}
+use Rattle.demands.proofs.Records.{ledger-got, ledger-skipped}
 use Rattle.demands.proofs.Turns.{answered}
 
 -- "Any call, with any numbers, words and lengths, gets an answer. A refusal carries one number of document 01's table, is given exactly
@@ -111,6 +113,22 @@ module _ (s₀ : State) (area₀ : List ℕ) (m w : ℕ) (masks : Masks) (starte
       → toldError (answerOf (stateAfter start area₀ calls) (areaAfter start area₀ calls) (report channel unit outcome words) .added)
       ≡ judgedBlock words (fileThen calls i .sequence) (fileThen calls i .check) ((1 + length (account calls i .came)) % blockNumbers) .error
   demand2-judged calls = ledger-judged (stateAfter start area₀ calls) (areaAfter start area₀ calls) (account calls) (kept calls)
+
+  -- records follow document 01: what an accepted get answers,
+  pub demand2-got : (calls : List Call) (i : ℕ) → answerOf (stateAfter start area₀ calls) (areaAfter start area₀ calls) (get i) .refusal ≡ 0
+      → Gives (account calls i .chosen .rlen) (account calls i .marked) (account calls i .owed)
+      (answerOf (stateAfter start area₀ calls) (areaAfter start area₀ calls) (get i) .added)
+      (answerOf (stateAfter start area₀ calls) (areaAfter start area₀ calls) (get i) .shows)
+  demand2-got calls = ledger-got (stateAfter start area₀ calls) (areaAfter start area₀ calls) (account calls) (kept calls)
+
+  -- and what an accepted skip drops
+  pub demand2-skipped : (calls : List Call) (i : ℕ) → answerOf (stateAfter start area₀ calls) (areaAfter start area₀ calls) (skip i) .refusal ≡ 0
+      → Drops (account calls i)
+      (noted i (skip i) (answerOf (stateAfter start area₀ calls) (areaAfter start area₀ calls) (skip i)) (account calls i))
+      (unreadOf (answerOf (stateAfter start area₀ calls) (areaAfter start area₀ calls) (skip i) .state .w)
+      (fileAt (answerOf (stateAfter start area₀ calls) (areaAfter start area₀ calls) (skip i) .state) i)
+      (answerOf (stateAfter start area₀ calls) (areaAfter start area₀ calls) (skip i) .area))
+  demand2-skipped calls = ledger-skipped (stateAfter start area₀ calls) (areaAfter start area₀ calls) (account calls) (kept calls)
 
   -- "From a fresh start (and no second), each call given the state that the last one left: an accepted ordinary request on a channel of U
   -- declared units is answered at most once; until then its channel is working or frozen; its answer comes by the time 101 x (U + P)

@@ -2,5 +2,6 @@ pub mod Refusals
 pub mod Buffers
 pub mod Turns
 pub mod Blocks
+pub mod Records
 pub mod Demands
 pub mod Examples

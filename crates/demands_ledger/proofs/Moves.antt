@@ -67,11 +67,15 @@ pass-same f = go (isUsedUp (slotAt f (oldest f)))
     go true = drop-same f
     go false = same-self f
 
+pub looked-same : (f : File) → Same f (lookedAt f)
+unfolding lookedAt
+looked-same f = same-then f (passed f) (passed (passed f)) (pass-same f) (pass-same (passed f))
+
 get-same : (w : ℕ) (f : File) → Same f (getFrom w f .file)
-unfolding getFrom lookedAt afterFound
+unfolding getFrom afterFound
 get-same w f =
-    let h = passed (passed f) in
-    same-then f h (afterFound h) (same-then f (passed f) h (pass-same f) (pass-same (passed f)))
+    let h = lookedAt f in
+    same-then f h (afterFound h) (looked-same f)
     (slot-same h (oldest h) (slotAfter (h .rlen) (slotAt h (oldest h))) (h .turned) (h .block))
 
 -- whether a mark was read
