@@ -12,5 +12,6 @@ pub mod Booked
 pub mod Deliveries
 pub mod Reported
 pub mod Always
+pub mod Asks
 pub mod Shown
 pub mod Closed

@@ -145,7 +145,7 @@ module _ (s : State) (area : List ℕ) (ledgers : ℕ → Ledger) (K : Kept s ar
       (ap (λ (f : File). f .opened) (close-file s file z))
       (ap (λ (g : Ledger). g .opened) (entering-here ledgers withClose file)))
 
-  asked-number : (file op priority : ℕ) → askBy s file op priority .refusal ≡ 0
+  pub asked-number : (file op priority : ℕ) → askBy s file op priority .refusal ≡ 0
       → askRefusal (askWrong s file) (fileAt s file) (channelAt s (fileAt s file .channel)) op priority ≡ 0
   unfolding askRefusal
   asked-number file op priority z = sym (ask-exactly s file op priority .number) ∙ z
