@@ -132,9 +132,9 @@ module _ (m w : ℕ) (f : File) (S : Sound m w f) (xs : List ℕ) (long : m * w 
       let inside = send-inside m w f S full in
       let long-block : length (partOf (sendStart w f) (sendWords f) xs) ≡ sendWords f = length-part (sendStart w f) (sendWords f) xs (omega arith) in
       told-out w f (withoutOldest f) (drop-same f) xs (plus L false (asBlock (partOf (sendStart w f) (sendWords f) xs)) [] []) u (T .opened) (T .chose o)
-      (subst (λ (bs : List (List ℕ)). Wrote w (withoutOldest f) xs (L .puts) (L .sent ++ bs))
+      (subst (λ (bs : List (List ℕ)). Wrote w (withoutOldest f) xs (L .puts) (L .sent ++ bs) (L .seals))
       (sym (one-block (partOf (sendStart w f) (sendWords f) xs) (omega (arith, send-some full))))
-      (send-wrote w f xs (L .puts) (L .sent) full (T .wrote o u)))
+      (send-wrote w f xs (L .puts) (L .sent) (L .seals) full (T .wrote o u)))
 
   -- ---- a block that is delivered
 

@@ -61,7 +61,7 @@ module _ (w : ℕ) (f g : File) (A : Same f g) (xs : List ℕ) (L : Ledger) wher
     rlens = e .rlens ∙ sym (A .rlen);
   }
 
-  pub told-out : f .output ≡ true → L .opened ≡ f .opened → Chosen f → Wrote w g xs (L .puts) (L .sent) → Told w g xs L
+  pub told-out : f .output ≡ true → L .opened ≡ f .opened → Chosen f → Wrote w g xs (L .puts) (L .sent) (L .seals) → Told w g xs L
   told-out o e h T = record {
     opened = e ∙ sym (A .opened);
     chose = λ p. chose-of h;
@@ -87,7 +87,7 @@ module _ (w : ℕ) (f g : File) (A : Same f g) (xs : List ℕ) (L : Ledger) wher
     opened = T .opened ∙ sym (A .opened);
     chose = λ o. chose-of (T .chose (sym (A .opened) ∙ o));
     marks = λ o q. e (sym (A .opened) ∙ o) (sym (A .output) ∙ q);
-    wrote = λ o q. wrote-still w f g xs xs (L .puts) (L .sent) A (T .wrote (sym (A .opened) ∙ o) (sym (A .output) ∙ q)) refl l p n;
+    wrote = λ o q. wrote-still w f g xs xs (L .puts) (L .sent) (L .seals) A (T .wrote (sym (A .opened) ∙ o) (sym (A .output) ∙ q)) refl l p n;
     brought = λ o q. brought-still w f g xs xs (L .came) (L .gone) (L .owed) A (T .brought (sym (A .opened) ∙ o) (sym (A .output) ∙ q)) refl l n;
   }
 
@@ -112,7 +112,7 @@ told-frame m w f xs zs L S same T = record {
   opened = T .opened;
   chose = T .chose;
   marks = T .marks;
-  wrote = λ o q. frame-wrote m w f (S o) xs zs (L .puts) (L .sent) (same o) (T .wrote o q);
+  wrote = λ o q. frame-wrote m w f (S o) xs zs (L .puts) (L .sent) (L .seals) (same o) (T .wrote o q);
   brought = λ o q.
       brought-still w f f xs zs (L .came) (L .gone) (L .owed) (same-self f) (T .brought o q) (unread-same m w f (S o) xs zs (λ k p full. same o k p))
       refl refl;

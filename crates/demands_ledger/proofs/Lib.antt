@@ -2,6 +2,7 @@ pub mod Told
 pub mod Lists
 pub mod Lines
 pub mod Sides
+pub mod Cuts
 pub mod Writes
 pub mod Brings
 pub mod Gives

@@ -29,8 +29,8 @@ use Rattle.pack_record.specs.Puts.{putBy, putByArea}
 use Rattle.pack_record.specs.Seals.{sealBy, sealByArea}
 use Rattle.pack_record.proofs.GetTheorems.{get-open, get-input, get-area-long, get-finds, get-file, get-frame}
 use Rattle.pack_record.proofs.SkipTheorems.{skip-open, skip-input, skip-full, skip-drops, skip-frame}
-use Rattle.pack_record.proofs.PutTheorems.{put-open, put-output, put-room, put-file, put-own-buffer, put-adds, put-seals, put-frame}
-use Rattle.pack_record.proofs.SealTheorems.{seal-open, seal-output, seal-part, seal-file, seal-own-buffer, seal-seals, seal-frame}
+use Rattle.pack_record.proofs.PutTheorems.{put-area-long, put-open, put-output, put-room, put-exact, put-file, put-own-buffer, put-adds, put-seals, put-frame}
+use Rattle.pack_record.proofs.SealTheorems.{seal-area-long, seal-open, seal-output, seal-part, seal-file, seal-own-buffer, seal-seals, seal-frame}
 use Rattle.pack.specs.Calls.{get, put, seal, skip, answerOf}
 use Rattle.pack.proofs.Kept.{call-kept}
 use Rattle.demands_ledger.specs.Ledgers.{Item, Ledger, givenBy, pastUsed, without, withGet, withPut, withSeal, withSkip}
@@ -137,7 +137,8 @@ module _ (s : State) (area : List ℕ) (ledgers : ℕ → Ledger) (K : Kept s ar
       (told-out (s .w) f (afterPut f) (put-same (s .m) (s .w) f (S file o) room) (putByArea s area file words) (withPut words (ledgers file))
       (put-output s area file words z) (K .told file .opened) (K .told file .chose o)
       (put-wrote (s .m) (s .w) f (S file o) room area (putByArea s area file words) words (ledgers file .puts) (ledgers file .sent)
-      (K .told file .wrote o (put-output s area file words z)) only
+      (ledgers file .seals) (K .told file .wrote o (put-output s area file words z)) (put-area-long s area file words z)
+      (put-exact s area file words z) only
       (put-adds s area file words z) (put-seals s area file words z)))))
 
   pub seal-kept : (file : ℕ) → sealBy s area file .refusal ≡ 0
@@ -157,8 +158,8 @@ module _ (s : State) (area : List ℕ) (ledgers : ℕ → Ledger) (K : Kept s ar
       (subst (Told (s .w) (sealedFile f) (sealByArea s area file)) (sym (entering-here ledgers withSeal file))
       (told-out (s .w) f (sealedFile f) (seal-same f) (sealByArea s area file) (withSeal (ledgers file)) (seal-output s area file z)
       (K .told file .opened) (K .told file .chose o)
-      (seal-wrote (s .m) (s .w) f (S file o) part area (sealByArea s area file) (ledgers file .puts) (ledgers file .sent)
-      (K .told file .wrote o (seal-output s area file z)) only
+      (seal-wrote (s .m) (s .w) f (S file o) part area (sealByArea s area file) (ledgers file .puts) (ledgers file .sent) (ledgers file .seals)
+      (K .told file .wrote o (seal-output s area file z)) (seal-area-long s area file z) only
       (seal-seals s area file z)))))
 
   pub get-kept : (file : ℕ) → getBy s area file .refusal ≡ 0

@@ -49,7 +49,7 @@ unfolding joined
 joined-append [] b = refl
 joined-append (x ∷ a) b = ap (λ l. x ++ l) (joined-append a b) ∙ sym (append-assoc x (joined a) (joined b))
 
-module _ (w : ℕ) (f : File) (area puts : List ℕ) (sent : List (List ℕ)) (T : Wrote w f area puts sent) where
+module _ (w : ℕ) (f : File) (area puts : List ℕ) (sent : List (List ℕ)) (seals : List ℕ) (T : Wrote w f area puts sent seals) where
   abbrev data-of : List (List ℕ) → List (List ℕ)
   data-of = map (dataOf (f .sequence) (f .check))
 

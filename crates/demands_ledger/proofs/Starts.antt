@@ -2,9 +2,12 @@
 use mathlib.Core.Path.{_≡_, refl, sym, ap, subst, _∙_}
 use mathlib.Core.Bool.{Bool, true, false, cond}
 use mathlib.Core.List.{List, []}
-use Prim.Native.Nat.{ℕ, zero, suc}
+use Prim.Native.Nat.{ℕ, zero, suc, _≤_}
+use borrow.Author.Tests.{leb-true}
+use lib.Dec.{leb}
 use lib.ListN.{length, getD, replicate}
-use Rattle.area.proofs.Walks.{true-not-false}
+use Rattle.area.specs.Lists.{anyOf}
+use Rattle.area.proofs.Walks.{true-not-false, and-left, and-right}
 use Rattle.file.specs.declared.Slot.{Slot}
 use Rattle.file.specs.declared.Slot.the-variants.{Empty, Taken, Part, Full}
 use Rattle.file.specs.declared.Side.{Side}
@@ -31,7 +34,7 @@ use Rattle.pack_open.specs.Open.{openBy}
 use Rattle.pack_open.specs.Close.{closeBy}
 use Rattle.pack_start.specs.Freeze.{freezeBy, thawBy}
 use Rattle.pack_start.proofs.FreshTheorems.{fresh-accepted}
-use Rattle.pack_open.proofs.OpenTheorems.{lowOf, highOf, open-file, open-frame}
+use Rattle.pack_open.proofs.OpenTheorems.{lowOf, highOf, open-accepted, open-file, open-frame}
 use Rattle.pack_open.proofs.CloseTheorems.{close-file, close-frame}
 use Rattle.pack_start.proofs.FreezeTheorems.{OnlyTurns, freeze-frame, thaw-frame}
 use Rattle.call_request.specs.declared.AskChange.{AskChange}
@@ -43,9 +46,10 @@ use Rattle.pack_request.proofs.AskTheorems.{ask-ready, ask-exactly, ask-frame}
 use Rattle.pack.specs.Calls.{opening, close, ask, freeze, thaw, answerOf}
 use Rattle.pack.proofs.Kept.{Good, call-kept}
 use Rattle.demands_ledger.specs.Ledgers.{Choice, Ledger, choiceOf, newLedger, blankLedger, withAsk, withClose}
-use Rattle.demands_ledger.specs.Blocks.{allChecked, joined, contents, numberAfter}
+use Rattle.demands_ledger.specs.Blocks.{allChecked, joined, contents, numberAfter, done}
 use Rattle.demands_ledger.proofs.Told.{none, Told}
 use Rattle.demands_ledger.proofs.Sides.{slot-same, block-stays, mark-stays, part-stays}
+use Rattle.demands_ledger.proofs.Cuts.{filling-none}
 use Rattle.demands_ledger.proofs.Frames.{told-still, told-closed, Kept, kept-file}
 use Rattle.demands_ledger.proofs.Moves.{entering, entering-other, entering-here}
 
@@ -54,14 +58,21 @@ abbrev chosenBy : Wish → Choice
 chosenBy q = record { channel = q .channel; unit = q .unit; sequence = q .sequence; check = q .check; size = q .size; rlen = q .rlen }
 
 -- a file as it is opened
-told-opened : (w : ℕ) (q : Wish) (low high : ℕ) (area : List ℕ)
+told-opened : (w : ℕ) (q : Wish) (low high : ℕ) (area : List ℕ) → q .rlen ≤ q .size
     → Told w (openedFile q low high) area (newLedger (chosenBy q))
-unfolding openedFile line partStart partLength partSide joined allChecked contents numberAfter
-told-opened w q low high area = record {
+unfolding openedFile line partStart partLength partSide joined allChecked contents numberAfter anyOf
+told-opened w q low high area fits = record {
   opened = refl;
   chose = λ o. record { onChannel = refl; onUnit = refl; sequences = refl; checks = refl; sizes = refl; rlens = refl };
   marks = λ o p. refl;
-  wrote = λ o p. record { data-words = []; words = refl; blocks = refl; number = refl };
+  wrote = λ o p. record {
+    data-words = [];
+    words = refl;
+    blocks = refl;
+    number = refl;
+    sized = done;
+    filling = filling-none (q .rlen) (q .size) [] 0 fits (λ k e. true-not-false e refl);
+  };
   brought = λ o p. record { lies = refl; items = refl; number = refl; untold = none };
 }
 
@@ -132,7 +143,8 @@ module _ (s : State) (area : List ℕ) (ledgers : ℕ → Ledger) (K : Kept s ar
       (sym (open-file s file channel unit flags size rlen z (K .good .sixteen)))
       (subst (Told (s .w) (openedFile (wishOf channel unit flags size rlen) (lowOf s) (highOf s)) area)
       (sym (entering-here ledgers (λ g. newLedger (choiceOf channel unit flags size rlen)) file))
-      (told-opened (s .w) (wishOf channel unit flags size rlen) (lowOf s) (highOf s) area)))
+      (told-opened (s .w) (wishOf channel unit flags size rlen) (lowOf s) (highOf s) area
+      (leb-true rlen size (and-left (leb rlen size) _ (and-right (leb 1 rlen) _ (open-accepted s file channel unit flags size rlen z .sizes)))))))
 
   pub close-kept : (file : ℕ) → closeBy s file .refusal ≡ 0 → Kept (closeBy s file .state) area (entering ledgers withClose file)
   unfolding answerOf
