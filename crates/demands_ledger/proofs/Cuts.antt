@@ -61,6 +61,16 @@ module _ (r size : ℕ) (seals : List ℕ) where
       let z : k + length (d ++ joined blocks) ≡ k + length d + length (joined blocks) = omega arith in
       next T (divided-last (k + length d) blocks words D (subst (λ (n : ℕ). Sized r size seals n words) z S))
 
+  -- a block after others
+  pub divided-at : (k : ℕ) (blocks : List (List ℕ)) (words : List ℕ) (rest : List (List ℕ)) → Divided r size seals k (blocks ++ (words ∷ rest))
+      → Sized r size seals (k + length (joined blocks)) words
+  unfolding joined
+  divided-at k [] words rest (next S D) = let z : k + 0 ≡ k = omega arith in subst (λ (n : ℕ). Sized r size seals n words) (sym z) S
+  divided-at k (d ∷ blocks) words rest (next T D) =
+      let q : length (d ++ joined blocks) ≡ length d + length (joined blocks) = length-append d (joined blocks) in
+      let z : k + length d + length (joined blocks) ≡ k + length (d ++ joined blocks) = omega arith in
+      subst (λ (n : ℕ). Sized r size seals n words) z (divided-at (k + length d) blocks words rest D)
+
   -- ---- the part-filled block, with a record more
 
   module _ (k : ℕ) (part ys : List ℕ) (F : Filling r size seals k part) (one : length ys ≡ r) where

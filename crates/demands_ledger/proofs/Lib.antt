@@ -16,3 +16,4 @@ pub mod Always
 pub mod Asks
 pub mod Shown
 pub mod Closed
+pub mod Handed

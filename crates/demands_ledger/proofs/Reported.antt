@@ -72,17 +72,17 @@ module _ (s : State) (area : List ℕ) (ledgers : ℕ → Ledger) (K : Kept s ar
   abbrev L : Ledger
   L = ledgers i
 
-  number : reportRefusal (reportWrong s (length area) channel) f c unit outcome (s .w) area words ≡ 0
+  pub number : reportRefusal (reportWrong s (length area) channel) f c unit outcome (s .w) area words ≡ 0
   unfolding reportRefusal
   number = sym (report-exactly s area channel unit outcome words .number) ∙ z
 
-  ready : ReportReady (reportWrong s (length area) channel) f c unit outcome (s .w) area words
+  pub ready : ReportReady (reportWrong s (length area) channel) f c unit outcome (s .w) area words
   ready = report-ready (reportWrong s (length area) channel) f c unit outcome (s .w) area words number
 
   long : s .m * s .w ≤ length area
   long = ltb-false (length area) (s .m * s .w) (or-left (areaShort s (length area)) _ (or-right (not (sound s)) _ (ready .right)))
 
-  open-file : f .opened ≡ true
+  pub open-file : f .opened ≡ true
   open-file = isOpen s area channel unit outcome words (K .good .sixteen) number
 
   S : Sound (s .m) (s .w) f
@@ -95,7 +95,7 @@ module _ (s : State) (area : List ℕ) (ledgers : ℕ → Ledger) (K : Kept s ar
       words-delivered c unit outcome words (or-right (leb unitCount unit || leb outcomeCount outcome) _ (or-right (reportWrong s (length area) channel) _ row))
       (ready .works)
 
-  after-area : reportByArea s area channel unit outcome words ≡ reportedArea effect f (s .w) words area
+  pub after-area : reportByArea s area channel unit outcome words ≡ reportedArea effect f (s .w) words area
   unfolding reportByArea reportOnArea
   after-area = cond-true (reportedArea effect f (s .w) words area) area (eq-eqb _ 0 number)
 
@@ -111,7 +111,7 @@ module _ (s : State) (area : List ℕ) (ledgers : ℕ → Ledger) (K : Kept s ar
       subst (λ (ws : List ℕ). Told (s .w) g area (plus L mark [] (asBlock ws) (owedFor (L .chosen .sequence) (L .chosen .check) 0 ws))) (sym e)
       (subst (Told (s .w) g area) (plus-none L mark) T)
 
-  sending : isWrite (operationAt c unit) ≡ true → (f .output ≡ true) × (hasFull f ≡ true)
+  pub sending : isWrite (operationAt c unit) ≡ true → (f .output ≡ true) × (hasFull f ≡ true)
   unfolding operationAt
   sending h = write-ready (turnAt c unit) f h (requested-ready s area channel unit outcome words (K .good .sixteen) number)
 
@@ -135,7 +135,7 @@ module _ (s : State) (area : List ℕ) (ledgers : ℕ → Ledger) (K : Kept s ar
       (told-sent (s .m) (s .w) f S area long L open-file (R .0) (R .1) (K .told i))
   told-reported Keeps e = nothing-more f false (no-words (ap isDelivery e)) (K .told i)
 
-  change : reportChange s area channel unit outcome words ≡ record {
+  pub change : reportChange s area channel unit outcome words ≡ record {
     refusal = 0;
     result = resultNumber (judgeOf c unit outcome);
     error = deliveryError effect f words;
@@ -181,7 +181,7 @@ module _ (s : State) (area : List ℕ) (ledgers : ℕ → Ledger) (K : Kept s ar
 
   -- ---- the ledger that it enters is the one of its file
 
-  on-same : (j : ℕ) → isOn channel unit (ledgers j) ≡ serves channel unit (fileAt s j)
+  pub on-same : (j : ℕ) → isOn channel unit (ledgers j) ≡ serves channel unit (fileAt s j)
   on-same j = go (fileAt s j .opened) refl
     where
       go : (t : Bool) → fileAt s j .opened ≡ t → isOn channel unit (ledgers j) ≡ serves channel unit (fileAt s j)
