@@ -5,12 +5,13 @@ use mathlib.Core.List.{List, [], _∷_, _++_, map}
 use Prim.Native.Nat.{ℕ, zero, suc, _+_, _-_, _*_, _≤_, _<_}
 use native.Mathlib.Nat.{le-trans}
 use native.Mathlib.Omega.{arith}
-use borrow.Author.Tests.{eq-eqb, leb-true, leb-false, lt-ltb}
+use borrow.Author.Tests.{eq-eqb, leb-true, leb-false, le-leb, lt-leb, lt-ltb}
 use lib.Dec.{eqb, leb, ltb}
-use lib.ListN.{length, length-map, length-append}
+use lib.ListN.{length, take, length-map, length-append}
+use lib.Seq.{take-at}
 use Rattle.area.specs.Parts.{partOf}
 use Rattle.area.proofs.Walks.{true-not-false}
-use Rattle.area.proofs.Marks.{cond-true}
+use Rattle.area.proofs.Marks.{cond-true, cond-false}
 use Rattle.area.proofs.Pastes.{length-part}
 use Rattle.file.specs.declared.Slot.{Slot}
 use Rattle.file.specs.declared.Slot.the-variants.{Empty, Taken, Part, Full}
@@ -23,7 +24,7 @@ use Rattle.file_input.specs.Ages.{Block, fullIn, inOrder, line}
 use Rattle.file_input.proofs.Ages.{block, Aged, noBlock, old, aged}
 use Rattle.file_input.specs.declared.Got.{Got}
 use Rattle.file_input.specs.declared.Got.the-variants.{Record, Leftover, Error}
-use Rattle.file_input.specs.Gets.{passed, lookedAt, foundIn, foundNone, found, getFrom}
+use Rattle.file_input.specs.Gets.{passed, lookedAt, foundIn, foundNone, found, getFrom, gotNumber, gotError}
 use Rattle.file_input.specs.Histories.{shown}
 use Rattle.state_sound.proofs.FileFacts.{Sound}
 use Rattle.state_sound.proofs.FilesKept.{owns-used}
@@ -36,7 +37,7 @@ use Rattle.pack_record.specs.Gets.{getWords}
 use Rattle.pack_record.proofs.GetTheorems.{get-open, get-input, get-area-long, get-finds}
 use Rattle.pack_record.proofs.SkipTheorems.{skip-open, skip-input, skip-full, skip-drops}
 use Rattle.pack_record.proofs.Written.{part-join}
-use Rattle.pack.specs.Calls.{Added, got, get, skip, answerOf}
+use Rattle.pack.specs.Calls.{Added, nothing, working, reported, got, get, skip, answerOf}
 use Rattle.demands_ledger.specs.Ledgers.{Item, word, wrong, Ledger, pastUsed, firstOf, restOf, withSkip, noted}
 use Rattle.demands_ledger.specs.Blocks.{unreadIn, unreadOf}
 use Rattle.demands_ledger.proofs.Told.{Brought}
@@ -157,6 +158,72 @@ file-given m w f S xs long came gone owed T =
     (subst (λ (t : Bool). Gives (h .rlen) t (pastUsed (pastUsed owed)) a (shown xs (found w h))) (looked-marked f)
     (found-given m w h (passed-sound m w (passed f) P) xs long came gone (pastUsed (pastUsed owed)) (past-both owed two)
     (passed-brought m w (passed f) P xs long came gone (pastUsed owed) (passed-brought m w f S xs long came gone owed T))))))
+
+-- ---- one answer alone is right
+
+wordsIn : List Item → List ℕ
+wordsIn [] = []
+wordsIn (word x ∷ items) = x ∷ wordsIn items
+wordsIn (wrong e ∷ items) = wordsIn items
+
+words-back : (ws : List ℕ) → wordsIn (map word ws) ≡ ws
+unfolding wordsIn
+words-back [] = refl
+words-back (x ∷ ws) = ap (λ (l : List ℕ). x ∷ l) (words-back ws)
+
+-- what the cases come to: the number, the error and the words
+record Right : Type 0 where
+  number : ℕ
+  error : ℕ
+  words : List ℕ
+
+abbrev pick : ℕ → List ℕ → Right
+pick r ws = cond (leb r (length ws)) (record { number = 0; error = 0; words = take r ws }) (record { number = 4; error = 0; words = ws })
+
+rightOf : ℕ → Bool → List (List Item) → Right
+rightOf r marked [] = record { number = cond marked 2 1; error = 0; words = [] }
+rightOf r marked ([] ∷ blocks) = rightOf r marked blocks
+rightOf r marked ((word x ∷ items) ∷ blocks) = pick r (x ∷ wordsIn items)
+rightOf r marked ((wrong e ∷ items) ∷ blocks) = record { number = 3; error = e; words = [] }
+
+abbrev numberIn : Added → ℕ
+numberIn nothing = 0
+numberIn (working u) = 0
+numberIn (reported result error u) = 0
+numberIn (got g) = gotNumber g
+
+abbrev errorIn : Added → ℕ
+errorIn nothing = 0
+errorIn (working u) = 0
+errorIn (reported result error u) = 0
+errorIn (got g) = gotError g
+
+module _ (r : ℕ) (some : 0 < r) (marked : Bool) where
+  right-words : (ws : List ℕ) (blocks : List (List Item)) → 0 < length ws → rightOf r marked (map word ws ∷ blocks) ≡ pick r ws
+  unfolding rightOf
+  right-words [] blocks h = absurd (omega arith)
+  right-words (x ∷ ws) blocks h = ap (λ (l : List ℕ). pick r (x ∷ l)) (words-back ws)
+
+  gives-right : (owed : List (List Item)) (a : Added) (words : List ℕ) → Gives r marked owed a words
+      → rightOf r marked owed ≡ record { number = numberIn a; error = errorIn a; words = words }
+  unfolding rightOf
+  gives-right owed a words (past {blocks = bs} g) = gives-right bs a words g
+  gives-right owed a words (tells e) = refl
+  gives-right owed a words (gives start ws more {blocks = bs} l) =
+      let long : length (words ++ more) ≡ length words + length more = length-append words more in
+      right-words (words ++ more) bs (omega (arith, l))
+      ∙ cond-true _ _ (le-leb r (length (words ++ more)) (omega (arith, l)))
+      ∙ ap (λ (v : List ℕ). record { number = 0; error = 0; words = v }) (take-at words more r l)
+  gives-right owed a words (leaves start n ws {blocks = bs} l h k) =
+      right-words words bs (omega (arith, l)) ∙ cond-false _ _ (lt-leb r (length words) (omega (arith, l)))
+  gives-right owed a words (ends e) = ap (λ (t : Bool). record { number = cond t 2 1; error = 0; words = [] }) e
+  gives-right owed a words (waits e) = ap (λ (t : Bool). record { number = cond t 2 1; error = 0; words = [] }) e
+
+  pub gives-one : (owed : List (List Item)) (x y : Got) (ws vs : List ℕ) → Gives r marked owed (got x) ws → Gives r marked owed (got y) vs
+      → (gotNumber x ≡ gotNumber y) × (gotError x ≡ gotError y) × (ws ≡ vs)
+  gives-one owed x y ws vs g h =
+      let e = sym (gives-right owed (got x) ws g) ∙ gives-right owed (got y) vs h in
+      (ap (λ (v : Right). v .number) e, ap (λ (v : Right). v .error) e, ap (λ (v : Right). v .words) e)
 
 module _ (s : State) (area : List ℕ) (ledgers : ℕ → Ledger) (K : Kept s area ledgers) (i : ℕ) where
   pub ledger-got : answerOf s area (get i) .refusal ≡ 0

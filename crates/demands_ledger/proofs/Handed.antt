@@ -62,8 +62,8 @@ sent-first w f xs full = go (oldest f) (aged f) full
     go k (old _ n at e rest s x l gone moved) t = (
       map (blockIn w (extra (f .sequence) (f .check)) xs) rest,
       ap (map (blockIn w (extra (f .sequence) (f .check)) xs)) l
-      ∙ ap (λ (i : ℕ). partOf (startAt f w k) (i + extra (f .sequence) (f .check)) xs ∷ map (blockIn w (extra (f .sequence) (f .check)) xs) rest)
-      (sym (ap fullWords x)),
+          ∙ ap (λ (i : ℕ). partOf (startAt f w k) (i + extra (f .sequence) (f .check)) xs ∷ map (blockIn w (extra (f .sequence) (f .check)) xs) rest)
+          (sym (ap fullWords x)),
     )
 
 -- ---- the numbers of the operations
