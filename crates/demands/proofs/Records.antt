@@ -1,5 +1,5 @@
 -- Demand 2 on get and skip, from what the ledgers keep. Assumes nothing.
-use mathlib.Core.Path.{_≡_, refl, sym, ap, ap₂, subst, _∙_}
+use mathlib.Core.Path.{_≡_, refl, sym, ap, subst, _∙_}
 use mathlib.Core.Bool.{Bool, true, false, cond}
 use mathlib.Core.List.{List, [], _∷_, _++_, map}
 use Prim.Native.Nat.{ℕ, zero, suc, _+_, _-_, _*_, _≤_, _<_}
@@ -65,7 +65,8 @@ past-both ((x ∷ items) ∷ ys) h = some-owed
 fresh-head : (items : List Item) (blocks : List (List Item)) → Fresh (items ∷ blocks) → 1 ≤ length items
 fresh-head (x ∷ items) blocks f = omega arith
 
-still-past : (r : ℕ) (marked : Bool) (owed : List (List Item)) (a : Added) (words : List ℕ) → Gives r marked (pastUsed owed) a words → Gives r marked owed a words
+still-past : (r : ℕ) (marked : Bool) (owed : List (List Item)) (a : Added) (words : List ℕ) → Gives r marked (pastUsed owed) a words
+    → Gives r marked owed a words
 still-past r marked [] a words g = g
 still-past r marked ([] ∷ blocks) a words g = past g
 still-past r marked ((x ∷ items) ∷ blocks) a words g = g
@@ -98,7 +99,8 @@ module _ (w b r n at : ℕ) (xs : List ℕ) (within : at ≤ n) (inside : b * w 
   error-told false e items other q = true-not-false q refl
 
   words-told : (t u : Bool) (x : Got) → t ≡ false → leb r (n - at) ≡ u → 1 ≤ n - at
-      → Gives r marked (map word (partOf (b * w + at) (n - at) xs) ∷ blocks) (got (cond t x (cond u (Record (b * w + at) r) (Leftover (b * w + at) (n - at)))))
+      → Gives r marked (map word (partOf (b * w + at) (n - at) xs) ∷ blocks)
+      (got (cond t x (cond u (Record (b * w + at) r) (Leftover (b * w + at) (n - at)))))
       (shown xs (cond t x (cond u (Record (b * w + at) r) (Leftover (b * w + at) (n - at)))))
   words-told true u x q l some = true-not-false refl q
   words-told false true x q l some =
@@ -107,7 +109,8 @@ module _ (w b r n at : ℕ) (xs : List ℕ) (within : at ≤ n) (inside : b * w 
       subst (λ (ws : List ℕ). Gives r marked (map word ws ∷ blocks) (got (Record (b * w + at) r)) (partOf (b * w + at) r xs))
       (sym (ap (λ (i : ℕ). partOf (b * w + at) i xs) sum ∙ part-join (b * w + at) r (n - (at + r)) xs))
       (gives (b * w + at) (partOf (b * w + at) r xs) (partOf (b * w + at + r) (n - (at + r)) xs) (long-part r enough))
-  words-told false false x q l some = leaves (b * w + at) (n - at) (partOf (b * w + at) (n - at) xs) (long-part (n - at) (omega arith)) some (leb-false r (n - at) l)
+  words-told false false x q l some =
+      leaves (b * w + at) (n - at) (partOf (b * w + at) (n - at) xs) (long-part (n - at) (omega arith)) some (leb-false r (n - at) l)
 
   block-given : (e : ℕ) → 1 ≤ length (unreadIn w xs (block b n at e))
       → Gives r marked (unreadIn w xs (block b n at e) ∷ blocks) (got (foundIn (b * w) r (Full n at e))) (shown xs (foundIn (b * w) r (Full n at e)))
@@ -118,7 +121,8 @@ module _ (w b r n at : ℕ) (xs : List ℕ) (within : at ≤ n) (inside : b * w 
 
 -- ---- get
 
-found-given : (m w : ℕ) (f : File) → Sound m w f → (xs : List ℕ) → m * w ≤ length xs → (came : List (List ℕ)) (gone : List Item) (owed : List (List Item))
+found-given : (m w : ℕ) (f : File) → Sound m w f → (xs : List ℕ) → m * w ≤ length xs
+    → (came : List (List ℕ)) (gone : List Item) (owed : List (List Item))
     → Fresh owed → Brought w f xs came gone owed → Gives (f .rlen) (f .marked) owed (got (found w f)) (shown xs (found w f))
 unfolding found
 found-given m w f S xs long came gone owed fresh T = go (oldest f) (aged f)
@@ -131,7 +135,8 @@ found-given m w f S xs long came gone owed fresh T = go (oldest f) (aged f)
     none false e = waits e
 
     go : (k : Side) → Aged f k → To owed (cond (isSide k) (foundIn (startAt f w k) (f .rlen) (slotAt f k)) (foundNone (f .marked)))
-    go Neither (noBlock e) = subst (λ (bs : List (List Item)). To bs (foundNone (f .marked))) (sym (T .lies ∙ ap (map (unreadIn w xs)) e)) (none (f .marked) refl)
+    go Neither (noBlock e) =
+        subst (λ (bs : List (List Item)). To bs (foundNone (f .marked))) (sym (T .lies ∙ ap (map (unreadIn w xs)) e)) (none (f .marked) refl)
     go k (old _ n at e rest s x l left moved) =
         let N = numbers m w f k n at e S x in
         let own = owns-used m w f k S s (ap isEmpty x) in
@@ -144,14 +149,16 @@ found-given m w f S xs long came gone owed fresh T = go (oldest f) (aged f)
         (block-given w (bufferAt f k .number) (f .rlen) n at xs (N .place) (le-trans inside long) (f .marked) (map (unreadIn w xs) rest) e
         (fresh-head (unreadIn w xs (block (bufferAt f k .number) n at e)) (map (unreadIn w xs) rest) (subst Fresh z fresh))))
 
-file-given : (m w : ℕ) (f : File) → Sound m w f → (xs : List ℕ) → m * w ≤ length xs → (came : List (List ℕ)) (gone : List Item) (owed : List (List Item))
+file-given : (m w : ℕ) (f : File) → Sound m w f → (xs : List ℕ) → m * w ≤ length xs
+    → (came : List (List ℕ)) (gone : List Item) (owed : List (List Item))
     → Brought w f xs came gone owed → Gives (f .rlen) (f .marked) owed (got (getFrom w f .got)) (shown xs (getFrom w f .got))
 unfolding getFrom lookedAt
 file-given m w f S xs long came gone owed T =
     let P = passed-sound m w f S in
     let h = passed (passed f) in
     let a = got (found w h) in
-    let two : length owed ≤ 2 = subst (λ (bs : List (List Item)). length bs ≤ 2) (sym (T .lies)) (omega (arith, length-map (line f) (unreadIn w xs), line-two f)) in
+    let two : length owed ≤ 2 = subst (λ (bs : List (List Item)). length bs ≤ 2) (sym (T .lies))
+    (omega (arith, length-map (line f) (unreadIn w xs), line-two f)) in
     still-past (f .rlen) (f .marked) owed a (shown xs (found w h))
     (still-past (f .rlen) (f .marked) (pastUsed owed) a (shown xs (found w h))
     (subst (λ (r : ℕ). Gives r (f .marked) (pastUsed (pastUsed owed)) a (shown xs (found w h))) (looked-same f .rlen)
@@ -270,7 +277,8 @@ module _ (s : State) (area : List ℕ) (ledgers : ℕ → Ledger) (K : Kept s ar
       let N = skip-noted z in
       let D = skip-drops s i z .0 in
       let S = drop-same (fileAt s i) in
-      let after = noted-kept s area ledgers K (skip i) .told i .brought (ap (λ (f : File). f .opened) D ∙ S .opened ∙ o) (ap (λ (f : File). f .output) D ∙ S .output ∙ u) in
+      let after = noted-kept s area ledgers K (skip i) .told i .brought (ap (λ (f : File). f .opened) D ∙ S .opened ∙ o)
+      (ap (λ (f : File). f .output) D ∙ S .output ∙ u) in
       record {
         oldest = firstOf (ledgers i .owed);
         others = restOf (ledgers i .owed);

@@ -14,7 +14,7 @@ use Rattle.area.proofs.Walks.{and-left}
 use Rattle.area.proofs.Marks.{cond-true}
 use Rattle.word.specs.CheckWords.{blockNumbers}
 use Rattle.file.specs.declared.File.{File}
-use Rattle.file.specs.Sides.{isSide, oldest}
+use Rattle.file.specs.Sides.{oldest}
 use Rattle.file_output.specs.Sends.{sendStart, sendWords}
 use Rattle.state.specs.declared.State.{State}
 use Rattle.state.specs.Places.{fileAt}
@@ -28,7 +28,7 @@ use Rattle.demands_ledger.proofs.Frames.{Kept}
 use Rattle.demands_ledger.proofs.Shown.{wrote-data, numbers, next-is, next-words, next-sized}
 use Rattle.demands_ledger.proofs.Asks.{Asked}
 use Rattle.demands_ledger.proofs.Handed.{sent-first, on-file, write-full, shown-out, shown-other, shown-again}
-use Rattle.demands.specs.Written.{dataBy, Cuts, Due, DueOf, Sends, HandsOut}
+use Rattle.demands.specs.Written.{dataBy, Cuts, Due, DueOf, HandsOut}
 
 -- what the open of a file chose, as the file has it
 abbrev choiceIn : File → Choice
@@ -80,7 +80,8 @@ due-block c puts seals sent b D = go b (longer (D .words) _ b (D .numbered) (D .
 shorter : (r size : ℕ) (seals : List ℕ) (k : ℕ) (d e : List ℕ) → Sized r size seals k d → Sized r size seals k e → length d < length e → ⊥
 shorter r size seals k d e S T l =
     let more : S .records * r + (length e - length d) ≤ T .records * r = omega (arith, S .whole, T .whole) in
-    let far : length d + r ≤ length e = omega (arith, whole-buffer (S .records) r (T .records) (length e - length d) (omega arith) more, S .whole, T .whole) in
+    let W = whole-buffer (S .records) r (T .records) (length e - length d) (omega arith) more in
+    let far : length d + r ≤ length e = omega (arith, W, S .whole, T .whole) in
     go far (S .ends)
   where
     go : length d + r ≤ length e → (size < length d + r) ⊎ (isSealed seals (k + length d) ≡ true) → ⊥
@@ -116,7 +117,8 @@ module _ (s : State) (area : List ℕ) (ledgers : ℕ → Ledger) (K : Kept s ar
       let C = file-cuts (s .w) (fileAt s i) area (ledgers i .puts) (ledgers i .sent) (ledgers i .seals) (K .told i .wrote o u) in
       let e = sym (chosen-is (fileAt s i) (ledgers i .chosen) (K .told i .chose o)) in
       record {
-        blocks = subst (λ (c : Choice). Divided (c .rlen) (c .size) (ledgers i .seals) 0 (dataBy c (ledgers i .sent ++ blocksIn (s .w) (fileAt s i) area))) e (C .0);
+        blocks = subst (λ (c : Choice). Divided (c .rlen) (c .size) (ledgers i .seals) 0
+            (dataBy c (ledgers i .sent ++ blocksIn (s .w) (fileAt s i) area))) e (C .0);
         filling = subst (λ (c : Choice). Filling (c .rlen) (c .size) (ledgers i .seals)
             (length (joined (dataBy c (ledgers i .sent ++ blocksIn (s .w) (fileAt s i) area)))) (partIn (s .w) (fileAt s i) area)) e (C .1);
       }
@@ -130,12 +132,14 @@ module _ (s : State) (area : List ℕ) (ledgers : ℕ → Ledger) (K : Kept s ar
         → noted j (report channel unit outcome words) (answerOf s area (report channel unit outcome words)) (ledgers j)
         ≡ withReport words (answerOf s area (report channel unit outcome words)) (ledgers j)
     noted-is j on =
-        cond-true (cond (isOn channel unit (ledgers j)) (withReport words (answerOf s area (report channel unit outcome words)) (ledgers j)) (ledgers j)) (ledgers j)
+        cond-true (cond (isOn channel unit (ledgers j)) (withReport words (answerOf s area (report channel unit outcome words)) (ledgers j))
+        (ledgers j)) (ledgers j)
         (eq-eqb (answerOf s area (report channel unit outcome words) .refusal) 0 z)
         ∙ cond-true (withReport words (answerOf s area (report channel unit outcome words)) (ledgers j)) (ledgers j) on
 
     here : isOn channel unit (ledgers i) ≡ true
-        → HandsOut (ledgers i) (withReport words (answerOf s area (report channel unit outcome words)) (ledgers i)) (answerOf s area (report channel unit outcome words))
+        → HandsOut (ledgers i) (withReport words (answerOf s area (report channel unit outcome words)) (ledgers i))
+        (answerOf s area (report channel unit outcome words))
     unfolding answerOf
     here on = record {
       write = λ e.
@@ -144,7 +148,8 @@ module _ (s : State) (area : List ℕ) (ledgers : ℕ → Ledger) (K : Kept s ar
           let F = sent-first (s .w) (fileAt s i) area (R .1) in
           let b = partOf (sendStart (s .w) (fileAt s i)) (sendWords (fileAt s i)) area in
           let D : DueOf (ledgers i) b =
-          subst (λ (c : Choice). Due c (ledgers i .puts) (ledgers i .seals) (ledgers i .sent) b) (sym (chosen-is (fileAt s i) (ledgers i .chosen) (K .told i .chose o)))
+          subst (λ (c : Choice). Due c (ledgers i .puts) (ledgers i .seals) (ledgers i .sent) b)
+          (sym (chosen-is (fileAt s i) (ledgers i .chosen) (K .told i .chose o)))
           (file-due (s .w) (fileAt s i) area (ledgers i .puts) (ledgers i .sent) (ledgers i .seals) (K .told i .wrote o (R .0)) b (F .0) (F .1)) in
           record {
             block = b;
@@ -153,7 +158,8 @@ module _ (s : State) (area : List ℕ) (ledgers : ℕ → Ledger) (K : Kept s ar
                 let q = shown-out s area ledgers K A channel unit outcome words z e h in (
                   q,
                   ap (λ (v : List ℕ). ledgers i .sent ++ asBlock v) q
-                      ∙ ap (λ (v : List (List ℕ)). ledgers i .sent ++ v) (due-block (ledgers i .chosen) (ledgers i .puts) (ledgers i .seals) (ledgers i .sent) b D),
+                      ∙ ap (λ (v : List (List ℕ)). ledgers i .sent ++ v)
+                      (due-block (ledgers i .chosen) (ledgers i .puts) (ledgers i .seals) (ledgers i .sent) b D),
                 );
             again = λ h.
                 let q = shown-again s area ledgers K A channel unit outcome words z e h in (
@@ -172,5 +178,6 @@ module _ (s : State) (area : List ℕ) (ledgers : ℕ → Ledger) (K : Kept s ar
     ledger-sent j on =
         subst (λ (h : Ledger). HandsOut (ledgers j) h (answerOf s area (report channel unit outcome words))) (sym (noted-is j on))
         (subst (λ (k : ℕ). isOn channel unit (ledgers k) ≡ true
-        → HandsOut (ledgers k) (withReport words (answerOf s area (report channel unit outcome words)) (ledgers k)) (answerOf s area (report channel unit outcome words)))
+        → HandsOut (ledgers k) (withReport words (answerOf s area (report channel unit outcome words)) (ledgers k))
+        (answerOf s area (report channel unit outcome words)))
         (sym (on-file s area ledgers K A channel unit outcome words z j on)) here on)

@@ -8,19 +8,16 @@ use Prim.Native.Nat.{ℕ, _<_}
 use native.Mathlib.Decide.{ℕ-discrete}
 use native.Mathlib.Omega.{arith}
 use lib.Dec.{eqb}
-use lib.ListN.{length}
 use borrow.Author.Tests.{eq-eqb, ne-eqb, not-true}
 use Rattle.area.proofs.Walks.{true-not-false, and-both, and-right}
 use Rattle.area.proofs.Marks.{cond-true, cond-false}
 use Rattle.channel.specs.declared.Op.{Op}
 use Rattle.channel.specs.declared.Request.{Request}
 use Rattle.channel.specs.declared.Turn.{Turn}
-use Rattle.channel.specs.declared.Turn.the-variants.{Idle, Waiting, Displaced, Working}
-use Rattle.channel.specs.declared.Unit.{Unit}
+use Rattle.channel.specs.declared.Turn.the-variants.{Idle, Waiting}
 use Rattle.channel.specs.declared.Channel.{Channel}
-use Rattle.channel.specs.declared.Work.{Work}
 use Rattle.channel.specs.declared.Work.the-variants.{At, Nothing}
-use Rattle.channel.specs.Units.{isIdle, unitAt, turnAt, withTurn}
+use Rattle.channel.specs.Units.{isIdle, turnAt, withTurn}
 use Rattle.channel_turns.specs.Starts.{newRequest}
 use Rattle.channel_turns.specs.Turns.{judgeOf}
 use Rattle.channel_theorems.specs.History as history
@@ -49,8 +46,8 @@ use Rattle.pack_request.proofs.AskTheorems.{ask-ready, ask-frame, ask-event}
 use Rattle.pack.specs.Calls.{Call, fresh, opening, close, ask, report, get, put, seal, skip, freeze, thaw, Answer, answerOf}
 use Rattle.pack.specs.Histories.{isAccepted}
 use Rattle.pack.proofs.Refused.{call-alone}
-use Rattle.pack.proofs.Seen.{stationAt, eventIf, seen, nextOf, call-agrees}
-use Rattle.demands_ledger.specs.Ledgers.{Choice, Ledger, blankLedger, choiceOf, newLedger, withReport, withAsk, withGet, withPut, withSeal, withSkip, withClose, isOn, entered, noted, stateAfter, areaAfter, ledgerAfter}
+use Rattle.pack.proofs.Seen.{stationAt, eventIf, seen, call-agrees}
+use Rattle.demands_ledger.specs.Ledgers.{Choice, Ledger, blankLedger, choiceOf, newLedger, withReport, withAsk, withGet, withPut, withSeal, withSkip, withClose, isOn, entered, noted, stateAfter, ledgerAfter}
 use Rattle.demands_ledger.proofs.Told.{Chose, Told}
 use Rattle.demands_ledger.proofs.Frames.{Kept}
 use Rattle.demands_ledger.proofs.Starts.{asked-number}
@@ -143,7 +140,8 @@ asked-cond false h g e = refl
 
 module _ (s : State) (area : List ℕ) (ledgers : ℕ → Ledger) (K : Kept s area ledgers) (A : Asked s ledgers) where
   -- file i is open where it was, on the unit where it was
-  module _ (t : State) (zs : List ℕ) (i : ℕ) (h : Ledger) (T : Told (t .w) (fileAt t i) zs h) (L : Like h (ledgers i)) (o : fileAt t i .opened ≡ true) where
+  module _ (t : State) (zs : List ℕ) (i : ℕ) (h : Ledger) (T : Told (t .w) (fileAt t i) zs h) (L : Like h (ledgers i))
+      (o : fileAt t i .opened ≡ true) where
     was-open : fileAt s i .opened ≡ true
     was-open = sym (K .told i .opened) ∙ L .opened (T .opened ∙ o)
 
@@ -182,7 +180,8 @@ module _ (s : State) (area : List ℕ) (ledgers : ℕ → Ledger) (K : Kept s ar
   unit-quiet : (channel unit : ℕ) → isBound (s .files) channel unit ≡ false → (op : Op) → requested (turnAt (channelAt s channel) unit) ≡ At op → ⊥
   unit-quiet channel unit free op r =
       let p = sound-facts s (K .good .right) .served channel unit (ap isNone r) in
-      let within : p .place < fileCount = let l = place-inside (s .files) closedFile (serves channel unit) refl (p .place) (p .bound) in omega (arith, l, K .good .sixteen) in
+      let l = place-inside (s .files) closedFile (serves channel unit) refl (p .place) (p .bound) in
+      let within : p .place < fileCount = omega (arith, l, K .good .sixteen) in
       true-not-false (p .bound) (unbound (s .files) channel unit (p .place) free within)
 
   -- ---- ask
@@ -227,7 +226,8 @@ module _ (s : State) (area : List ℕ) (ledgers : ℕ → Ledger) (K : Kept s ar
         go p q (yes c) =
             ap (λ (n : ℕ). requested (turnAt (channelAt s n) (fileAt s i .unit))) c
             ∙ on-channel (fileAt s i .unit) o (sym (ap (λ (n : ℕ). requested (turnAt (channelAt t n) (fileAt s i .unit))) c) ∙ q) .1
-            (other-unit file i (λ e. ne (sym e)) (ask-ready _ f (channelAt s (f .channel)) op priority (asked-number s area ledgers K file op priority z) .isOpen) p c)
+            (other-unit file i (λ e. ne (sym e)) (ask-ready _ f (channelAt s (f .channel)) op priority
+            (asked-number s area ledgers K file op priority z) .isOpen) p c)
         go p q (no c) =
             sym (ap (λ (k : Channel). requested (turnAt k (fileAt s i .unit))) (ask-frame s file op priority .channels (fileAt s i .channel) c)) ∙ q
 
@@ -255,7 +255,8 @@ module _ (s : State) (area : List ℕ) (ledgers : ℕ → Ledger) (K : Kept s ar
     unfolding answerOf
     open-quiet g C op r =
         unit-quiet channel unit (open-accepted s file channel unit flags size rlen z .unbound) op
-        (sym (ap (λ (cs : List Channel). requested (turnAt (channelIn cs (g .channel)) (g .unit))) (open-frame s file channel unit flags size rlen .channels)
+        (sym (ap (λ (cs : List Channel). requested (turnAt (channelIn cs (g .channel)) (g .unit)))
+        (open-frame s file channel unit flags size rlen .channels)
         ∙ ap (λ (n : ℕ). requested (turnAt (channelAt s n) (g .unit))) (sym (C .onChannel))
         ∙ ap (λ (n : ℕ). requested (turnAt (channelAt s channel) n)) (sym (C .onUnit))) ∙ r)
 
@@ -263,31 +264,36 @@ module _ (s : State) (area : List ℕ) (ledgers : ℕ → Ledger) (K : Kept s ar
         (λ i. cond (eqb file i) (newLedger (choiceOf channel unit flags size rlen)) (ledgers i))
     open-asked i o op r = by (ℕ-discrete file i)
       where
-        E : Kept (answerOf s area (opening file channel unit flags size rlen) .state) (answerOf s area (opening file channel unit flags size rlen) .area)
+        E : Kept (answerOf s area (opening file channel unit flags size rlen) .state)
+            (answerOf s area (opening file channel unit flags size rlen) .area)
             (λ i. cond (eqb file i) (newLedger (choiceOf channel unit flags size rlen)) (ledgers i))
         E = accepted-kept s area ledgers K (opening file channel unit flags size rlen) z
 
         by : Dec (file ≡ i) → op ≡ opOf (cond (eqb file i) (newLedger (choiceOf channel unit flags size rlen)) (ledgers i) .asked)
         by (yes e) =
             absurd (open-quiet (fileAt opened-state i)
-            (subst (λ (g : Ledger). Chose (fileAt opened-state i) (g .chosen)) (cond-true new (ledgers i) (eq-eqb file i e)) (E .told i .chose o)) op r)
+            (subst (λ (g : Ledger). Chose (fileAt opened-state i) (g .chosen)) (cond-true new (ledgers i) (eq-eqb file i e))
+            (E .told i .chose o)) op r)
         by (no ne) =
             let same = cond-false new (ledgers i) (ne-eqb file i ne) in
             stays opened-state (answerOf s area (opening file channel unit flags size rlen) .area) i (cond (eqb file i) new (ledgers i)) (E .told i)
             (subst (λ (g : Ledger). Like g (ledgers i)) (sym same) (like-self (ledgers i))) o none
-            (call-agrees (fileAt s i .channel) s area (K .good) (opening file channel unit flags size rlen)) refl (ap (λ (g : Ledger). g .asked) same) op r
+            (call-agrees (fileAt s i .channel) s area (K .good) (opening file channel unit flags size rlen)) refl
+            (ap (λ (g : Ledger). g .asked) same) op r
 
   -- ---- every accepted call
 
   -- one that is neither a fresh start nor an open nor an ask
   quiet-asked : (call : Call) → answerOf s area call .refusal ≡ 0
-      → ((c : ℕ) → Agrees (stationAt c s) (seen c s area call) (stationAt c (answerOf s area call .state))) → ((c : ℕ) → noAsk (seen c s area call) ≡ true)
+      → ((c : ℕ) → Agrees (stationAt c s) (seen c s area call) (stationAt c (answerOf s area call .state)))
+      → ((c : ℕ) → noAsk (seen c s area call) ≡ true)
       → ((i : ℕ) → Like (entered i call (answerOf s area call) (ledgers i)) (ledgers i))
       → ((i : ℕ) → entered i call (answerOf s area call) (ledgers i) .asked ≡ ledgers i .asked)
       → Asked (answerOf s area call .state) (λ i. entered i call (answerOf s area call) (ledgers i))
   quiet-asked call z S n L k i o op r =
       stays (answerOf s area call .state) (answerOf s area call .area) i (entered i call (answerOf s area call) (ledgers i))
-      (accepted-kept s area ledgers K call z .told i) (L i) o (seen (fileAt s i .channel) s area call) (S (fileAt s i .channel)) (n (fileAt s i .channel)) (k i)
+      (accepted-kept s area ledgers K call z .told i) (L i) o (seen (fileAt s i .channel) s area call) (S (fileAt s i .channel))
+      (n (fileAt s i .channel)) (k i)
       op r
 
   -- an entry in the ledger of one file
@@ -298,7 +304,8 @@ module _ (s : State) (area : List ℕ) (ledgers : ℕ → Ledger) (K : Kept s ar
       → cond (t i) (L (ledgers i)) (ledgers i) .asked ≡ ledgers i .asked
   one-asked t L same i = asked-cond (t i) (L (ledgers i)) (ledgers i) (same (ledgers i))
 
-  accepted-asked : (call : Call) → answerOf s area call .refusal ≡ 0 → Asked (answerOf s area call .state) (λ i. entered i call (answerOf s area call) (ledgers i))
+  accepted-asked : (call : Call) → answerOf s area call .refusal ≡ 0
+      → Asked (answerOf s area call .state) (λ i. entered i call (answerOf s area call) (ledgers i))
   accepted-asked (fresh m w masks) z = λ i o op r. true-not-false o (sym (accepted-kept s area ledgers K (fresh m w masks) z .told i .opened))
   accepted-asked (opening file channel unit flags size rlen) z = open-asked file channel unit flags size rlen z
   accepted-asked (close file) z =
@@ -325,7 +332,8 @@ module _ (s : State) (area : List ℕ) (ledgers : ℕ → Ledger) (K : Kept s ar
       quiet-asked (skip file) z (λ c. call-agrees c s area (K .good) (skip file)) (λ c. refl)
       (one-like (eqb file) withSkip (λ g. record { chosen = refl; opened = λ p. p })) (one-asked (eqb file) withSkip (λ g. refl))
   accepted-asked freeze z =
-      quiet-asked freeze z (λ c. call-agrees c s area (K .good) freeze) (λ c. event-quiet (isAccepted (answerOf s area freeze)) history.freeze accepted refl)
+      quiet-asked freeze z (λ c. call-agrees c s area (K .good) freeze)
+      (λ c. event-quiet (isAccepted (answerOf s area freeze)) history.freeze accepted refl)
       (λ i. like-self (ledgers i)) (λ i. refl)
   accepted-asked thaw z =
       quiet-asked thaw z (λ c. call-agrees c s area (K .good) thaw) (λ c. event-quiet (isAccepted (answerOf s area thaw)) history.thaw accepted refl)

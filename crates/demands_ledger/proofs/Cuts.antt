@@ -1,7 +1,7 @@
 -- The words put as blocks divide them: one block more, one seal more. Assumes nothing.
 use mathlib.Core.Path.{_≡_, refl, sym, ap, subst, _∙_}
 use mathlib.Core.Logic.{_⊎_, inl, inr}
-use mathlib.Core.Bool.{true, _||_}
+use mathlib.Core.Bool.{true}
 use mathlib.Core.List.{List, [], _∷_, _++_}
 use Prim.Native.Nat.{ℕ, suc, _+_, _*_, _≤_, _<_}
 use native.Mathlib.Nat.{zero-mul, suc-mul}
@@ -39,11 +39,13 @@ module _ (r size : ℕ) (seals : List ℕ) where
     within = λ q e f. which-sealed (k + length words ≤ q) p q e (λ h. omega arith) (λ h. S .within q h f);
   }
     where
-      end : (size < length words + r) ⊎ (isSealed seals (k + length words) ≡ true) → (size < length words + r) ⊎ (isSealed (p ∷ seals) (k + length words) ≡ true)
+      end : (size < length words + r) ⊎ (isSealed seals (k + length words) ≡ true)
+          → (size < length words + r) ⊎ (isSealed (p ∷ seals) (k + length words) ≡ true)
       end (inl h) = inl h
       end (inr h) = inr (old-sealed p (k + length words) h)
 
-  pub divided-sealed : (p k : ℕ) (blocks : List (List ℕ)) → k + length (joined blocks) ≤ p → Divided r size seals k blocks → Divided r size (p ∷ seals) k blocks
+  pub divided-sealed : (p k : ℕ) (blocks : List (List ℕ)) → k + length (joined blocks) ≤ p → Divided r size seals k blocks
+      → Divided r size (p ∷ seals) k blocks
   unfolding joined
   divided-sealed p k [] l done = done
   divided-sealed p k (words ∷ blocks) l (next S D) =
@@ -52,7 +54,8 @@ module _ (r size : ℕ) (seals : List ℕ) where
 
   -- ---- the last block
 
-  pub divided-last : (k : ℕ) (blocks : List (List ℕ)) (words : List ℕ) → Divided r size seals k blocks → Sized r size seals (k + length (joined blocks)) words
+  pub divided-last : (k : ℕ) (blocks : List (List ℕ)) (words : List ℕ) → Divided r size seals k blocks
+      → Sized r size seals (k + length (joined blocks)) words
       → Divided r size seals k (blocks ++ (words ∷ []))
   unfolding joined
   divided-last k [] words done S = let z : k + 0 ≡ k = omega arith in next (subst (λ (n : ℕ). Sized r size seals n words) z S) done
@@ -95,7 +98,8 @@ module _ (r size : ℕ) (seals : List ℕ) where
     }
 
   -- it is sealed early
-  pub filling-sealed : (k p : ℕ) (part : List ℕ) → Filling r size seals k part → 1 ≤ length part → p ≡ k + length part → Sized r size (p ∷ seals) k part
+  pub filling-sealed : (k p : ℕ) (part : List ℕ) → Filling r size seals k part → 1 ≤ length part → p ≡ k + length part
+      → Sized r size (p ∷ seals) k part
   filling-sealed k p part F some at = record {
     records = F .records;
     whole = F .whole;

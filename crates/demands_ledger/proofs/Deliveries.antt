@@ -113,7 +113,8 @@ unfolding verdictOf
 mark-read q o = go (isAllowed (q .op) o) (not (isFailure o) || isPermanent q o) refl
   where
     go : (a b : Bool) → isAllowed (q .op) o ≡ a
-        → cond a (cond b (Ends (endingOf (q .op) (q .attempts) o)) (Repeats (nextAttempt q o))) (Refused 12) ≡ Ends MarkRead → isAllowed (q .op) 3 ≡ true
+        → cond a (cond b (Ends (endingOf (q .op) (q .attempts) o)) (Repeats (nextAttempt q o))) (Refused 12) ≡ Ends MarkRead
+        → isAllowed (q .op) 3 ≡ true
     go true true p e =
         let k : endingOf (q .op) (q .attempts) o ≡ MarkRead = cc in
         sym (ap (isAllowed (q .op)) (mark-outcome (q .op) (q .attempts) o k)) ∙ p

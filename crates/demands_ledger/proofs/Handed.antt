@@ -1,44 +1,36 @@
 -- What an accepted report shows of its file's blocks, by the operation last asked for: the next block, or none. Assumes nothing.
-use mathlib.Core.Path.{_≡_, refl, sym, ap, ap₂, subst, _∙_}
+use mathlib.Core.Path.{_≡_, refl, sym, ap, ap₂, _∙_}
 use mathlib.Core.Logic.{_≢_}
 use mathlib.Core.Bool.{Bool, true, false, cond, _&&_, _||_}
 use mathlib.Core.List.{List, [], _∷_, map}
 use Prim.Native.Nat.{ℕ, _+_}
-use native.Mathlib.Omega.{arith}
 use lib.Dec.{eqb}
-use borrow.Author.Tests.{eqb-true, eq-eqb}
+use borrow.Author.Tests.{eqb-true}
 use Rattle.area.specs.Parts.{partOf}
 use Rattle.area.proofs.Walks.{true-not-false, and-left, and-right}
-use Rattle.area.proofs.Marks.{cond-false}
 use Rattle.channel.specs.declared.Op.{Op}
 use Rattle.channel.specs.declared.Op.the-variants.{Read, Write, Mark}
 use Rattle.channel.specs.declared.Turn.{Turn}
-use Rattle.channel.specs.declared.Turn.the-variants.{Working}
 use Rattle.channel.specs.declared.Channel.{Channel}
-use Rattle.channel.specs.declared.Work.{Work}
 use Rattle.channel.specs.declared.Work.the-variants as work
-use Rattle.channel_outcomes.specs.Rules.{resultNumber}
 use Rattle.channel.specs.Units.{turnAt, workOf, operationAt}
 use Rattle.channel_turns.specs.Turns.{judgeOf}
 use Rattle.file.specs.declared.Side.{Side}
 use Rattle.file.specs.declared.Side.the-variants.{Neither}
 use Rattle.file.specs.declared.File.{File}
 use Rattle.file.specs.Slots.{fullWords}
-use Rattle.file.specs.Sides.{bufferAt, slotAt, startAt, isSide, oldest}
+use Rattle.file.specs.Sides.{slotAt, startAt, isSide, oldest}
 use Rattle.word.specs.CheckWords.{extra}
-use Rattle.file_input.specs.Ages.{Block, line}
-use Rattle.file_input.proofs.Ages.{block, Aged, noBlock, old, aged}
+use Rattle.file_input.proofs.Ages.{Aged, noBlock, old, aged}
 use Rattle.file_output.specs.Sends.{sendStart, sendWords}
 use Rattle.pool.specs.Serving.{serves}
 use Rattle.state.specs.declared.State.{State}
 use Rattle.state.specs.Places.{fileAt, channelAt}
 use Rattle.state_sound.specs.Requests.{requested, isWriteOp, isWrite}
-use Rattle.state_sound.specs.Soundness.{requestOf}
 use Rattle.call_request.specs.declared.Effect.{Effect}
 use Rattle.call_request.specs.declared.Effect.the-variants.{Delivers, MeetsMark, GivesBack, Sends, Keeps}
 use Rattle.call_request.specs.declared.ReportChange.{ReportChange}
 use Rattle.call_request.specs.Ask.{opOf}
-use Rattle.call_request.specs.Effects.{isDelivery}
 use Rattle.call_request.specs.Report.{effectAt, shownStart, shownCount, reportedArea}
 use Rattle.pack_request.specs.Calls.{fileOf, reportBy, reportByArea}
 use Rattle.pack_request.proofs.ReportTheorems.{Booked, again, ended, booked, report-books-own}
@@ -117,7 +109,8 @@ module _ (s : State) (area : List ℕ) (ledgers : ℕ → Ledger) (K : Kept s ar
   -- the file that is open on its unit, by its ledger
   pub on-file : (j : ℕ) → isOn channel unit (ledgers j) ≡ true → j ≡ fileOf s channel unit
   on-file j e =
-      report-books-own s area channel unit outcome words (K .good .sixteen) z .only j (sym (on-same s area ledgers K channel unit outcome words z j) ∙ e)
+      report-books-own s area channel unit outcome words (K .good .sixteen) z .only j
+      (sym (on-same s area ledgers K channel unit outcome words z j) ∙ e)
 
   on-request : (op : Op) → requested (turnAt c unit) ≡ work.At op → op ≡ opOf (ledgers i .asked)
   on-request op r =
@@ -163,7 +156,8 @@ module _ (s : State) (area : List ℕ) (ledgers : ℕ → Ledger) (K : Kept s ar
   -- "if it ends a write with 01 or 04, the block's words"
   pub shown-out : ledgers i .asked ≡ 1 → (eqb result 1 || eqb result 4) ≡ true → shown ≡ partOf (sendStart (s .w) f) (sendWords f) area
   shown-out e h =
-      shown-is ∙ ap (partOf (shownStart (effectAt c unit outcome) (s .w) f) (shownCount (effectAt c unit outcome) f)) (after-area s area ledgers K channel unit outcome words z)
+      shown-is ∙ ap (partOf (shownStart (effectAt c unit outcome) (s .w) f) (shownCount (effectAt c unit outcome) f))
+      (after-area s area ledgers K channel unit outcome words z)
       ∙ shows-sent (effectAt c unit outcome) (s .w) f area words
       (sends ∙ ap₂ (λ (a b : Bool). a && b) (asks-write (ledgers i .asked) e) h)
 

@@ -100,7 +100,8 @@ module _ (w : ℕ) (f : File) (area puts : List ℕ) (sent : List (List ℕ)) (s
         subst (λ (n : ℕ). Sized (f .rlen) (f .size) seals n (dataOf (f .sequence) (f .check) b)) (zero-add _)
         (divided-at (f .rlen) (f .size) seals 0 (data-of sent) (dataOf (f .sequence) (f .check) b) (data-of rest)
         (subst (Divided (f .rlen) (f .size) seals 0)
-        (sym (sym (map-append (dataOf (f .sequence) (f .check)) sent (b ∷ rest)) ∙ ap (λ (v : List (List ℕ)). data-of (sent ++ v)) (sym e) ∙ wrote-data)) (T .sized)))
+        (sym (sym (map-append (dataOf (f .sequence) (f .check)) sent (b ∷ rest)) ∙ ap (λ (v : List (List ℕ)). data-of (sent ++ v)) (sym e)
+        ∙ wrote-data)) (T .sized)))
 
 -- ---- numbers
 
