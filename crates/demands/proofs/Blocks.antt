@@ -27,14 +27,15 @@ module _ (s : State) (area : List ℕ) (ledgers : ℕ → Ledger) (K : Kept s ar
     ledger-writes u =
         let T = K .told i .wrote o u in
         record {
-          checks = wrote-checks (s .w) (fileAt s i) area (ledgers i .puts) (ledgers i .sent) T;
-          words = wrote-words (s .w) (fileAt s i) area (ledgers i .puts) (ledgers i .sent) T;
+          checks = wrote-checks (s .w) (fileAt s i) area (ledgers i .puts) (ledgers i .sent) (ledgers i .seals) T;
+          words = wrote-words (s .w) (fileAt s i) area (ledgers i .puts) (ledgers i .sent) (ledgers i .seals) T;
         }
 
     pub ledger-closed : fileAt s i .output ≡ true → answerOf s area (close i) .refusal ≡ 0
         → joined (dataIn (fileAt s i) (ledgers i .sent)) ≡ ledgers i .puts
     unfolding answerOf
-    ledger-closed u z = sent-all (fileAt s i) u (close-unsent s i z) (s .w) area (ledgers i .puts) (ledgers i .sent) (K .told i .wrote o u)
+    ledger-closed u z =
+        sent-all (fileAt s i) u (close-unsent s i z) (s .w) area (ledgers i .puts) (ledgers i .sent) (ledgers i .seals) (K .told i .wrote o u)
 
     pub ledger-reads : fileAt s i .output ≡ false → Reads (s .w) (fileAt s i) area (ledgers i)
     ledger-reads u = let T = K .told i .brought o u in record { items = T .items; lies = T .lies }

@@ -4,24 +4,26 @@ use mathlib.Core.Logic.{_≢_}
 use mathlib.Core.Bool.{Bool, true, false}
 use mathlib.Core.Option.{Option, none}
 use mathlib.Core.List.{List, []}
-use Prim.Native.Nat.{ℕ, _+_, _%_}
+use Prim.Native.Nat.{ℕ, _+_, _%_, _<_}
 use lib.ListN.{length}
 use Rattle.word.specs.CheckWords.{checkWord, IsCheckWord, blockNumbers}
 use Rattle.block.specs.Blocks.{judgedBlock}
 use Rattle.word.proofs.Laws.CheckWord.{check-word-is, check-word-only}
 use Rattle.file.specs.declared.File.{File}
+use Rattle.file_input.specs.declared.Got.{Got}
+use Rattle.file_input.specs.Gets.{gotNumber, gotError}
 use Rattle.pool.specs.Serving.{serves}
 use Rattle.state.specs.declared.State.{State}
 use Rattle.state.specs.Places.{beforeStart, fileAt}
 use Rattle.state_sound.specs.Soundness.{sound}
 use Rattle.pack_start.specs.declared.Masks.{Masks}
 use Rattle.call_request.specs.Ask.{isPriority}
-use Rattle.pack.specs.Calls.{Call, fresh, opening, close, ask, report, answerOf}
+use Rattle.pack.specs.Calls.{Call, fresh, opening, close, ask, report, get, skip, got, answerOf}
 use Rattle.pack.specs.Histories.{Lent, answerTo, after, count, freshStart, declaredOn}
-use Rattle.pack.specs.Books.{Book, Opened, toldResult, blankBook, noted, bookAfter, openedAfter}
+use Rattle.pack.specs.Books.{Book, Opened, toldResult, blankBook, bookedAt, bookAfter, openedAfter}
 use Rattle.pack.proofs.Kept.{Good, good-before, start-judged, good-start, history-kept}
-use Rattle.demands_ledger.specs.Ledgers.{Ledger, blankLedger, toldError, stateAfter, areaAfter, ledgerAfter}
-use Rattle.demands_ledger.specs.Blocks.{joined}
+use Rattle.demands_ledger.specs.Ledgers.{Item, Choice, Ledger, blankLedger, toldError, isOn, noted, stateAfter, areaAfter, ledgerAfter}
+use Rattle.demands_ledger.specs.Blocks.{unreadOf, joined}
 use Rattle.demands_ledger.proofs.Frames.{Kept}
 use Rattle.demands_ledger.proofs.Always.{always, started as begun}
 use Rattle.pack.proofs.Seen.{stationAt}
@@ -30,7 +32,10 @@ use Rattle.pack.proofs.Marking.{known-start, known-after}
 use Rattle.demands.specs.Results.{Results, Forbids}
 use Rattle.demands.specs.Marks.{Marks}
 use Rattle.demands.specs.Turns.{worksFor, isPending, Turns, Continues, toldWorking, Tells}
+use Rattle.demands_ledger.proofs.Asks.{Asked, always-asked, started-asked}
 use Rattle.demands.specs.Demands.{Refuses, Holds, Frees, Takes, Books, dataIn, Writes, Reads, Answers}
+use Rattle.demands.specs.Records.{Gives, Drops}
+use Rattle.demands.specs.Written.{Cuts, Due, HandsOut}
 use Rattle.demands.proofs.Refusals.{refuses}
 use Rattle.demands.proofs.Buffers.{good-holds, closed-frees, opened-takes, reported-books}
 use Rattle.demands.proofs.Blocks.{ledger-writes, ledger-closed, ledger-reads, ledger-judged}
@@ -38,6 +43,8 @@ use Rattle.demands.proofs.Results.{reported-results, refused-forbids}
 use Rattle.demands.proofs.Marks.{asked-marks}
 use Rattle.demands.proofs.Turns.{call-turns, report-continues, ask-tells, report-tells, ask-single, report-idle, ask-holding}
 use Rattle.demands.proofs.Answering.{answered}
+use Rattle.demands.proofs.Records.{gives-one, ledger-got, ledger-skipped}
+use Rattle.demands.proofs.Written.{due-one, ledger-cuts, ledger-sent}
 
 -- "Any call, with any numbers, words and lengths, gets an answer. A refusal carries one number of document 01's table, is given exactly
 -- when the table says, and changes nothing. No caller need check first.": of every state value, every area and every call
@@ -50,6 +57,15 @@ demand2-one = check-word-only
 
 pub demand2-right : (sequence check : Bool) (sum number : ℕ) → IsCheckWord sequence check sum number (checkWord sequence check sum number)
 demand2-right = check-word-is
+
+-- a get has one right answer, and one block alone is due: what `Gives` and `Due` say leaves no choice
+pub demand2-one-answer : (r : ℕ) → 0 < r → (marked : Bool) (owed : List (List Item)) (x y : Got) (ws vs : List ℕ)
+    → Gives r marked owed (got x) ws → Gives r marked owed (got y) vs → (gotNumber x ≡ gotNumber y) × (gotError x ≡ gotError y) × (ws ≡ vs)
+demand2-one-answer = gives-one
+
+pub demand2-one-due : (c : Choice) (puts seals : List ℕ) (sent : List (List ℕ)) (a b : List ℕ)
+    → Due c puts seals sent a → Due c puts seals sent b → a ≡ b
+demand2-one-due = due-one
 
 -- "Each buffer is free, or held by exactly one open file": from before the first fresh start too, after any calls
 pub demand2-before : (calls : List Lent) → Holds (after beforeStart calls)
@@ -120,7 +136,7 @@ module _ (s₀ : State) (area₀ : List ℕ) (m w : ℕ) (masks : Masks) (starte
 
   -- who works on channel c after a call x that is accepted: the book has the call in it
   abbrev pub bookWith : List Lent → Lent → ℕ → Book
-  bookWith calls x c = noted c (after start calls) x (bookThen calls c)
+  bookWith calls x c = bookedAt c (after start calls) x (bookThen calls c)
 
   pub demand2-turns : (calls : List Lent) (x : Lent) (c : ℕ) → answerTo (after start calls) x .refusal ≡ 0
       → Turns c (after start calls) (x .call) (answerTo (after start calls) x .state) (bookWith calls x c)
@@ -182,6 +198,9 @@ module _ (s₀ : State) (area₀ : List ℕ) (m w : ℕ) (masks : Masks) (starte
   kept : (calls : List Call) → Kept (stateAfter start area₀ calls) (areaAfter start area₀ calls) (account calls)
   kept = always start area₀ (λ i. blankLedger) (begun s₀ area₀ m w masks started)
 
+  asks : (calls : List Call) → Asked (stateAfter start area₀ calls) (account calls)
+  asks = always-asked start area₀ (λ i. blankLedger) (begun s₀ area₀ m w masks started) (started-asked s₀ area₀ m w masks started)
+
   -- "blocks we write carry the one right check word;"
   pub demand2-writes : (calls : List Call) (i : ℕ) → fileThen calls i .opened ≡ true → fileThen calls i .output ≡ true
       → Writes (stateAfter start area₀ calls .w) (fileThen calls i) (areaAfter start area₀ calls) (account calls i)
@@ -204,6 +223,37 @@ module _ (s₀ : State) (area₀ : List ℕ) (m w : ℕ) (masks : Masks) (starte
       → toldError (answerOf (stateAfter start area₀ calls) (areaAfter start area₀ calls) (report channel unit outcome words) .added)
       ≡ judgedBlock words (fileThen calls i .sequence) (fileThen calls i .check) ((1 + length (account calls i .came)) % blockNumbers) .error
   demand2-judged calls = ledger-judged (stateAfter start area₀ calls) (areaAfter start area₀ calls) (account calls) (kept calls)
+
+  -- records follow document 01: what an accepted get answers,
+  pub demand2-got : (calls : List Call) (i : ℕ) → answerOf (stateAfter start area₀ calls) (areaAfter start area₀ calls) (get i) .refusal ≡ 0
+      → Gives (account calls i .chosen .rlen) (account calls i .marked) (account calls i .owed)
+      (answerOf (stateAfter start area₀ calls) (areaAfter start area₀ calls) (get i) .added)
+      (answerOf (stateAfter start area₀ calls) (areaAfter start area₀ calls) (get i) .shows)
+  demand2-got calls = ledger-got (stateAfter start area₀ calls) (areaAfter start area₀ calls) (account calls) (kept calls)
+
+  -- and what an accepted skip drops
+  pub demand2-skipped : (calls : List Call) (i : ℕ) → answerOf (stateAfter start area₀ calls) (areaAfter start area₀ calls) (skip i) .refusal ≡ 0
+      → Drops (account calls i)
+      (noted i (skip i) (answerOf (stateAfter start area₀ calls) (areaAfter start area₀ calls) (skip i)) (account calls i))
+      (unreadOf (answerOf (stateAfter start area₀ calls) (areaAfter start area₀ calls) (skip i) .state .w)
+      (fileAt (answerOf (stateAfter start area₀ calls) (areaAfter start area₀ calls) (skip i) .state) i)
+      (answerOf (stateAfter start area₀ calls) (areaAfter start area₀ calls) (skip i) .area))
+  demand2-skipped calls = ledger-skipped (stateAfter start area₀ calls) (areaAfter start area₀ calls) (account calls) (kept calls)
+
+  -- buffer moves follow document 01: how the words put are divided into blocks,
+  pub demand2-cut : (calls : List Call) (i : ℕ) → fileThen calls i .opened ≡ true → fileThen calls i .output ≡ true
+      → Cuts (stateAfter start area₀ calls .w) (fileThen calls i) (areaAfter start area₀ calls) (account calls i)
+  demand2-cut calls = ledger-cuts (stateAfter start area₀ calls) (areaAfter start area₀ calls) (account calls) (kept calls)
+
+  -- and which block an accepted report for the file i on its unit hands out
+  pub demand2-sent : (calls : List Call) (channel unit outcome : ℕ) (words : List ℕ)
+      → answerOf (stateAfter start area₀ calls) (areaAfter start area₀ calls) (report channel unit outcome words) .refusal ≡ 0
+      → (i : ℕ) → isOn channel unit (account calls i) ≡ true
+      → HandsOut (account calls i)
+      (noted i (report channel unit outcome words)
+      (answerOf (stateAfter start area₀ calls) (areaAfter start area₀ calls) (report channel unit outcome words)) (account calls i))
+      (answerOf (stateAfter start area₀ calls) (areaAfter start area₀ calls) (report channel unit outcome words))
+  demand2-sent calls = ledger-sent (stateAfter start area₀ calls) (areaAfter start area₀ calls) (account calls) (kept calls) (asks calls)
 
   -- "From a fresh start (and no second), each call given the state that the last one left: an accepted ordinary request on a channel of U
   -- declared units is answered at most once; until then its channel is working or frozen; its answer comes by the time 101 x (U + P)

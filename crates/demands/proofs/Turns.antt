@@ -47,7 +47,7 @@ use Rattle.pack_request.proofs.AskTheorems.{ask-ready, ask-exactly, ask-frame, 
 use Rattle.pack_request.proofs.ReportTheorems.{Booked, again, ended, report-exactly, view, report-event, report-frame, report-working}
 use Rattle.pack.specs.Calls.{Call, fresh, opening, close, ask, report, get, put, seal, skip, freeze, thaw, answerOf}
 use Rattle.pack.specs.Histories.{isAccepted}
-use Rattle.pack.specs.Books.{toldResult, Pending, Book, isUrgent, isOrdinary, booked, noted}
+use Rattle.pack.specs.Books.{toldResult, Pending, Book, isUrgent, isOrdinary, booked, bookedAt}
 use Rattle.pack.proofs.Kept as kept
 use Rattle.pack.proofs.Kept.{call-kept}
 use Rattle.pack.proofs.Seen.{stationAt, eventIf, seen, call-agrees}
@@ -176,7 +176,7 @@ module _ (c : ℕ) (s : State) (area : List ℕ) (g : kept.Good s) (b₀ : Book)
   then call = answerOf s area call .state
 
   abbrev book : Call → Book
-  book call = noted c s (record { call = call; area = area }) b₀
+  book call = bookedAt c s (record { call = call; area = area }) b₀
 
   D : (call : Call) → Shows (stationAt c (then call)) (book call)
   D call = call-shows c s area g b₀ S call
@@ -327,7 +327,7 @@ module _ (s : State) (area : List ℕ) (g : kept.Good s) (channel unit outcome :
   t = answerOf s area (report channel unit outcome words) .state
 
   abbrev b : Book
-  b = noted channel s (record { call = report channel unit outcome words; area = area }) b₀
+  b = bookedAt channel s (record { call = report channel unit outcome words; area = area }) b₀
 
   abbrev e : Channel
   e = channelAt s channel

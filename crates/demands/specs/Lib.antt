@@ -1,3 +1,5 @@
+pub mod Records
+pub mod Written
 pub mod Demands
 pub mod Results
 pub mod Marks

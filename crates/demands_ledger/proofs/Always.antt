@@ -18,7 +18,7 @@ use Rattle.demands_ledger.proofs.Starts.{fresh-kept, open-kept, close-k
 use Rattle.demands_ledger.proofs.Reported.{report-kept}
 
 module _ (s : State) (area : List ℕ) (ledgers : ℕ → Ledger) (K : Kept s area ledgers) where
-  accepted-kept : (call : Call) → answerOf s area call .refusal ≡ 0
+  pub accepted-kept : (call : Call) → answerOf s area call .refusal ≡ 0
       → Kept (answerOf s area call .state) (answerOf s area call .area) (λ i. entered i call (answerOf s area call) (ledgers i))
   unfolding answerOf
   accepted-kept (fresh m w masks) z = fresh-kept s area m w masks (call-kept s area (K .good) (fresh m w masks)) z

@@ -1,6 +1,6 @@
 -- An accepted report keeps what holds of every open file and its ledger. Assumes nothing.
 use mathlib.Core.Path.{_≡_, refl, sym, ap, ap₂, subst, _∙_}
-use mathlib.Core.Bool.{Bool, true, false}
+use mathlib.Core.Bool.{Bool, true, false, _||_}
 use mathlib.Core.List.{List, [], _∷_, _++_, map, append-nil}
 use Prim.Native.Nat.{ℕ, _+_, _-_, _*_, _≤_}
 use native.Mathlib.Nat.{add-zero}
@@ -35,30 +35,30 @@ use Rattle.demands_ledger.specs.Ledgers.{Item, word, wrongs, Ledger, asB
 use Rattle.demands_ledger.specs.Blocks.{partIn}
 use Rattle.demands_ledger.proofs.Told.{Wrote, Brought, Told}
 use Rattle.demands_ledger.proofs.Lines.{unread-same, beside}
-use Rattle.demands_ledger.proofs.Sides.{Same, slot-same, slot-block, block-stays, part-stays}
+use Rattle.demands_ledger.proofs.Sides.{Same, slot-same, slot-block, block-stays, mark-stays, part-stays}
 use Rattle.demands_ledger.proofs.Writes.{send-wrote}
 use Rattle.demands_ledger.proofs.Brings.{brought-more}
-use Rattle.demands_ledger.proofs.Frames.{told-out, told-in, told-still}
+use Rattle.demands_ledger.proofs.Frames.{marking, told-out, told-in, told-marked, told-still}
 use Rattle.demands_ledger.proofs.Moves.{drop-same}
 
--- ---- the ledger with a block more, or none
+-- ---- the ledger with a mark or a block more, or none
 
-abbrev pub plus : Ledger → List (List ℕ) → List (List ℕ) → List (List Item) → Ledger
-plus L sent came owed = record {
+abbrev pub plus : Ledger → Bool → List (List ℕ) → List (List ℕ) → List (List Item) → Ledger
+plus L mark sent came owed = record {
   opened = L .opened;
-  channel = L .channel;
-  unit = L .unit;
-  sequence = L .sequence;
-  check = L .check;
+  chosen = L .chosen;
+  asked = L .asked;
   puts = L .puts;
+  seals = L .seals;
   sent = L .sent ++ sent;
   came = L .came ++ came;
+  marked = mark || L .marked;
   gone = L .gone;
   owed = L .owed ++ owed;
 }
 
-pub plus-none : (L : Ledger) → L ≡ plus L [] [] []
-plus-none L = simp append-nil
+pub plus-none : (L : Ledger) (mark : Bool) → marking (mark || L .marked) L ≡ plus L mark [] [] []
+plus-none L mark = simp append-nil
 
 one-block : (ws : List ℕ) → 1 ≤ length ws → asBlock ws ≡ ws ∷ []
 one-block [] h = absurd (omega arith)
@@ -88,10 +88,12 @@ pub told-back : (w : ℕ) (f : File) (xs : List ℕ) (L : Ledger) → Told w f x
 unfolding gaveBack emptiedAt
 told-back w f xs L T =
     told-still w f (withSlot f (takenSide f) Empty false (f .block)) (slot-same f (takenSide f) Empty false (f .block)) xs L (back-line f)
-    (part-stays w f (takenSide f) Empty false (f .block) xs (taken-no f .0) refl) (block-stays f (takenSide f) Empty false) T
+    (part-stays w f (takenSide f) Empty false (f .block) xs (taken-no f .0) refl) (block-stays f (takenSide f) Empty false)
+    (mark-stays f (takenSide f) Empty false (f .block)) T
 
 mark-same : (f : File) → Same f (withFileMark f)
-mark-same f = record { opened = refl; channel = refl; unit = refl; output = refl; sequence = refl; check = refl }
+mark-same f =
+    record { opened = refl; channel = refl; unit = refl; output = refl; sequence = refl; check = refl; size = refl; rlen = refl }
 
 mark-part : (w : ℕ) (f : File) (xs : List ℕ) → partIn w (withFileMark f) xs ≡ partIn w f xs
 unfolding partStart partLength partSide
@@ -106,11 +108,11 @@ mark-line : (f : File) → line (withFileMark f) ≡ line f
 unfolding line
 mark-line f = refl
 
-pub told-mark : (w : ℕ) (f : File) (xs : List ℕ) (L : Ledger) → Told w f xs L → Told w (metMark f) xs L
+pub told-mark : (w : ℕ) (f : File) (xs : List ℕ) (L : Ledger) → Told w f xs L → Told w (metMark f) xs (marking true L)
 unfolding metMark
 told-mark w f xs L T =
-    told-still w (gaveBack f) (withFileMark (gaveBack f)) (mark-same (gaveBack f)) xs L (mark-line (gaveBack f)) (mark-part w (gaveBack f) xs) refl
-    (told-back w f xs L T)
+    told-marked w (gaveBack f) (withFileMark (gaveBack f)) (mark-same (gaveBack f)) xs L true (mark-line (gaveBack f)) (mark-part w (gaveBack f) xs)
+    refl (λ o q. refl) (told-back w f xs L T)
 
 -- ---- a block that a write hands out
 
@@ -125,14 +127,14 @@ module _ (m w : ℕ) (f : File) (S : Sound m w f) (xs : List ℕ) (long : m * w 
           let N = numbers m w f k n at e S x in let q : fullWords (slotAt f k) ≡ n = ap fullWords x in omega (arith, N .some)
 
   pub told-sent : f .opened ≡ true → f .output ≡ true → isSide (oldest f) ≡ true → Told w f xs L
-      → Told w (withoutOldest f) xs (plus L (asBlock (partOf (sendStart w f) (sendWords f) xs)) [] [])
+      → Told w (withoutOldest f) xs (plus L false (asBlock (partOf (sendStart w f) (sendWords f) xs)) [] [])
   told-sent o u full T =
       let inside = send-inside m w f S full in
       let long-block : length (partOf (sendStart w f) (sendWords f) xs) ≡ sendWords f = length-part (sendStart w f) (sendWords f) xs (omega arith) in
-      told-out w f (withoutOldest f) (drop-same f) xs (plus L (asBlock (partOf (sendStart w f) (sendWords f) xs)) [] []) u (T .opened) (T .chose o)
-      (subst (λ (bs : List (List ℕ)). Wrote w (withoutOldest f) xs (L .puts) (L .sent ++ bs))
+      told-out w f (withoutOldest f) (drop-same f) xs (plus L false (asBlock (partOf (sendStart w f) (sendWords f) xs)) [] []) u (T .opened) (T .chose o)
+      (subst (λ (bs : List (List ℕ)). Wrote w (withoutOldest f) xs (L .puts) (L .sent ++ bs) (L .seals))
       (sym (one-block (partOf (sendStart w f) (sendWords f) xs) (omega (arith, send-some full))))
-      (send-wrote w f xs (L .puts) (L .sent) full (T .wrote o u)))
+      (send-wrote w f xs (L .puts) (L .sent) (L .seals) full (T .wrote o u)))
 
   -- ---- a block that is delivered
 
@@ -147,7 +149,8 @@ module _ (m w : ℕ) (f : File) (S : Sound m w f) (xs : List ℕ) (long : m * w 
     zs = pastedIn (startAt f w (takenSide f)) words xs
 
     pub told-came : startAt f w (takenSide f) + length words ≤ length xs → length words ≤ w → f .opened ≡ true → Told w f xs L
-        → Told w (delivered f size err) zs (plus L [] (asBlock words) (owedFor (L .sequence) (L .check) err words))
+        → Told w (delivered f size err) zs
+        (plus L false [] (asBlock words) (owedFor (L .chosen .sequence) (L .chosen .check) err words))
     unfolding delivered filledAt
     told-came fit room o T =
         let k = takenSide f in
@@ -158,11 +161,12 @@ module _ (m w : ℕ) (f : File) (S : Sound m w f) (xs : List ℕ) (long : m * w 
         (omega arith) in
         let same = T .chose o in
         told-in w f (delivered f size err) (slot-same f k (Full size 0 err) (turnedBy f k) (nextNumber (f .block))) zs
-        (plus L [] (asBlock words) (owedFor (L .sequence) (L .check) err words)) input (T .opened) same
+        (plus L false [] (asBlock words) (owedFor (L .chosen .sequence) (L .chosen .check) err words)) input (T .opened) same
+        (T .marks o input ∙ sym (mark-stays f k (Full size 0 err) (turnedBy f k) (nextNumber (f .block))))
         (subst (λ (bs : List (List ℕ)). Brought w (delivered f size err) zs (L .came ++ bs) (L .gone)
-        (L .owed ++ owedFor (L .sequence) (L .check) err words)) (sym (one-block words some))
+        (L .owed ++ owedFor (L .chosen .sequence) (L .chosen .check) err words)) (sym (one-block words some))
         (subst (λ (bs : List (List Item)). Brought w (delivered f size err) zs (L .came ++ (words ∷ [])) (L .gone) (L .owed ++ bs))
-        (sym (one-owed (L .sequence) (L .check) err words some ∙ ap₂ (λ (s c : Bool). contentsOf s c err words ∷ []) (same .sequences)
+        (sym (one-owed (L .chosen .sequence) (L .chosen .check) err words some ∙ ap₂ (λ (s c : Bool). contentsOf s c err words ∷ []) (same .sequences)
         (same .checks)))
         (brought-more w f (delivered f size err) xs zs (L .came) (L .gone) (L .owed)
         (slot-same f k (Full size 0 err) (turnedBy f k) (nextNumber (f .block))) (T .brought o input)

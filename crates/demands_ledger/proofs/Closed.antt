@@ -53,15 +53,15 @@ module _ (f : File) (o : f .output ≡ true) (e : hasUnsent f ≡ false) where
       (or-left (isPart (f .high .slot)) _ high-no)
 
   -- all words put were handed out
-  pub sent-all : (w : ℕ) (area puts : List ℕ) (sent : List (List ℕ)) → Wrote w f area puts sent
+  pub sent-all : (w : ℕ) (area puts : List ℕ) (sent : List (List ℕ)) (seals : List ℕ) → Wrote w f area puts sent seals
       → joined (map (dataOf (f .sequence) (f .check)) sent) ≡ puts
   unfolding joined
-  sent-all w area puts sent T =
+  sent-all w area puts sent seals T =
       sym (append-nil (joined (map (dataOf (f .sequence) (f .check)) sent)))
       ∙ ap₂ (λ (l : List Block) (p : List ℕ). joined (map (dataOf (f .sequence) (f .check)) sent)
       ++ (joined (map (dataOf (f .sequence) (f .check)) (map (blockIn w (extra (f .sequence) (f .check)) area) l)) ++ p)) (sym no-line)
       (sym (no-part w area))
-      ∙ wrote-words w f area puts sent T
+      ∙ wrote-words w f area puts sent seals T
 
 -- an accepted close found it so
 pub close-unsent : (s : State) (file : ℕ) → closeBy s file .refusal ≡ 0 → hasUnsent (fileAt s file) ≡ false

@@ -1,7 +1,7 @@
 -- What holds of every open file and its ledger, where a call changes one file, its buffers, or neither. Assumes nothing.
 use mathlib.Core.Path.{_≡_, refl, sym, subst, _∙_}
 use mathlib.Core.Logic.{_≢_}
-use mathlib.Core.Bool.{true, false}
+use mathlib.Core.Bool.{Bool, true, false}
 use mathlib.Core.List.{List}
 use Prim.Native.Nat.{ℕ, _*_}
 use native.Mathlib.Decide.{ℕ-discrete}
@@ -32,9 +32,24 @@ use Rattle.demands_ledger.proofs.Brings.{brought-still}
 
 -- ---- one file
 
+-- the ledger with another word on marks
+abbrev pub marking : Bool → Ledger → Ledger
+marking m L = record {
+  opened = L .opened;
+  chosen = L .chosen;
+  asked = L .asked;
+  puts = L .puts;
+  seals = L .seals;
+  sent = L .sent;
+  came = L .came;
+  marked = m;
+  gone = L .gone;
+  owed = L .owed;
+}
+
 module _ (w : ℕ) (f g : File) (A : Same f g) (xs : List ℕ) (L : Ledger) where
   abbrev Chosen : File → Type 0
-  Chosen h = Chose h (L .channel) (L .unit) (L .sequence) (L .check)
+  Chosen h = Chose h (L .chosen)
 
   chose-of : Chosen f → Chosen g
   chose-of e = record {
@@ -42,30 +57,49 @@ module _ (w : ℕ) (f g : File) (A : Same f g) (xs : List ℕ) (L : Ledger) wher
     onUnit = e .onUnit ∙ sym (A .unit);
     sequences = e .sequences ∙ sym (A .sequence);
     checks = e .checks ∙ sym (A .check);
+    sizes = e .sizes ∙ sym (A .size);
+    rlens = e .rlens ∙ sym (A .rlen);
   }
 
-  pub told-out : f .output ≡ true → L .opened ≡ f .opened → Chosen f → Wrote w g xs (L .puts) (L .sent) → Told w g xs L
-  told-out o e h T =
-      record { opened = e ∙ sym (A .opened); chose = λ p. chose-of h; wrote = λ p q. T; brought = λ p q. true-not-false (A .output ∙ o) q }
+  pub told-out : f .output ≡ true → L .opened ≡ f .opened → Chosen f → Wrote w g xs (L .puts) (L .sent) (L .seals) → Told w g xs L
+  told-out o e h T = record {
+    opened = e ∙ sym (A .opened);
+    chose = λ p. chose-of h;
+    marks = λ p q. true-not-false (A .output ∙ o) q;
+    wrote = λ p q. T;
+    brought = λ p q. true-not-false (A .output ∙ o) q;
+  }
 
-  pub told-in : f .output ≡ false → L .opened ≡ f .opened → Chosen f → Brought w g xs (L .came) (L .gone) (L .owed) → Told w g xs L
-  told-in o e h T =
-      record { opened = e ∙ sym (A .opened); chose = λ p. chose-of h; wrote = λ p q. true-not-false q (A .output ∙ o); brought = λ p q. T }
+  pub told-in : f .output ≡ false → L .opened ≡ f .opened → Chosen f → L .marked ≡ g .marked → Brought w g xs (L .came) (L .gone) (L .owed)
+      → Told w g xs L
+  told-in o e h m T = record {
+    opened = e ∙ sym (A .opened);
+    chose = λ p. chose-of h;
+    marks = λ p q. m;
+    wrote = λ p q. true-not-false q (A .output ∙ o);
+    brought = λ p q. T;
+  }
 
-  -- nothing that a ledger speaks of changes
-  pub told-still : line g ≡ line f → partIn w g xs ≡ partIn w f xs → g .block ≡ f .block → Told w f xs L → Told w g xs L
-  told-still l p n T = record {
+  -- nothing that a ledger speaks of changes, but whether a mark was read
+  pub told-marked : (m : Bool) → line g ≡ line f → partIn w g xs ≡ partIn w f xs → g .block ≡ f .block
+      → (f .opened ≡ true → f .output ≡ false → m ≡ g .marked) → Told w f xs L → Told w g xs (marking m L)
+  told-marked m l p n e T = record {
     opened = T .opened ∙ sym (A .opened);
     chose = λ o. chose-of (T .chose (sym (A .opened) ∙ o));
-    wrote = λ o q. wrote-still w f g xs xs (L .puts) (L .sent) A (T .wrote (sym (A .opened) ∙ o) (sym (A .output) ∙ q)) refl l p n;
+    marks = λ o q. e (sym (A .opened) ∙ o) (sym (A .output) ∙ q);
+    wrote = λ o q. wrote-still w f g xs xs (L .puts) (L .sent) (L .seals) A (T .wrote (sym (A .opened) ∙ o) (sym (A .output) ∙ q)) refl l p n;
     brought = λ o q. brought-still w f g xs xs (L .came) (L .gone) (L .owed) A (T .brought (sym (A .opened) ∙ o) (sym (A .output) ∙ q)) refl l n;
   }
+
+  pub told-still : line g ≡ line f → partIn w g xs ≡ partIn w f xs → g .block ≡ f .block → g .marked ≡ f .marked → Told w f xs L → Told w g xs L
+  told-still l p n m T = told-marked (L .marked) l p n (λ o q. T .marks o q ∙ sym m) T
 
 -- a file that is not open
 pub told-closed : (w : ℕ) (f : File) (xs : List ℕ) (L : Ledger) → f .opened ≡ false → L .opened ≡ false → Told w f xs L
 told-closed w f xs L c e = record {
   opened = e ∙ sym c;
   chose = λ o. true-not-false o c;
+  marks = λ o q. true-not-false o c;
   wrote = λ o q. true-not-false o c;
   brought = λ o q. true-not-false o c;
 }
@@ -77,7 +111,8 @@ told-frame : (m w : ℕ) (f : File) (xs zs : List ℕ) (L : Ledger) → (f .open
 told-frame m w f xs zs L S same T = record {
   opened = T .opened;
   chose = T .chose;
-  wrote = λ o q. frame-wrote m w f (S o) xs zs (L .puts) (L .sent) (same o) (T .wrote o q);
+  marks = T .marks;
+  wrote = λ o q. frame-wrote m w f (S o) xs zs (L .puts) (L .sent) (L .seals) (same o) (T .wrote o q);
   brought = λ o q.
       brought-still w f f xs zs (L .came) (L .gone) (L .owed) (same-self f) (T .brought o q) (unread-same m w f (S o) xs zs (λ k p full. same o k p))
       refl refl;

@@ -2,6 +2,7 @@ pub mod Told
 pub mod Lists
 pub mod Lines
 pub mod Sides
+pub mod Cuts
 pub mod Writes
 pub mod Brings
 pub mod Gives
@@ -12,5 +13,7 @@ pub mod Booked
 pub mod Deliveries
 pub mod Reported
 pub mod Always
+pub mod Asks
 pub mod Shown
 pub mod Closed
+pub mod Handed

@@ -1,5 +1,5 @@
 -- Each accepted call but report keeps what holds of every open file and its ledger. Assumes nothing.
-use mathlib.Core.Path.{_≡_, refl, sym, ap₂, subst}
+use mathlib.Core.Path.{_≡_, refl, sym, ap₂, subst, _∙_}
 use mathlib.Core.Logic.{_≢_}
 use mathlib.Core.Bool.{Bool, true, false, cond}
 use mathlib.Core.List.{List, _++_}
@@ -29,13 +29,13 @@ use Rattle.pack_record.specs.Puts.{putBy, putByArea}
 use Rattle.pack_record.specs.Seals.{sealBy, sealByArea}
 use Rattle.pack_record.proofs.GetTheorems.{get-open, get-input, get-area-long, get-finds, get-file, get-frame}
 use Rattle.pack_record.proofs.SkipTheorems.{skip-open, skip-input, skip-full, skip-drops, skip-frame}
-use Rattle.pack_record.proofs.PutTheorems.{put-open, put-output, put-room, put-file, put-own-buffer, put-adds, put-seals, put-frame}
-use Rattle.pack_record.proofs.SealTheorems.{seal-open, seal-output, seal-part, seal-file, seal-own-buffer, seal-seals, seal-frame}
+use Rattle.pack_record.proofs.PutTheorems.{put-area-long, put-open, put-output, put-room, put-exact, put-file, put-own-buffer, put-adds, put-seals, put-frame}
+use Rattle.pack_record.proofs.SealTheorems.{seal-area-long, seal-open, seal-output, seal-part, seal-file, seal-own-buffer, seal-seals, seal-frame}
 use Rattle.pack.specs.Calls.{get, put, seal, skip, answerOf}
 use Rattle.pack.proofs.Kept.{call-kept}
-use Rattle.demands_ledger.specs.Ledgers.{Item, Ledger, givenBy, pastUsed, without, withGet, withPut, withSkip}
+use Rattle.demands_ledger.specs.Ledgers.{Item, Ledger, givenBy, pastUsed, without, withGet, withPut, withSeal, withSkip}
 use Rattle.demands_ledger.proofs.Told.{Brought, Told}
-use Rattle.demands_ledger.proofs.Sides.{Same, same-self, same-then, slot-same}
+use Rattle.demands_ledger.proofs.Sides.{Same, same-self, same-then, slot-same, mark-stays}
 use Rattle.demands_ledger.proofs.Writes.{put-wrote, seal-wrote}
 use Rattle.demands_ledger.proofs.Brings.{skip-brought}
 use Rattle.demands_ledger.proofs.Gives.{gives, get-brought}
@@ -67,12 +67,39 @@ pass-same f = go (isUsedUp (slotAt f (oldest f)))
     go true = drop-same f
     go false = same-self f
 
+pub looked-same : (f : File) → Same f (lookedAt f)
+unfolding lookedAt
+looked-same f = same-then f (passed f) (passed (passed f)) (pass-same f) (pass-same (passed f))
+
 get-same : (w : ℕ) (f : File) → Same f (getFrom w f .file)
-unfolding getFrom lookedAt afterFound
+unfolding getFrom afterFound
 get-same w f =
-    let h = passed (passed f) in
-    same-then f h (afterFound h) (same-then f (passed f) h (pass-same f) (pass-same (passed f)))
+    let h = lookedAt f in
+    same-then f h (afterFound h) (looked-same f)
     (slot-same h (oldest h) (slotAfter (h .rlen) (slotAt h (oldest h))) (h .turned) (h .block))
+
+-- whether a mark was read
+pub drop-marked : (f : File) → withoutOldest f .marked ≡ f .marked
+unfolding withoutOldest emptiedAt
+drop-marked f = mark-stays f (oldest f) Empty false (f .block)
+
+pass-marked : (f : File) → passed f .marked ≡ f .marked
+unfolding passed
+pass-marked f = go (isUsedUp (slotAt f (oldest f)))
+  where
+    go : (t : Bool) → cond t (withoutOldest f) f .marked ≡ f .marked
+    go true = drop-marked f
+    go false = refl
+
+pub looked-marked : (f : File) → lookedAt f .marked ≡ f .marked
+unfolding lookedAt
+looked-marked f = pass-marked (passed f) ∙ pass-marked f
+
+get-marked : (w : ℕ) (f : File) → getFrom w f .file .marked ≡ f .marked
+unfolding getFrom afterFound
+get-marked w f =
+    let h = lookedAt f in
+    mark-stays h (oldest h) (slotAfter (h .rlen) (slotAt h (oldest h))) (h .turned) (h .block) ∙ looked-marked f
 
 -- the ledger of file j alone is another
 module _ (ledgers : ℕ → Ledger) (L : Ledger → Ledger) (j : ℕ) where
@@ -110,10 +137,12 @@ module _ (s : State) (area : List ℕ) (ledgers : ℕ → Ledger) (K : Kept s ar
       (told-out (s .w) f (afterPut f) (put-same (s .m) (s .w) f (S file o) room) (putByArea s area file words) (withPut words (ledgers file))
       (put-output s area file words z) (K .told file .opened) (K .told file .chose o)
       (put-wrote (s .m) (s .w) f (S file o) room area (putByArea s area file words) words (ledgers file .puts) (ledgers file .sent)
-      (K .told file .wrote o (put-output s area file words z)) only
+      (ledgers file .seals) (K .told file .wrote o (put-output s area file words z)) (put-area-long s area file words z)
+      (put-exact s area file words z) only
       (put-adds s area file words z) (put-seals s area file words z)))))
 
-  pub seal-kept : (file : ℕ) → sealBy s area file .refusal ≡ 0 → Kept (sealBy s area file .state) (sealByArea s area file) ledgers
+  pub seal-kept : (file : ℕ) → sealBy s area file .refusal ≡ 0
+      → Kept (sealBy s area file .state) (sealByArea s area file) (entering ledgers withSeal file)
   unfolding answerOf partStart
   seal-kept file z =
       let f = fileAt s file in
@@ -121,16 +150,17 @@ module _ (s : State) (area : List ℕ) (ledgers : ℕ → Ledger) (K : Kept s ar
       let part = seal-part s area file z in
       let F = seal-frame s area file in
       let only = seal-own-buffer s area file z in
-      kept-file s (sealBy s area file .state) area (sealByArea s area file) ledgers ledgers K (call-kept s area (K .good) (seal file)) file (F .3)
-      (F .0) (λ i ne. refl)
+      kept-file s (sealBy s area file .state) area (sealByArea s area file) ledgers (entering ledgers withSeal file) K
+      (call-kept s area (K .good) (seal file)) file (F .3) (F .0) (entering-other ledgers withSeal file)
       (others-same s (K .good) file (bufferAt f (partSide f) .number) (held-own f (partSide f) o (own-part (s .m) (s .w) f (S file o) part)) area
       (sealByArea s area file) only)
-      (subst (λ (h : File). Told (s .w) h (sealByArea s area file) (ledgers file)) (sym (seal-file s area file z))
-      (told-out (s .w) f (sealedFile f) (seal-same f) (sealByArea s area file) (ledgers file) (seal-output s area file z) (K .told file .opened)
-      (K .told file .chose o)
-      (seal-wrote (s .m) (s .w) f (S file o) part area (sealByArea s area file) (ledgers file .puts) (ledgers file .sent)
-      (K .told file .wrote o (seal-output s area file z)) only
-      (seal-seals s area file z))))
+      (subst (λ (h : File). Told (s .w) h (sealByArea s area file) (entering ledgers withSeal file file)) (sym (seal-file s area file z))
+      (subst (Told (s .w) (sealedFile f) (sealByArea s area file)) (sym (entering-here ledgers withSeal file))
+      (told-out (s .w) f (sealedFile f) (seal-same f) (sealByArea s area file) (withSeal (ledgers file)) (seal-output s area file z)
+      (K .told file .opened) (K .told file .chose o)
+      (seal-wrote (s .m) (s .w) f (S file o) part area (sealByArea s area file) (ledgers file .puts) (ledgers file .sent) (ledgers file .seals)
+      (K .told file .wrote o (seal-output s area file z)) (seal-area-long s area file z) only
+      (seal-seals s area file z)))))
 
   pub get-kept : (file : ℕ) → getBy s area file .refusal ≡ 0
       → Kept (getBy s area file .state) area (entering ledgers (withGet (answerOf s area (get file))) file)
@@ -148,7 +178,7 @@ module _ (s : State) (area : List ℕ) (ledgers : ℕ → Ledger) (K : Kept s ar
       (subst (λ (h : File). Told (s .w) h area (entering ledgers (withGet (answerOf s area (get file))) file file)) (sym (get-file s area file z))
       (subst (Told (s .w) (getFrom (s .w) f .file) area) (sym (entering-here ledgers (withGet (answerOf s area (get file))) file))
       (told-in (s .w) f (getFrom (s .w) f .file) (get-same (s .w) f) area (withGet (answerOf s area (get file)) L) (get-input s area file z)
-      (K .told file .opened) (K .told file .chose o)
+      (K .told file .opened) (K .told file .chose o) (K .told file .marks o (get-input s area file z) ∙ sym (get-marked (s .w) f))
       (subst (λ (now : List Item). Brought (s .w) (getFrom (s .w) f .file) area (L .came) (L .gone ++ now)
       (without (length now) (pastUsed (pastUsed (L .owed))))) (sym same)
       (get-brought (s .m) (s .w) f (S file o) area (get-area-long s area file z) (L .came) (L .gone) (L .owed)
@@ -167,4 +197,5 @@ module _ (s : State) (area : List ℕ) (ledgers : ℕ → Ledger) (K : Kept s ar
       (subst (λ (h : File). Told (s .w) h area (entering ledgers withSkip file file)) (sym (skip-drops s file z .0))
       (subst (Told (s .w) (withoutOldest f) area) (sym (entering-here ledgers withSkip file))
       (told-in (s .w) f (withoutOldest f) (drop-same f) area (withSkip L) (skip-input s file z) (K .told file .opened) (K .told file .chose o)
+      (K .told file .marks o (skip-input s file z) ∙ sym (drop-marked f))
       (skip-brought (s .w) f area (L .came) (L .gone) (L .owed) (skip-full s file z) (K .told file .brought o (skip-input s file z))))))

@@ -5,7 +5,7 @@ use mathlib.Core.Bool.{Bool, true, false, not, cond, _&&_, _||_}
 use mathlib.Core.List.{List, []}
 use Prim.Native.Nat.{ℕ, _*_, _≤_}
 use native.Mathlib.Omega.{arith}
-use lib.Dec.{eqb, ltb, leb}
+use lib.Dec.{eqb, leb}
 use lib.ListN.{length}
 use borrow.Author.Tests.{eq-eqb, ltb-false}
 use Rattle.area.specs.Parts.{partOf, pastedIn}
@@ -41,7 +41,7 @@ use Rattle.call_request.specs.Effects.{isDelivery}
 use Rattle.call_request.specs.Report.{effectAt, shownStart, shownCount, reportRefusal, deliveryError, reportedFile, reportedArea, reportOn, reportOnArea}
 use Rattle.pack_request.specs.Calls.{fileOf, reportWrong, reportChange, reportBy, reportByArea}
 use Rattle.pack_request.proofs.Changed.{here-file}
-use Rattle.pack_request.proofs.ReportTheorems.{ReportReady, report-ready, report-exactly, report-frame, isOpen, requested-ready, report-books-own}
+use Rattle.pack_request.proofs.ReportTheorems.{booked, ReportReady, report-ready, report-exactly, report-frame, isOpen, requested-ready, report-books-own}
 use Rattle.pack_request.proofs.ReportWords.{isSending, sends-exactly, report-delivers}
 use Rattle.pack_record.specs.Only.{Only}
 use Rattle.pack_record.proofs.Written.{only-wider, pasted-only}
@@ -51,9 +51,9 @@ use Rattle.pack.proofs.Kept.{call-kept}
 use Rattle.demands_ledger.specs.Ledgers.{Ledger, asBlock, owedFor, withReport, isOn}
 use Rattle.demands_ledger.specs.Blocks.{numberAfter}
 use Rattle.demands_ledger.proofs.Told.{Told}
-use Rattle.demands_ledger.proofs.Frames.{Kept, others-same, kept-file}
+use Rattle.demands_ledger.proofs.Frames.{marking, Kept, others-same, kept-file}
 use Rattle.demands_ledger.proofs.Booked.{plus, plus-none, told-back, told-mark, told-sent, told-came}
-use Rattle.demands_ledger.proofs.Deliveries.{words-delivered, write-ready}
+use Rattle.demands_ledger.proofs.Deliveries.{words-delivered, meets, mark-met, write-ready}
 
 module _ (s : State) (area : List ℕ) (ledgers : ℕ → Ledger) (K : Kept s area ledgers) (channel unit outcome : ℕ) (words : List ℕ)
     (z : reportBy s area channel unit outcome words .refusal ≡ 0) where
@@ -72,17 +72,17 @@ module _ (s : State) (area : List ℕ) (ledgers : ℕ → Ledger) (K : Kept s ar
   abbrev L : Ledger
   L = ledgers i
 
-  number : reportRefusal (reportWrong s (length area) channel) f c unit outcome (s .w) area words ≡ 0
+  pub number : reportRefusal (reportWrong s (length area) channel) f c unit outcome (s .w) area words ≡ 0
   unfolding reportRefusal
   number = sym (report-exactly s area channel unit outcome words .number) ∙ z
 
-  ready : ReportReady (reportWrong s (length area) channel) f c unit outcome (s .w) area words
+  pub ready : ReportReady (reportWrong s (length area) channel) f c unit outcome (s .w) area words
   ready = report-ready (reportWrong s (length area) channel) f c unit outcome (s .w) area words number
 
   long : s .m * s .w ≤ length area
   long = ltb-false (length area) (s .m * s .w) (or-left (areaShort s (length area)) _ (or-right (not (sound s)) _ (ready .right)))
 
-  open-file : f .opened ≡ true
+  pub open-file : f .opened ≡ true
   open-file = isOpen s area channel unit outcome words (K .good .sixteen) number
 
   S : Sound (s .m) (s .w) f
@@ -95,23 +95,23 @@ module _ (s : State) (area : List ℕ) (ledgers : ℕ → Ledger) (K : Kept s ar
       words-delivered c unit outcome words (or-right (leb unitCount unit || leb outcomeCount outcome) _ (or-right (reportWrong s (length area) channel) _ row))
       (ready .works)
 
-  after-area : reportByArea s area channel unit outcome words ≡ reportedArea effect f (s .w) words area
+  pub after-area : reportByArea s area channel unit outcome words ≡ reportedArea effect f (s .w) words area
   unfolding reportByArea reportOnArea
   after-area = cond-true (reportedArea effect f (s .w) words area) area (eq-eqb _ 0 number)
 
   -- what the report makes of its file, of the area and of the file's ledger
   abbrev madeLedger : Effect → Ledger
   madeLedger x =
-      plus L (asBlock (partOf (shownStart x (s .w) f) (shownCount x f) (reportedArea x f (s .w) words area))) (asBlock words)
-      (owedFor (L .sequence) (L .check) (deliveryError x f words) words)
+      plus L (meets x) (asBlock (partOf (shownStart x (s .w) f) (shownCount x f) (reportedArea x f (s .w) words area))) (asBlock words)
+      (owedFor (L .chosen .sequence) (L .chosen .check) (deliveryError x f words) words)
 
-  nothing-more : (g : File) → words ≡ [] → Told (s .w) g area L
-      → Told (s .w) g area (plus L [] (asBlock words) (owedFor (L .sequence) (L .check) 0 words))
-  nothing-more g e T =
-      subst (λ (ws : List ℕ). Told (s .w) g area (plus L [] (asBlock ws) (owedFor (L .sequence) (L .check) 0 ws))) (sym e)
-      (subst (Told (s .w) g area) (plus-none L) T)
+  nothing-more : (g : File) (mark : Bool) → words ≡ [] → Told (s .w) g area (marking (mark || L .marked) L)
+      → Told (s .w) g area (plus L mark [] (asBlock words) (owedFor (L .chosen .sequence) (L .chosen .check) 0 words))
+  nothing-more g mark e T =
+      subst (λ (ws : List ℕ). Told (s .w) g area (plus L mark [] (asBlock ws) (owedFor (L .chosen .sequence) (L .chosen .check) 0 ws))) (sym e)
+      (subst (Told (s .w) g area) (plus-none L mark) T)
 
-  sending : isWrite (operationAt c unit) ≡ true → (f .output ≡ true) × (hasFull f ≡ true)
+  pub sending : isWrite (operationAt c unit) ≡ true → (f .output ≡ true) × (hasFull f ≡ true)
   unfolding operationAt
   sending h = write-ready (turnAt c unit) f h (requested-ready s area channel unit outcome words (K .good .sixteen) number)
 
@@ -122,19 +122,20 @@ module _ (s : State) (area : List ℕ) (ledgers : ℕ → Ledger) (K : Kept s ar
       let d : isDelivery effect ≡ true = ap isDelivery e in
       let D = report-delivers s area channel unit outcome words (K .good .sixteen) number d in
       told-came (s .m) (s .w) f S area long L words (D .side) (ready .fits d) (D .inside) (D .room) open-file (K .told i)
-  told-reported MeetsMark e = nothing-more (metMark f) (no-words (ap isDelivery e)) (told-mark (s .w) f area L (K .told i))
-  told-reported GivesBack e = nothing-more (gaveBack f) (no-words (ap isDelivery e)) (told-back (s .w) f area L (K .told i))
+  told-reported MeetsMark e = nothing-more (metMark f) true (no-words (ap isDelivery e)) (told-mark (s .w) f area L (K .told i))
+  told-reported GivesBack e = nothing-more (gaveBack f) false (no-words (ap isDelivery e)) (told-back (s .w) f area L (K .told i))
   told-reported Sends e =
       let writes : isWrite (operationAt c unit) ≡ true =
       and-left (isWrite (operationAt c unit)) _ (sym (sends-exactly (operationAt c unit) (judgeOf c unit outcome)) ∙ ap isSending e) in
       let R = sending writes in
       subst (λ (ws : List ℕ). Told (s .w) (withoutOldest f) area
-      (plus L (asBlock (partOf (sendStart (s .w) f) (sendWords f) area)) (asBlock ws) (owedFor (L .sequence) (L .check) 0 ws)))
+      (plus L false (asBlock (partOf (sendStart (s .w) f) (sendWords f) area)) (asBlock ws)
+      (owedFor (L .chosen .sequence) (L .chosen .check) 0 ws)))
       (sym (no-words (ap isDelivery e)))
       (told-sent (s .m) (s .w) f S area long L open-file (R .0) (R .1) (K .told i))
-  told-reported Keeps e = nothing-more f (no-words (ap isDelivery e)) (K .told i)
+  told-reported Keeps e = nothing-more f false (no-words (ap isDelivery e)) (K .told i)
 
-  change : reportChange s area channel unit outcome words ≡ record {
+  pub change : reportChange s area channel unit outcome words ≡ record {
     refusal = 0;
     result = resultNumber (judgeOf c unit outcome);
     error = deliveryError effect f words;
@@ -146,6 +147,9 @@ module _ (s : State) (area : List ℕ) (ledgers : ℕ → Ledger) (K : Kept s ar
   }
   unfolding reportOn
   change = rw (eq-eqb (reportRefusal (reportWrong s (length area) channel) f c unit outcome (s .w) area words) 0 number)
+
+  met : eqb (resultNumber (judgeOf c unit outcome)) 3 ≡ meets effect
+  met = mark-met c unit outcome (booked c unit outcome (ready .works) (ready .allowed))
 
   -- the file after it stands in its place
   after-file : fileAt (reportBy s area channel unit outcome words .state) i ≡ reportChange s area channel unit outcome words .file
@@ -177,16 +181,16 @@ module _ (s : State) (area : List ℕ) (ledgers : ℕ → Ledger) (K : Kept s ar
 
   -- ---- the ledger that it enters is the one of its file
 
-  on-same : (j : ℕ) → isOn channel unit (ledgers j) ≡ serves channel unit (fileAt s j)
+  pub on-same : (j : ℕ) → isOn channel unit (ledgers j) ≡ serves channel unit (fileAt s j)
   on-same j = go (fileAt s j .opened) refl
     where
       go : (t : Bool) → fileAt s j .opened ≡ t → isOn channel unit (ledgers j) ≡ serves channel unit (fileAt s j)
       go true o =
           let C = K .told j .chose o in
-          ap (λ (b : Bool). b && (eqb (ledgers j .channel) channel && eqb (ledgers j .unit) unit)) (K .told j .opened)
+          ap (λ (b : Bool). b && (eqb (ledgers j .chosen .channel) channel && eqb (ledgers j .chosen .unit) unit)) (K .told j .opened)
           ∙ ap₂ (λ (a b : ℕ). fileAt s j .opened && (eqb a channel && eqb b unit)) (C .onChannel) (C .onUnit)
       go false o =
-          ap (λ (b : Bool). b && (eqb (ledgers j .channel) channel && eqb (ledgers j .unit) unit)) (K .told j .opened ∙ o)
+          ap (λ (b : Bool). b && (eqb (ledgers j .chosen .channel) channel && eqb (ledgers j .chosen .unit) unit)) (K .told j .opened ∙ o)
           ∙ sym (ap (λ (b : Bool). b && (eqb (fileAt s j .channel) channel && eqb (fileAt s j .unit) unit)) o)
 
   abbrev pub noting : ℕ → Ledger
@@ -215,11 +219,15 @@ module _ (s : State) (area : List ℕ) (ledgers : ℕ → Ledger) (K : Kept s ar
       (subst (λ (h : File). Told (s .w) h zs (noting i)) (sym after-file)
       (subst (Told (s .w) (reportChange s area channel unit outcome words .file) zs) (sym noting-here)
       (subst (λ (x : ReportChange). Told (s .w) (x .file) zs
-      (plus L (asBlock (partOf (x .start) (x .count) zs)) (asBlock words) (owedFor (L .sequence) (L .check) (x .error) words))) (sym change)
+      (plus L (eqb (x .result) 3) (asBlock (partOf (x .start) (x .count) zs)) (asBlock words)
+      (owedFor (L .chosen .sequence) (L .chosen .check) (x .error) words))) (sym change)
+      (subst (λ (mark : Bool). Told (s .w) (reportedFile effect f (length words) (deliveryError effect f words)) zs
+      (plus L mark (asBlock (partOf (shownStart effect (s .w) f) (shownCount effect f) zs)) (asBlock words)
+      (owedFor (L .chosen .sequence) (L .chosen .check) (deliveryError effect f words) words))) (sym met)
       (subst (λ (ys : List ℕ). Told (s .w) (reportedFile effect f (length words) (deliveryError effect f words)) ys
-      (plus L (asBlock (partOf (shownStart effect (s .w) f) (shownCount effect f) ys)) (asBlock words)
-      (owedFor (L .sequence) (L .check) (deliveryError effect f words) words))) (sym after-area)
-      (told-reported effect refl)))))
+      (plus L (meets effect) (asBlock (partOf (shownStart effect (s .w) f) (shownCount effect f) ys)) (asBlock words)
+      (owedFor (L .chosen .sequence) (L .chosen .check) (deliveryError effect f words) words))) (sym after-area)
+      (told-reported effect refl))))))
 
   -- the error that it answers is the judgement of the words as delivered, with the number that the block is due
   pub report-judged : words ≢ []

@@ -1,10 +1,10 @@
 -- What a ledger says of blocks as a reader meets them: those shown, those that lie in the area, their data words and their numbers.
 -- Assumes nothing.
-use mathlib.Core.Path.{_≡_, refl, sym, ap, ap₂, _∙_}
+use mathlib.Core.Path.{_≡_, refl, sym, ap, ap₂, subst, _∙_}
 use mathlib.Core.Bool.{Bool, true, false, cond, _||_}
 use mathlib.Core.List.{List, [], _∷_, _++_, map, append-assoc}
 use Prim.Native.Nat.{ℕ, suc, _+_, _-_, _%_, _<_}
-use native.Mathlib.Nat.{mod-add-mod, mod-lt, mod-eq-of-lt}
+use native.Mathlib.Nat.{zero-add, mod-add-mod, mod-lt, mod-eq-of-lt}
 use native.Mathlib.Omega.{arith}
 use lib.ListN.{length, take, length-append}
 use lib.Seq.{take-at}
@@ -12,9 +12,10 @@ use Rattle.word.specs.Sums.{logicalSum}
 use Rattle.word.specs.CheckWords.{checkWord, blockNumbers, nextNumber}
 use Rattle.file.specs.declared.File.{File}
 use Rattle.demands_ledger.specs.Ledgers.{dataOf}
-use Rattle.demands_ledger.specs.Blocks.{blocksIn, partIn, checked, allChecked, joined, numberAfter}
+use Rattle.demands_ledger.specs.Blocks.{blocksIn, partIn, checked, allChecked, joined, numberAfter, Sized, Divided}
 use Rattle.demands_ledger.proofs.Told.{Wrote}
 use Rattle.demands_ledger.proofs.Lists.{map-append}
+use Rattle.demands_ledger.proofs.Cuts.{divided-at}
 
 -- the data words of a block of these data words
 data-at : (d e : List ℕ) (n : ℕ) → length e ≡ n → take (length (d ++ e) - n) (d ++ e) ≡ d
@@ -44,17 +45,31 @@ first-checked s c k (b ∷ bs) rest (d ∷ ds) e =
     let q : dataOf s c b ≡ d = ap (dataOf s c) h ∙ data-checked s c k d in
     ap₂ (λ (x : List ℕ) (l : List (List ℕ)). x ∷ l) (h ∙ ap (checked s c k) (sym q)) (first-checked s c (nextNumber k) bs rest ds t)
 
+-- the block after them too
+pub next-checked : (s c : Bool) (k : ℕ) (bs : List (List ℕ)) (b : List ℕ) (rest ds : List (List ℕ)) → bs ++ (b ∷ rest) ≡ allChecked s c k ds
+    → b ≡ checked s c (numberAfter k bs) (dataOf s c b)
+unfolding allChecked numberAfter
+next-checked s c k [] b rest [] e = absurd (let z : _≡_ {A = ℕ} 0 1 = cc in omega arith)
+next-checked s c k [] b rest (d ∷ ds) e =
+    let h : b ≡ checked s c k d = cc in h ∙ ap (checked s c k) (sym (ap (dataOf s c) h ∙ data-checked s c k d))
+next-checked s c k (x ∷ bs) b rest [] e = absurd (let z : _≡_ {A = ℕ} 0 1 = cc in omega arith)
+next-checked s c k (x ∷ bs) b rest (d ∷ ds) e =
+    next-checked s c (nextNumber k) bs b rest ds (let t : bs ++ (b ∷ rest) ≡ allChecked s c (nextNumber k) ds = cc in t)
+
 joined-append : {A : Type 0} (a b : List (List A)) → joined (a ++ b) ≡ joined a ++ joined b
 unfolding joined
 joined-append [] b = refl
 joined-append (x ∷ a) b = ap (λ l. x ++ l) (joined-append a b) ∙ sym (append-assoc x (joined a) (joined b))
 
-module _ (w : ℕ) (f : File) (area puts : List ℕ) (sent : List (List ℕ)) (T : Wrote w f area puts sent) where
+module _ (w : ℕ) (f : File) (area puts : List ℕ) (sent : List (List ℕ)) (seals : List ℕ) (T : Wrote w f area puts sent seals) where
   abbrev data-of : List (List ℕ) → List (List ℕ)
   data-of = map (dataOf (f .sequence) (f .check))
 
   pub wrote-checks : sent ≡ allChecked (f .sequence) (f .check) 1 (map (dataOf (f .sequence) (f .check)) sent)
   wrote-checks = first-checked (f .sequence) (f .check) 1 sent (blocksIn w f area) (T .data-words) (T .blocks)
+
+  pub wrote-data : map (dataOf (f .sequence) (f .check)) (sent ++ blocksIn w f area) ≡ T .data-words
+  wrote-data = ap (map (dataOf (f .sequence) (f .check))) (T .blocks) ∙ data-all (f .sequence) (f .check) 1 (T .data-words)
 
   pub wrote-words : joined (map (dataOf (f .sequence) (f .check)) sent)
       ++ (joined (map (dataOf (f .sequence) (f .check)) (blocksIn w f area)) ++ partIn w f area) ≡ puts
@@ -64,9 +79,29 @@ module _ (w : ℕ) (f : File) (area puts : List ℕ) (sent : List (List ℕ)) (T
       ∙ T .words
     where
       whole : map (dataOf (f .sequence) (f .check)) sent ++ map (dataOf (f .sequence) (f .check)) (blocksIn w f area) ≡ T .data-words
-      whole =
-          sym (map-append (dataOf (f .sequence) (f .check)) sent (blocksIn w f area)) ∙ ap (map (dataOf (f .sequence) (f .check))) (T .blocks)
-          ∙ data-all (f .sequence) (f .check) 1 (T .data-words)
+      whole = sym (map-append (dataOf (f .sequence) (f .check)) sent (blocksIn w f area)) ∙ wrote-data
+
+  -- the block that is next: its data words, its check word and how many words it has
+  module _ (b : List ℕ) (rest : List (List ℕ)) (e : blocksIn w f area ≡ b ∷ rest) where
+    pub next-is : b ≡ checked (f .sequence) (f .check) (numberAfter 1 sent) (dataOf (f .sequence) (f .check) b)
+    next-is =
+        next-checked (f .sequence) (f .check) 1 sent b rest (T .data-words) (ap (λ (v : List (List ℕ)). sent ++ v) (sym e) ∙ T .blocks)
+
+    pub next-words : joined (map (dataOf (f .sequence) (f .check)) sent)
+        ++ (dataOf (f .sequence) (f .check) b ++ (joined (map (dataOf (f .sequence) (f .check)) rest) ++ partIn w f area)) ≡ puts
+    unfolding joined
+    next-words =
+        ap (λ (v : List ℕ). joined (data-of sent) ++ v)
+        (sym (append-assoc (dataOf (f .sequence) (f .check) b) (joined (data-of rest)) (partIn w f area))
+        ∙ ap (λ (v : List (List ℕ)). joined (data-of v) ++ partIn w f area) (sym e)) ∙ wrote-words
+
+    pub next-sized : Sized (f .rlen) (f .size) seals (length (joined (map (dataOf (f .sequence) (f .check)) sent))) (dataOf (f .sequence) (f .check) b)
+    next-sized =
+        subst (λ (n : ℕ). Sized (f .rlen) (f .size) seals n (dataOf (f .sequence) (f .check) b)) (zero-add _)
+        (divided-at (f .rlen) (f .size) seals 0 (data-of sent) (dataOf (f .sequence) (f .check) b) (data-of rest)
+        (subst (Divided (f .rlen) (f .size) seals 0)
+        (sym (sym (map-append (dataOf (f .sequence) (f .check)) sent (b ∷ rest)) ∙ ap (λ (v : List (List ℕ)). data-of (sent ++ v)) (sym e)
+        ∙ wrote-data)) (T .sized)))
 
 -- ---- numbers
 

@@ -36,9 +36,12 @@ pub record Same (f g : File) : Type 0 where
   pub output : g .output ≡ f .output
   pub sequence : g .sequence ≡ f .sequence
   pub check : g .check ≡ f .check
+  pub size : g .size ≡ f .size
+  pub rlen : g .rlen ≡ f .rlen
 
 pub same-self : (f : File) → Same f f
-same-self f = record { opened = refl; channel = refl; unit = refl; output = refl; sequence = refl; check = refl }
+same-self f =
+    record { opened = refl; channel = refl; unit = refl; output = refl; sequence = refl; check = refl; size = refl; rlen = refl }
 
 pub same-then : (f g h : File) → Same f g → Same g h → Same f h
 same-then f g h A B = record {
@@ -48,11 +51,15 @@ same-then f g h A B = record {
   output = B .output ∙ A .output;
   sequence = B .sequence ∙ A .sequence;
   check = B .check ∙ A .check;
+  size = B .size ∙ A .size;
+  rlen = B .rlen ∙ A .rlen;
 }
 
 pub slot-same : (f : File) (k : Side) (x : Slot) (t : Bool) (b : ℕ) → Same f (withSlot f k x t b)
-slot-same f Low x t b = record { opened = refl; channel = refl; unit = refl; output = refl; sequence = refl; check = refl }
-slot-same f High x t b = record { opened = refl; channel = refl; unit = refl; output = refl; sequence = refl; check = refl }
+slot-same f Low x t b =
+    record { opened = refl; channel = refl; unit = refl; output = refl; sequence = refl; check = refl; size = refl; rlen = refl }
+slot-same f High x t b =
+    record { opened = refl; channel = refl; unit = refl; output = refl; sequence = refl; check = refl; size = refl; rlen = refl }
 slot-same f Neither x t b = same-self f
 
 pub slot-block : (f : File) (k : Side) (x : Slot) (t : Bool) (b : ℕ) → isSide k ≡ true → withSlot f k x t b .block ≡ b
@@ -64,6 +71,12 @@ pub block-stays : (f : File) (k : Side) (x : Slot) (t : Bool) → withSlot f k x
 block-stays f Low x t = refl
 block-stays f High x t = refl
 block-stays f Neither x t = refl
+
+-- whether a mark was read
+pub mark-stays : (f : File) (k : Side) (x : Slot) (t : Bool) (b : ℕ) → withSlot f k x t b .marked ≡ f .marked
+mark-stays f Low x t b = refl
+mark-stays f High x t b = refl
+mark-stays f Neither x t b = refl
 
 -- ---- a buffer that has no full block
 

@@ -2,9 +2,12 @@
 use mathlib.Core.Path.{_≡_, refl, sym, ap, subst, _∙_}
 use mathlib.Core.Bool.{Bool, true, false, cond}
 use mathlib.Core.List.{List, []}
-use Prim.Native.Nat.{ℕ, zero, suc}
+use Prim.Native.Nat.{ℕ, zero, suc, _≤_}
+use borrow.Author.Tests.{leb-true}
+use lib.Dec.{leb}
 use lib.ListN.{length, getD, replicate}
-use Rattle.area.proofs.Walks.{true-not-false}
+use Rattle.area.specs.Lists.{anyOf}
+use Rattle.area.proofs.Walks.{true-not-false, and-left, and-right}
 use Rattle.file.specs.declared.Slot.{Slot}
 use Rattle.file.specs.declared.Slot.the-variants.{Empty, Taken, Part, Full}
 use Rattle.file.specs.declared.Side.{Side}
@@ -26,12 +29,12 @@ use Rattle.state.specs.Places.{fileAt, channelAt}
 use Rattle.state_sound.proofs.Kept.{place-of}
 use Rattle.pack_start.specs.declared.Masks.{Masks}
 use Rattle.pack_start.specs.Fresh.{freshState, freshBy}
-use Rattle.call_open.specs.Open.{isSet, wishOf}
+use Rattle.call_open.specs.Open.{wishOf}
 use Rattle.pack_open.specs.Open.{openBy}
 use Rattle.pack_open.specs.Close.{closeBy}
 use Rattle.pack_start.specs.Freeze.{freezeBy, thawBy}
 use Rattle.pack_start.proofs.FreshTheorems.{fresh-accepted}
-use Rattle.pack_open.proofs.OpenTheorems.{lowOf, highOf, open-file, open-frame}
+use Rattle.pack_open.proofs.OpenTheorems.{lowOf, highOf, open-accepted, open-file, open-frame}
 use Rattle.pack_open.proofs.CloseTheorems.{close-file, close-frame}
 use Rattle.pack_start.proofs.FreezeTheorems.{OnlyTurns, freeze-frame, thaw-frame}
 use Rattle.call_request.specs.declared.AskChange.{AskChange}
@@ -42,21 +45,34 @@ use Rattle.pack_request.proofs.Changed.{here-file}
 use Rattle.pack_request.proofs.AskTheorems.{ask-ready, ask-exactly, ask-frame}
 use Rattle.pack.specs.Calls.{opening, close, ask, freeze, thaw, answerOf}
 use Rattle.pack.proofs.Kept.{Good, call-kept}
-use Rattle.demands_ledger.specs.Ledgers.{Ledger, newLedger, blankLedger, withClose}
-use Rattle.demands_ledger.specs.Blocks.{allChecked, joined, contents, numberAfter}
+use Rattle.demands_ledger.specs.Ledgers.{Choice, Ledger, choiceOf, newLedger, blankLedger, withAsk, withClose}
+use Rattle.demands_ledger.specs.Blocks.{allChecked, joined, contents, numberAfter, done}
 use Rattle.demands_ledger.proofs.Told.{none, Told}
-use Rattle.demands_ledger.proofs.Sides.{slot-same, block-stays, part-stays}
+use Rattle.demands_ledger.proofs.Sides.{slot-same, block-stays, mark-stays, part-stays}
+use Rattle.demands_ledger.proofs.Cuts.{filling-none}
 use Rattle.demands_ledger.proofs.Frames.{told-still, told-closed, Kept, kept-file}
 use Rattle.demands_ledger.proofs.Moves.{entering, entering-other, entering-here}
 
+-- what a wish chooses
+abbrev chosenBy : Wish → Choice
+chosenBy q = record { channel = q .channel; unit = q .unit; sequence = q .sequence; check = q .check; size = q .size; rlen = q .rlen }
+
 -- a file as it is opened
-told-opened : (w : ℕ) (q : Wish) (low high : ℕ) (area : List ℕ)
-    → Told w (openedFile q low high) area (newLedger (q .channel) (q .unit) (q .sequence) (q .check))
-unfolding openedFile line partStart partLength partSide joined allChecked contents numberAfter
-told-opened w q low high area = record {
+told-opened : (w : ℕ) (q : Wish) (low high : ℕ) (area : List ℕ) → q .rlen ≤ q .size
+    → Told w (openedFile q low high) area (newLedger (chosenBy q))
+unfolding openedFile line partStart partLength partSide joined allChecked contents numberAfter anyOf
+told-opened w q low high area fits = record {
   opened = refl;
-  chose = λ o. record { onChannel = refl; onUnit = refl; sequences = refl; checks = refl };
-  wrote = λ o p. record { data-words = []; words = refl; blocks = refl; number = refl };
+  chose = λ o. record { onChannel = refl; onUnit = refl; sequences = refl; checks = refl; sizes = refl; rlens = refl };
+  marks = λ o p. refl;
+  wrote = λ o p. record {
+    data-words = [];
+    words = refl;
+    blocks = refl;
+    number = refl;
+    sized = done;
+    filling = filling-none (q .rlen) (q .size) [] 0 fits (λ k e. true-not-false e refl);
+  };
   brought = λ o p. record { lies = refl; items = refl; number = refl; untold = none };
 }
 
@@ -85,7 +101,8 @@ told-took : (w : ℕ) (f : File) (area : List ℕ) (L : Ledger) → Told w f are
 unfolding tookBuffer
 told-took w f area L T =
     told-still w f (withSlot f (emptySide f) Taken false (f .block)) (slot-same f (emptySide f) Taken false (f .block)) area L (took-line f)
-    (part-stays w f (emptySide f) Taken false (f .block) area (empty-no-part f) refl) (block-stays f (emptySide f) Taken false) T
+    (part-stays w f (emptySide f) Taken false (f .block) area (empty-no-part f) refl) (block-stays f (emptySide f) Taken false)
+    (mark-stays f (emptySide f) Taken false (f .block)) T
 
 told-asked : (w op : ℕ) (f : File) (area : List ℕ) (L : Ledger) → Told w f area L → Told w (askedFile op f) area L
 unfolding askedFile
@@ -94,6 +111,10 @@ told-asked w op f area L T = go (isReading op)
     go : (t : Bool) → Told w (cond t (tookBuffer f) f) area L
     go true = told-took w f area L T
     go false = T
+
+-- no word of a ledger but its own changes
+told-noted : (w op : ℕ) (f : File) (area : List ℕ) (L : Ledger) → Told w f area L → Told w f area (withAsk op L)
+told-noted w op f area L T = record { opened = T .opened; chose = T .chose; marks = T .marks; wrote = T .wrote; brought = T .brought }
 
 -- a fresh start closes every file, whatever was
 pub fresh-kept : (s : State) (area : List ℕ) (m w : ℕ) (masks : Masks) → Good (freshBy s (length area) m w masks .state)
@@ -110,19 +131,20 @@ fresh-kept s area m w masks g z = record {
 module _ (s : State) (area : List ℕ) (ledgers : ℕ → Ledger) (K : Kept s area ledgers) where
   pub open-kept : (file channel unit flags size rlen : ℕ) → openBy s file channel unit flags size rlen .refusal ≡ 0
       → Kept (openBy s file channel unit flags size rlen .state) area
-      (entering ledgers (λ g. newLedger channel unit (isSet flags 4) (isSet flags 8)) file)
+      (entering ledgers (λ g. newLedger (choiceOf channel unit flags size rlen)) file)
   unfolding answerOf
   open-kept file channel unit flags size rlen z =
       let t = openBy s file channel unit flags size rlen .state in
       let F = open-frame s file channel unit flags size rlen in
-      kept-file s t area area ledgers (entering ledgers (λ g. newLedger channel unit (isSet flags 4) (isSet flags 8)) file) K
+      kept-file s t area area ledgers (entering ledgers (λ g. newLedger (choiceOf channel unit flags size rlen)) file) K
       (call-kept s area (K .good) (opening file channel unit flags size rlen)) file (F .w) (F .files)
-      (entering-other ledgers (λ g. newLedger channel unit (isSet flags 4) (isSet flags 8)) file) (λ i ne p k q. refl)
-      (subst (λ (h : File). Told (s .w) h area (entering ledgers (λ g. newLedger channel unit (isSet flags 4) (isSet flags 8)) file file))
+      (entering-other ledgers (λ g. newLedger (choiceOf channel unit flags size rlen)) file) (λ i ne p k q. refl)
+      (subst (λ (h : File). Told (s .w) h area (entering ledgers (λ g. newLedger (choiceOf channel unit flags size rlen)) file file))
       (sym (open-file s file channel unit flags size rlen z (K .good .sixteen)))
       (subst (Told (s .w) (openedFile (wishOf channel unit flags size rlen) (lowOf s) (highOf s)) area)
-      (sym (entering-here ledgers (λ g. newLedger channel unit (isSet flags 4) (isSet flags 8)) file))
-      (told-opened (s .w) (wishOf channel unit flags size rlen) (lowOf s) (highOf s) area)))
+      (sym (entering-here ledgers (λ g. newLedger (choiceOf channel unit flags size rlen)) file))
+      (told-opened (s .w) (wishOf channel unit flags size rlen) (lowOf s) (highOf s) area
+      (leb-true rlen size (and-left (leb rlen size) _ (and-right (leb 1 rlen) _ (open-accepted s file channel unit flags size rlen z .sizes)))))))
 
   pub close-kept : (file : ℕ) → closeBy s file .refusal ≡ 0 → Kept (closeBy s file .state) area (entering ledgers withClose file)
   unfolding answerOf
@@ -135,7 +157,7 @@ module _ (s : State) (area : List ℕ) (ledgers : ℕ → Ledger) (K : Kept s ar
       (ap (λ (f : File). f .opened) (close-file s file z))
       (ap (λ (g : Ledger). g .opened) (entering-here ledgers withClose file)))
 
-  asked-number : (file op priority : ℕ) → askBy s file op priority .refusal ≡ 0
+  pub asked-number : (file op priority : ℕ) → askBy s file op priority .refusal ≡ 0
       → askRefusal (askWrong s file) (fileAt s file) (channelAt s (fileAt s file .channel)) op priority ≡ 0
   unfolding askRefusal
   asked-number file op priority z = sym (ask-exactly s file op priority .number) ∙ z
@@ -153,14 +175,17 @@ module _ (s : State) (area : List ℕ) (ledgers : ℕ → Ledger) (K : Kept s ar
       (ap (λ (y : AskChange). y .refusal) x) (place-of s file (ask-ready (askWrong s file) (fileAt s file) c op priority n .isOpen))
       ∙ ap (λ (y : AskChange). y .file) x
 
-  pub ask-kept : (file op priority : ℕ) → askBy s file op priority .refusal ≡ 0 → Kept (askBy s file op priority .state) area ledgers
+  pub ask-kept : (file op priority : ℕ) → askBy s file op priority .refusal ≡ 0
+      → Kept (askBy s file op priority .state) area (entering ledgers (withAsk op) file)
   unfolding answerOf
   ask-kept file op priority z =
       let F = ask-frame s file op priority in
-      kept-file s (askBy s file op priority .state) area area ledgers ledgers K (call-kept s area (K .good) (ask file op priority)) file (F .words)
-      (F .files) (λ i ne. refl) (λ i ne p k q. refl)
-      (subst (λ (h : File). Told (s .w) h area (ledgers file)) (sym (asked-file file op priority z))
-      (told-asked (s .w) op (fileAt s file) area (ledgers file) (K .told file)))
+      kept-file s (askBy s file op priority .state) area area ledgers (entering ledgers (withAsk op) file) K
+      (call-kept s area (K .good) (ask file op priority)) file (F .words) (F .files) (entering-other ledgers (withAsk op) file) (λ i ne p k q. refl)
+      (subst (λ (h : File). Told (s .w) h area (entering ledgers (withAsk op) file file)) (sym (asked-file file op priority z))
+      (subst (Told (s .w) (askedFile op (fileAt s file)) area) (sym (entering-here ledgers (withAsk op) file))
+      (told-noted (s .w) op (askedFile op (fileAt s file)) area (ledgers file)
+      (told-asked (s .w) op (fileAt s file) area (ledgers file) (K .told file)))))
 
   -- the files are as they were
   turns-kept : (t : State) → Good t → OnlyTurns s t → Kept t area ledgers

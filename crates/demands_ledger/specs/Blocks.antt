@@ -1,7 +1,12 @@
--- The blocks of a file as they lie in the area, and blocks as they must be. Assumes nothing.
-use Prim.Native.Nat.{ℕ, _+_, _-_, _*_}
-use mathlib.Core.Bool.{Bool, cond, _||_}
+-- The blocks of a file as they lie in the area, blocks as they must be, and how the words put are divided into them. Assumes nothing.
+use mathlib.Core.Path.{_≡_}
+use mathlib.Core.Logic.{_⊎_}
+use Prim.Native.Nat.{ℕ, _+_, _-_, _*_, _≤_, _<_}
+use mathlib.Core.Bool.{Bool, true, cond, _||_}
 use mathlib.Core.List.{List, [], _∷_, _++_, map}
+use lib.Dec.{eqb}
+use lib.ListN.{length}
+use Rattle.area.specs.Lists.{anyOf}
 use Rattle.area.specs.Parts.{partOf}
 use Rattle.word.specs.Sums.{logicalSum}
 use Rattle.word.specs.CheckWords.{checkWord, nextNumber, extra}
@@ -58,3 +63,33 @@ contents sequence check k (words ∷ rest) =
 unfoldable pub numberAfter : ℕ → List (List ℕ) → ℕ
 numberAfter k [] = k
 numberAfter k (x ∷ xs) = numberAfter (nextNumber k) xs
+
+-- ---- how many words a block has, by the words put and by the seals
+
+-- a seal was accepted when p words had been put
+abbrev pub isSealed : List ℕ → ℕ → Bool
+isSealed seals p = anyOf (eqb p) seals
+
+-- A block of these data words, the first of which was put after k others, in a file of records of r words and blocks of B = `size`: whole records,
+-- at least one, that B holds; it ends where "less than r then remains of B", or where a seal was accepted; and at the first seal after its
+-- first word at the latest.
+pub record Sized (r size : ℕ) (seals : List ℕ) (k : ℕ) (words : List ℕ) : Type 0 where
+  pub records : ℕ
+  pub whole : length words ≡ records * r
+  pub some : 0 < length words
+  pub fits : length words ≤ size
+  pub ends : (size < length words + r) ⊎ (isSealed seals (k + length words) ≡ true)
+  pub within : (p : ℕ) → isSealed seals p ≡ true → k < p → k + length words ≤ p
+
+-- blocks of these data words, one after the other
+pub data Divided (r size : ℕ) (seals : List ℕ) : ℕ → List (List ℕ) → Type 0 where
+  done : {k : ℕ} → Divided r size seals k []
+  next : {k : ℕ} {words : List ℕ} {blocks : List (List ℕ)} → Sized r size seals k words → Divided r size seals (k + length words) blocks
+      → Divided r size seals k (words ∷ blocks)
+
+-- the words of the part-filled block: whole records, room for one more, and no seal since its first word
+pub record Filling (r size : ℕ) (seals : List ℕ) (k : ℕ) (words : List ℕ) : Type 0 where
+  pub records : ℕ
+  pub whole : length words ≡ records * r
+  pub room : length words + r ≤ size
+  pub unsealed : (p : ℕ) → isSealed seals p ≡ true → p ≤ k

@@ -1,6 +1,6 @@
 -- The ledger of a file, noted from calls and their answers alone, and histories in which the pack alone writes the lent area. Assumes nothing.
 use Prim.Native.Nat.{ℕ, zero, suc, _-_}
-use mathlib.Core.Bool.{Bool, true, false, cond, _&&_}
+use mathlib.Core.Bool.{Bool, true, false, cond, _&&_, _||_}
 use mathlib.Core.List.{List, [], _∷_, _++_, map}
 use lib.Dec.{eqb}
 use lib.ListN.{length, take, drop}
@@ -16,40 +16,55 @@ use Rattle.pack.specs.Histories.{isAccepted}
 pub data Item : Type 0 where
   word wrong : ℕ → Item
 
--- Of a file: whether it is open, and on which unit. Since its open: the fields chosen; the words put; the blocks that writes' answers
--- showed; the blocks delivered; what get gave or skip dropped; and what is owed still, one list for each block that is not done with.
-pub record Ledger : Type 0 where
-  pub opened : Bool
+-- what the open of a file chose: its channel and unit, the fields of the check word, the block size B and the record length r
+pub record Choice : Type 0 where
   pub channel : ℕ
   pub unit : ℕ
   pub sequence : Bool
   pub check : Bool
+  pub size : ℕ
+  pub rlen : ℕ
+
+-- Of a file: whether it is open, and what its open chose. Since its open: the operation last asked for; the words put, and for each seal how
+-- many had been put, the last seal first; the blocks that writes' answers showed; the blocks delivered, and whether a mark was read; what get
+-- gave or skip dropped; and what is owed still, one list for each block that is not done with.
+pub record Ledger : Type 0 where
+  pub opened : Bool
+  pub chosen : Choice
+  pub asked : ℕ
   pub puts : List ℕ
+  pub seals : List ℕ
   pub sent : List (List ℕ)
   pub came : List (List ℕ)
+  pub marked : Bool
   pub gone : List Item
   pub owed : List (List Item)
 
-abbrev pub emptyLedger : Bool → ℕ → ℕ → Bool → Bool → Ledger
-emptyLedger opened channel unit sequence check = record {
+abbrev pub emptyLedger : Bool → Choice → Ledger
+emptyLedger opened chosen = record {
   opened = opened;
-  channel = channel;
-  unit = unit;
-  sequence = sequence;
-  check = check;
+  chosen = chosen;
+  asked = 0;
   puts = [];
+  seals = [];
   sent = [];
   came = [];
+  marked = false;
   gone = [];
   owed = [];
 }
 
+-- of the flags of an open: "4 sequence, 8 check"
+abbrev pub choiceOf : ℕ → ℕ → ℕ → ℕ → ℕ → Choice
+choiceOf channel unit flags size rlen =
+    record { channel = channel; unit = unit; sequence = isSet flags 4; check = isSet flags 8; size = size; rlen = rlen }
+
 -- as an open and as a fresh start leave it
-abbrev pub newLedger : ℕ → ℕ → Bool → Bool → Ledger
-newLedger channel unit sequence check = emptyLedger true channel unit sequence check
+abbrev pub newLedger : Choice → Ledger
+newLedger chosen = emptyLedger true chosen
 
 abbrev pub blankLedger : Ledger
-blankLedger = emptyLedger false 0 0 false false
+blankLedger = emptyLedger false (record { channel = 0; unit = 0; sequence = false; check = false; size = 0; rlen = 0 })
 
 -- ---- what an accepted call for the file adds
 
@@ -81,19 +96,40 @@ toldError (working u) = 0
 toldError (reported result error u) = error
 toldError (got g) = 0
 
--- a report: the block delivered with it, and the block that its answer shows
+-- "results are .. 03 mark"
+abbrev pub isMark : Added → Bool
+isMark nothing = false
+isMark (working u) = false
+isMark (reported result error u) = eqb result 3
+isMark (got g) = false
+
+-- a report: the block delivered with it, the block that its answer shows, and whether it read a mark
 abbrev pub withReport : List ℕ → Answer → Ledger → Ledger
 withReport words a g = record {
   opened = g .opened;
-  channel = g .channel;
-  unit = g .unit;
-  sequence = g .sequence;
-  check = g .check;
+  chosen = g .chosen;
+  asked = g .asked;
   puts = g .puts;
+  seals = g .seals;
   sent = g .sent ++ asBlock (a .shows);
   came = g .came ++ asBlock words;
+  marked = isMark (a .added) || g .marked;
   gone = g .gone;
-  owed = g .owed ++ owedFor (g .sequence) (g .check) (toldError (a .added)) words;
+  owed = g .owed ++ owedFor (g .chosen .sequence) (g .chosen .check) (toldError (a .added)) words;
+}
+
+abbrev pub withAsk : ℕ → Ledger → Ledger
+withAsk op g = record {
+  opened = g .opened;
+  chosen = g .chosen;
+  asked = op;
+  puts = g .puts;
+  seals = g .seals;
+  sent = g .sent;
+  came = g .came;
+  marked = g .marked;
+  gone = g .gone;
+  owed = g .owed;
 }
 
 -- what get gave: a check error, or the words that its answer shows
@@ -123,13 +159,13 @@ without n (items ∷ blocks) = drop n items ∷ blocks
 abbrev pub withGet : Answer → Ledger → Ledger
 withGet a g = record {
   opened = g .opened;
-  channel = g .channel;
-  unit = g .unit;
-  sequence = g .sequence;
-  check = g .check;
+  chosen = g .chosen;
+  asked = g .asked;
   puts = g .puts;
+  seals = g .seals;
   sent = g .sent;
   came = g .came;
+  marked = g .marked;
   gone = g .gone ++ given (a .added) (a .shows);
   owed = without (length (given (a .added) (a .shows))) (pastUsed (pastUsed (g .owed)));
 }
@@ -137,13 +173,27 @@ withGet a g = record {
 abbrev pub withPut : List ℕ → Ledger → Ledger
 withPut words g = record {
   opened = g .opened;
-  channel = g .channel;
-  unit = g .unit;
-  sequence = g .sequence;
-  check = g .check;
+  chosen = g .chosen;
+  asked = g .asked;
   puts = g .puts ++ words;
+  seals = g .seals;
   sent = g .sent;
   came = g .came;
+  marked = g .marked;
+  gone = g .gone;
+  owed = g .owed;
+}
+
+abbrev pub withSeal : Ledger → Ledger
+withSeal g = record {
+  opened = g .opened;
+  chosen = g .chosen;
+  asked = g .asked;
+  puts = g .puts;
+  seals = length (g .puts) ∷ g .seals;
+  sent = g .sent;
+  came = g .came;
+  marked = g .marked;
   gone = g .gone;
   owed = g .owed;
 }
@@ -160,13 +210,13 @@ restOf (items ∷ blocks) = blocks
 abbrev pub withSkip : Ledger → Ledger
 withSkip g = record {
   opened = g .opened;
-  channel = g .channel;
-  unit = g .unit;
-  sequence = g .sequence;
-  check = g .check;
+  chosen = g .chosen;
+  asked = g .asked;
   puts = g .puts;
+  seals = g .seals;
   sent = g .sent;
   came = g .came;
+  marked = g .marked;
   gone = g .gone ++ firstOf (g .owed);
   owed = restOf (g .owed);
 }
@@ -175,31 +225,31 @@ withSkip g = record {
 abbrev pub withClose : Ledger → Ledger
 withClose g = record {
   opened = false;
-  channel = g .channel;
-  unit = g .unit;
-  sequence = g .sequence;
-  check = g .check;
+  chosen = g .chosen;
+  asked = g .asked;
   puts = g .puts;
+  seals = g .seals;
   sent = g .sent;
   came = g .came;
+  marked = g .marked;
   gone = g .gone;
   owed = g .owed;
 }
 
 -- "An open file is bound to one unit": a report is for the file that is open on its unit
 abbrev pub isOn : ℕ → ℕ → Ledger → Bool
-isOn channel unit g = g .opened && (eqb (g .channel) channel && eqb (g .unit) unit)
+isOn channel unit g = g .opened && (eqb (g .chosen .channel) channel && eqb (g .chosen .unit) unit)
 
 -- the ledger of file i after an accepted call
 abbrev pub entered : ℕ → Call → Answer → Ledger → Ledger
 entered i (fresh m w masks) a g = blankLedger
-entered i (opening file channel unit flags size rlen) a g = cond (eqb file i) (newLedger channel unit (isSet flags 4) (isSet flags 8)) g
+entered i (opening file channel unit flags size rlen) a g = cond (eqb file i) (newLedger (choiceOf channel unit flags size rlen)) g
 entered i (close file) a g = cond (eqb file i) (withClose g) g
-entered i (ask file op priority) a g = g
+entered i (ask file op priority) a g = cond (eqb file i) (withAsk op g) g
 entered i (report channel unit outcome words) a g = cond (isOn channel unit g) (withReport words a g) g
 entered i (get file) a g = cond (eqb file i) (withGet a g) g
 entered i (put file words) a g = cond (eqb file i) (withPut words g) g
-entered i (seal file) a g = g
+entered i (seal file) a g = cond (eqb file i) (withSeal g) g
 entered i (skip file) a g = cond (eqb file i) (withSkip g) g
 entered i freeze a g = g
 entered i thaw a g = g

@@ -44,7 +44,7 @@ use Rattle.pack_request.proofs.ReportTheorems.{Booked, again, ended, report-exa
 use Rattle.pack.specs.Calls.{Call, fresh, opening, close, ask, report, get, put, seal, skip, freeze, thaw, Answer, answerOf}
 use Rattle.pack.specs.Histories.{Lent, answerTo, after, isAccepted}
 use Rattle.pack.specs.Tables.{rowsOf}
-use Rattle.pack.specs.Books.{toldResult, Pending, Book, blankBook, isOrdinary, newPending, failed, withRequest, withAnswer, withFreeze, booked, noted, bookAfter}
+use Rattle.pack.specs.Books.{toldResult, Pending, Book, blankBook, isOrdinary, newPending, failed, withRequest, withAnswer, withFreeze, booked, bookedAt, bookAfter}
 use Rattle.pack.proofs.Refused.{call-alone}
 use Rattle.pack.proofs.Kept as kept
 use Rattle.pack.proofs.Kept.{call-kept}
@@ -340,4 +340,4 @@ pub shows-after : (c : ℕ) (s : State) (b : Book) (h : List Lent) → kept.Good
 unfolding after bookAfter
 shows-after c s b [] g S = S
 shows-after c s b (x ∷ h) g S =
-    shows-after c (answerTo s x .state) (noted c s x b) h (call-kept s (x .area) g (x .call)) (call-shows c s (x .area) g b S (x .call))
+    shows-after c (answerTo s x .state) (bookedAt c s x b) h (call-kept s (x .area) g (x .call)) (call-shows c s (x .area) g b S (x .call))

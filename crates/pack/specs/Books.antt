@@ -1,4 +1,4 @@
--- What a history says of the requests on a channel, and of a file's mark: noted from the calls and their answers alone. Assumes nothing.
+-- What a history says of the requests on a channel, and of a file's mark: bookedAt from the calls and their answers alone. Assumes nothing.
 use Prim.Native.Nat.{ℕ, _+_}
 use mathlib.Core.Bool.{Bool, true, false, not, cond, _&&_, _||_}
 use mathlib.Core.Option.{Option, none, some}
@@ -99,12 +99,12 @@ booked c s freeze a b = withFreeze true b
 booked c s thaw a b = withFreeze false b
 
 -- a refused call enters no book
-abbrev pub noted : ℕ → State → Lent → Book → Book
-noted c s x b = cond (isAccepted (answerTo s x)) (booked c s (x .call) (answerTo s x) b) b
+abbrev pub bookedAt : ℕ → State → Lent → Book → Book
+bookedAt c s x b = cond (isAccepted (answerTo s x)) (booked c s (x .call) (answerTo s x) b) b
 
 unfoldable pub bookAfter : ℕ → State → Book → List Lent → Book
 bookAfter c s b [] = b
-bookAfter c s b (x ∷ h) = bookAfter c (answerTo s x .state) (noted c s x b) h
+bookAfter c s b (x ∷ h) = bookAfter c (answerTo s x .state) (bookedAt c s x b) h
 
 -- ---- a file
 

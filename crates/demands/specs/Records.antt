@@ -1,0 +1,39 @@
+-- What get answers and what skip drops, of what the file's ledger says was delivered, given and dropped (document 01, "Files and buffers", Input).
+-- Assumes nothing.
+use mathlib.Core.Path.{_≡_}
+use mathlib.Core.Bool.{Bool, true, false}
+use mathlib.Core.List.{List, [], _∷_, _++_, map}
+use Prim.Native.Nat.{ℕ, _<_}
+use lib.ListN.{length}
+use Rattle.file_input.specs.declared.Got.the-variants.{Record, Leftover, Error, End, Nothing}
+use Rattle.pack.specs.Calls.{Added, got}
+use Rattle.demands_ledger.specs.Ledgers.{Item, word, wrong, Ledger}
+
+-- An accepted get of a file with records of r words: what its answer adds, and the words that it shows, by whether a mark was read since the
+-- open, and by what is owed: of each delivered block that is not done with, the oldest first, its error, if it has one that was not told, and
+-- then its words that were not given. One case alone applies.
+pub data Gives (r : ℕ) (marked : Bool) : List (List Item) → Added → List ℕ → Type 0 where
+  -- "If that block was used up by an earlier get, it first becomes empty and the next oldest is looked at."
+  past : {blocks : List (List Item)} {a : Added} {words : List ℕ} → Gives r marked blocks a words → Gives r marked ([] ∷ blocks) a words
+  -- "the block's check error, once, before its first record": it is owed no more afterwards
+  tells : (e : ℕ) {items : List Item} {blocks : List (List Item)} → Gives r marked ((wrong e ∷ items) ∷ blocks) (got (Error e)) []
+  -- "a record (the next r words, as a part of the area)"
+  gives : (start : ℕ) (words more : List ℕ) {blocks : List (List Item)} → length words ≡ r
+      → Gives r marked (map word (words ++ more) ∷ blocks) (got (Record start r)) words
+  -- "a short leftover (fewer than r words remain, all given)"
+  leaves : (start n : ℕ) (words : List ℕ) {blocks : List (List Item)} → length words ≡ n → 0 < n → n < r
+      → Gives r marked (map word words ∷ blocks) (got (Leftover start n)) words
+  -- "*end* (no full block, mark read)"
+  ends : marked ≡ true → Gives r marked [] (got End) []
+  -- "*nothing yet*"
+  waits : marked ≡ false → Gives r marked [] (got Nothing) []
+
+-- "Skip drops the oldest full block, used up or not.": all that is left of it, and nothing of the others. The ledger before and after, and
+-- what lies unread in the area after it.
+pub record Drops (before after : Ledger) (unread : List (List Item)) : Type 0 where
+  pub oldest : List Item
+  pub others : List (List Item)
+  pub was : before .owed ≡ oldest ∷ others
+  pub gone : after .gone ≡ before .gone ++ oldest
+  pub owed : after .owed ≡ others
+  pub lies : unread ≡ others
