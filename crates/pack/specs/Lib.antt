@@ -1,3 +1,4 @@
 pub mod Calls
+pub mod Answers
 pub mod Histories
 pub mod Tables
