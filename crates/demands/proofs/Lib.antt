@@ -4,3 +4,4 @@ pub mod Turns
 pub mod Blocks
 pub mod Demands
 pub mod Examples
+pub mod Witness
