@@ -10,3 +10,4 @@ pub mod Records
 pub mod Written
 pub mod Demands
 pub mod Examples
+pub mod Witness

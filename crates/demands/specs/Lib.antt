@@ -5,3 +5,4 @@ pub mod Results
 pub mod Marks
 pub mod Turns
 pub mod Examples
+pub mod Witness

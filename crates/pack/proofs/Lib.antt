@@ -1,3 +1,4 @@
+pub mod Answering
 pub mod Refused
 pub mod Kept
 pub mod Seen

@@ -1,4 +1,5 @@
 pub mod Calls
+pub mod Answers
 pub mod Histories
 pub mod Tables
 pub mod Books

@@ -1,8 +1,12 @@
 // The pack: the eleven calls under one roof, with the state that they take and hand back and what each of them answers. This is all that a
 // caller names in its code; its line of crates.txt also lists the crates that declare the types.
+// `answer` is all eleven in one function, over a call as a value: its contract is `answerOf`, which every theorem speaks of.
 // In `specs/` are the eleven calls as values, what each makes of a state and an area, the refusal table, and histories of calls; the theorems over
 // them are what the crate `demands` cites.
+mod answers;
 
+pub use answers::answer;
+pub use answers::shown_words;
 pub use call_record::got_words;
 pub use file::File;
 pub use file_input::Got;
@@ -31,3 +35,56 @@ pub use state::Called;
 pub use state::State;
 pub use state::before_start;
 pub use state_sound::is_sound;
+
+// Any of the eleven calls, by its numbers, in the order of document 01's frames; `size` is B and `rlen` is r. A call that names a file alone holds
+// that file's number. The words of a report and of a put are lent beside it.
+pub enum AnyCall {
+    Fresh {
+        m: u8,
+        w: u16,
+        masks: Masks,
+    },
+    Open {
+        file: u8,
+        channel: u8,
+        unit: u8,
+        flags: u8,
+        size: u16,
+        rlen: u16,
+    },
+    Close(u8),
+    Ask {
+        file: u8,
+        op: u8,
+        priority: u8,
+    },
+    Report {
+        channel: u8,
+        unit: u8,
+        outcome: u8,
+    },
+    Get(u8),
+    Put(u8),
+    Seal(u8),
+    Skip(u8),
+    Freeze,
+    Thaw,
+}
+
+// What an answer adds to the refusal: nothing; the channel's working unit; a report's result, check error and working unit; what get found.
+pub enum Adds {
+    Nothing,
+    Working(u8),
+    Reported { result: u8, error: u8, working: u8 },
+    Found(Got),
+}
+
+// The answer to any call: the refusal, 0 for none; what it adds; where the words that it shows begin in the area, and how many they are; the
+// state after the call.
+pub struct AnyAnswer {
+    pub refusal: u8,
+    pub adds: Adds,
+    pub start: usize,
+    pub count: usize,
+    pub state: State,
+}

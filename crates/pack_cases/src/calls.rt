@@ -1,10 +1,12 @@
 // The eleven calls: their numbers as a command has them, their answers printed. Each gives the state after it.
-use crate::print::alone;
 use crate::print::answer;
 use crate::print::end_line;
 use crate::print::number;
 use crate::print::words;
-use pack::Called;
+use pack::Adds;
+use pack::AnyAnswer;
+use pack::AnyCall;
+use pack::Got;
 use pack::Masks;
 use pack::State;
 
@@ -25,13 +27,9 @@ fn size(head: &[u64], i: usize) -> u16 {
     }
 }
 
-// A call whose answer adds nothing to the refusal.
-fn plain(r: Called) -> State {
-    alone(r.refusal as u64);
-    r.state
-}
+// ---- a command as a call
 
-fn fresh(head: &[u64], s: State, area: &[u64]) -> State {
+fn fresh(head: &[u64]) -> AnyCall {
     let masks = Masks {
         a: size(head, 2),
         b: size(head, 3),
@@ -39,91 +37,112 @@ fn fresh(head: &[u64], s: State, area: &[u64]) -> State {
         d: size(head, 5),
         e: size(head, 6),
     };
-    let r = pack::fresh(s, area, byte(head, 0), size(head, 1), masks);
-    plain(r)
+    let m = byte(head, 0);
+    let w = size(head, 1);
+    AnyCall::Fresh { m, w, masks }
 }
 
-fn open(head: &[u64], s: State) -> State {
-    let r = pack::open(
-        s,
-        byte(head, 0),
-        byte(head, 1),
-        byte(head, 2),
-        byte(head, 3),
-        size(head, 4),
-        size(head, 5),
-    );
-    plain(r)
-}
-
-fn ask(head: &[u64], s: State) -> State {
-    let r = pack::ask(s, byte(head, 0), byte(head, 1), byte(head, 2));
-    answer(r.refusal as u64);
-    if r.refusal == 0 {
-        number(r.working as u64);
+fn open(head: &[u64]) -> AnyCall {
+    let file = byte(head, 0);
+    let channel = byte(head, 1);
+    let unit = byte(head, 2);
+    let flags = byte(head, 3);
+    let b = size(head, 4);
+    let rlen = size(head, 5);
+    AnyCall::Open {
+        file,
+        channel,
+        unit,
+        flags,
+        size: b,
+        rlen,
     }
-    end_line();
-    r.state
 }
 
-fn report(head: &[u64], s: State, area: &mut [u64], given: &[u64]) -> State {
-    let r = pack::report(s, area, byte(head, 0), byte(head, 1), byte(head, 2), given);
-    answer(r.refusal as u64);
-    if r.refusal == 0 {
-        number(r.result as u64);
-        number(r.error as u64);
-        number(r.working as u64);
-        number(r.start as u64);
-        number(r.count as u64);
-        words(pack::reported_words(&area[..], r));
-    }
-    end_line();
-    r.state
+fn ask(head: &[u64]) -> AnyCall {
+    let file = byte(head, 0);
+    let op = byte(head, 1);
+    let priority = byte(head, 2);
+    AnyCall::Ask { file, op, priority }
 }
 
-fn get(head: &[u64], s: State, area: &[u64]) -> State {
-    let r = pack::get(s, area, byte(head, 0));
-    answer(r.refusal as u64);
-    if r.refusal == 0 {
-        let g = r.got;
-        number(pack::got_number(g) as u64);
-        number(pack::got_error(g) as u64);
-        number(pack::got_start(g) as u64);
-        number(pack::got_count(g) as u64);
-        words(pack::got_words(area, g));
-    }
-    end_line();
-    r.state
-}
-
-fn put(head: &[u64], s: State, area: &mut [u64], given: &[u64]) -> State {
-    plain(pack::put(s, area, byte(head, 0), given))
-}
-
-fn seal(head: &[u64], s: State, area: &mut [u64]) -> State {
-    plain(pack::seal(s, area, byte(head, 0)))
-}
-
-// The calls that take no area.
-fn without_area(kind: u64, head: &[u64], s: State) -> State {
-    match kind {
-        1 => open(head, s),
-        2 => plain(pack::close(s, byte(head, 0))),
-        3 => ask(head, s),
-        8 => plain(pack::skip(s, byte(head, 0))),
-        9 => plain(pack::freeze(s)),
-        _ => plain(pack::thaw(s)),
+fn report(head: &[u64]) -> AnyCall {
+    let channel = byte(head, 0);
+    let unit = byte(head, 1);
+    let outcome = byte(head, 2);
+    AnyCall::Report {
+        channel,
+        unit,
+        outcome,
     }
 }
 
 // The call of that number.
-pub fn call(kind: u64, head: &[u64], s: State, area: &mut [u64], given: &[u64]) -> State {
+fn call_of(kind: u64, head: &[u64]) -> AnyCall {
     match kind {
-        0 => fresh(head, s, &area[..]),
-        4 => report(head, s, area, given),
-        5 => get(head, s, &area[..]),
-        6 => put(head, s, area, given),
-        7 => seal(head, s, area),
-        _ => without_area(kind, head, s),
+        0 => fresh(head),
+        1 => open(head),
+        2 => AnyCall::Close(byte(head, 0)),
+        3 => ask(head),
+        4 => report(head),
+        5 => AnyCall::Get(byte(head, 0)),
+        6 => AnyCall::Put(byte(head, 0)),
+        7 => AnyCall::Seal(byte(head, 0)),
+        8 => AnyCall::Skip(byte(head, 0)),
+        9 => AnyCall::Freeze,
+        _ => AnyCall::Thaw,
     }
+}
+
+// ---- its answer
+
+fn reported(result: u8, error: u8, working: u8) {
+    number(result as u64);
+    number(error as u64);
+    number(working as u64);
+}
+
+fn found(g: Got) {
+    number(pack::got_number(g) as u64);
+    number(pack::got_error(g) as u64);
+}
+
+// Where the words that an answer shows begin, how many they are, and the words.
+fn shown(area: &[u64], r: AnyAnswer) {
+    number(r.start as u64);
+    number(r.count as u64);
+    words(pack::shown_words(area, r));
+}
+
+// What the answer of an accepted call adds.
+fn added(area: &[u64], r: AnyAnswer) {
+    let adds = r.adds;
+    match adds {
+        Adds::Nothing => {}
+        Adds::Working(unit) => number(unit as u64),
+        Adds::Reported {
+            result,
+            error,
+            working,
+        } => {
+            reported(result, error, working);
+            shown(area, r);
+        }
+        Adds::Found(g) => {
+            found(g);
+            shown(area, r);
+        }
+    }
+}
+
+// Makes the call of that number, and prints its answer.
+pub fn call(kind: u64, head: &[u64], s: State, area: &mut [u64], given: &[u64]) -> State {
+    let c = call_of(kind, head);
+    let r = pack::answer(s, area, c, given);
+    answer(r.refusal as u64);
+    if r.refusal == 0 {
+        added(&area[..], r);
+    }
+    end_line();
+    r.state
 }

@@ -1,0 +1,69 @@
+-- The witness: what its calls answer, and the ledgers that they lead to, by computation. Assumes nothing.
+use mathlib.Core.Path.{_≡_, refl}
+use mathlib.Core.List.{_++_}
+use Rattle.area.specs.Lists.{anyOf, allOf, allPairs, countOf, firstAlong, countAlong}
+use Rattle.area.specs.Parts.{paste, pastedIn}
+use Rattle.area.specs.Refusals.{lowest}
+use Rattle.area.specs.Numbered.{allFrom}
+use Rattle.word.specs.Sums.{carryBack, sumFrom, logicalSum, firstHalf, lastHalf, folded}
+use Rattle.word.specs.CheckWords.{address, checkWord}
+use Rattle.block.specs.Blocks as blocks
+use Rattle.channel_outcomes.specs.Rules.{rowOf, isAllowed, isPermanent, nextAttempt, endingOf, verdictOf}
+use Rattle.channel.specs.Units.{withTurn, freshWith, bitsFrom, freshOf, hasRequest, acceptsAt, operationAt}
+use Rattle.channel_turns.specs.Scans.{scanFrom, workingIn, priorityIn, ordinaryIn, nextTurn}
+use Rattle.channel_turns.specs.Turns.{judgeOf, goesOn, repeatOf, markAfter, endOf, bookOf}
+use Rattle.channel_turns.specs.Starts.{startOf, askOf, thawOf}
+use Rattle.file.specs.Sides.{emptySide, takenSide, partSide, oldest}
+use Rattle.file.specs.Fills.{filledAt, emptiedAt, withoutOldest}
+use Rattle.file_input.specs.Delivers.{tookBuffer, delivered, gaveBack, metMark}
+use Rattle.file_output.specs.Puts.{putSide, putStart, added, afterPut}
+use Rattle.file_output.specs.Parts.{partStart, partLength, isComplete, sealedFile}
+use Rattle.file_output.specs.Sends.{sendStart, sendWords, afterWrite}
+use Rattle.file.specs.Sizes.{openedFile}
+use Rattle.pool.specs.Free.{lowestFree, freeCount}
+use Rattle.pool.specs.Serving.{servingFile}
+use Rattle.state_sound.specs.Files.{isBlank}
+use Rattle.state.specs.Places.{beforeStart}
+use Rattle.state.specs.Stores.{withFile, withChannel}
+use Rattle.state_sound.specs.Soundness.{numbersInRange, noBufferHeldTwice, eachHasItsOwn, requestsFit, channelsWork, readsAloneTake, writesHaveBlocks, fullBlocksRight, partBuffersRight, placesRight, attemptsInLimit, sound}
+use Rattle.pack_start.specs.Fresh.{freshRows, freshState, freshBy}
+use Rattle.call_open.specs.Open.{freeOf, openRows, openOn}
+use Rattle.pack_open.specs.Open.{openBy}
+use Rattle.pack_request.specs.Changes.{changedState}
+use Rattle.call_request.specs.Ask.{opOf, askRefusal, askedFile, askedChannel, askOn}
+use Rattle.pack_request.specs.Calls.{askBy, reportBy, reportByArea}
+use Rattle.call_request.specs.Report.{reportRefusal, reportedFile, reportedArea, reportOn, reportOnArea}
+use Rattle.call_record.specs.Blocks.{sealedIn, sealedArea}
+use Rattle.call_record.specs.Put.{putRows, putRefusal, filledArea, putArea, putOn, putOnArea}
+use Rattle.pack_record.specs.Puts.{putBy, putByArea}
+use Rattle.pack.specs.Calls.{answerOf}
+use Rattle.file_input.specs.Gets.{passed, lookedAt, found, afterFound, getFrom}
+use Rattle.call_record.specs.Get.{getRows, getRefusal, getOn}
+use Rattle.pack_record.specs.Gets.{getBy, getWords}
+use Rattle.call_record.specs.Skip.{skipRows, skipRefusal, skipOn}
+use Rattle.pack_record.specs.Skips.{skipBy}
+use Rattle.call_record.specs.Seal.{sealRows, sealRefusal, sealOn, sealOnArea}
+use Rattle.pack_record.specs.Seals.{sealBy, sealByArea}
+use Rattle.call_open.specs.Close.{closeRows, closeOn}
+use Rattle.pack_open.specs.Close.{closeBy}
+use Rattle.pack_start.specs.Freeze.{stateRows, frozenState, thawedState, freezeBy, thawBy}
+use Rattle.demands_ledger.specs.Ledgers.{ledgerAfter}
+use Rattle.demands.specs.Witness.{toldBy, steps1, steps2, steps3, callsOf, tellsOf, lent, notedBy, midway, readAll, wroteAll}
+
+pub witness-told : toldBy beforeStart lent (callsOf (steps1 ++ (steps2 ++ steps3))) ≡ tellsOf (steps1 ++ (steps2 ++ steps3))
+unfolding toldBy steps1 steps2 steps3 anyOf allOf allPairs countOf firstAlong countAlong paste pastedIn lowest allFrom carryBack sumFrom logicalSum firstHalf lastHalf folded address checkWord blocks.blockSealRefusal blocks.withCheckWord blocks.sealedBlock blocks.judgeRefusal blocks.errorOf blocks.judgedBlock rowOf isAllowed isPermanent nextAttempt endingOf verdictOf withTurn freshWith bitsFrom freshOf hasRequest acceptsAt operationAt scanFrom workingIn priorityIn ordinaryIn nextTurn startOf askOf judgeOf goesOn repeatOf markAfter endOf bookOf emptySide takenSide partSide oldest filledAt emptiedAt withoutOldest tookBuffer delivered gaveBack metMark putSide putStart added partStart partLength isComplete sealedFile afterPut sendStart sendWords afterWrite openedFile lowestFree freeCount servingFile isBlank beforeStart withFile withChannel numbersInRange noBufferHeldTwice eachHasItsOwn requestsFit channelsWork readsAloneTake writesHaveBlocks fullBlocksRight partBuffersRight placesRight attemptsInLimit sound freshRows freshState freshBy freeOf openRows openOn openBy changedState opOf askRefusal askedFile askedChannel askOn askBy reportRefusal reportedFile reportedArea reportOn reportOnArea reportBy reportByArea sealedIn sealedArea putRows putRefusal filledArea putArea putOn putOnArea putBy putByArea answerOf passed lookedAt found afterFound getFrom getRows getRefusal getOn getBy getWords skipRows skipRefusal skipOn skipBy sealRows sealRefusal sealOn sealOnArea sealBy sealByArea closeRows closeOn closeBy stateRows frozenState thawedState freezeBy thawBy thawOf
+witness-told = refl
+
+-- the blocks and words of the input file, while two blocks are owed still
+pub witness-midway : notedBy 0 (callsOf (steps1 ++ steps2)) ≡ midway
+unfolding ledgerAfter midway steps1 steps2 anyOf allOf allPairs countOf firstAlong countAlong paste pastedIn lowest allFrom carryBack sumFrom logicalSum firstHalf lastHalf folded address checkWord blocks.blockSealRefusal blocks.withCheckWord blocks.sealedBlock blocks.judgeRefusal blocks.errorOf blocks.judgedBlock rowOf isAllowed isPermanent nextAttempt endingOf verdictOf withTurn freshWith bitsFrom freshOf hasRequest acceptsAt operationAt scanFrom workingIn priorityIn ordinaryIn nextTurn startOf askOf judgeOf goesOn repeatOf markAfter endOf bookOf emptySide takenSide partSide oldest filledAt emptiedAt withoutOldest tookBuffer delivered gaveBack metMark putSide putStart added partStart partLength isComplete sealedFile afterPut sendStart sendWords afterWrite openedFile lowestFree freeCount servingFile isBlank beforeStart withFile withChannel numbersInRange noBufferHeldTwice eachHasItsOwn requestsFit channelsWork readsAloneTake writesHaveBlocks fullBlocksRight partBuffersRight placesRight attemptsInLimit sound freshRows freshState freshBy freeOf openRows openOn openBy changedState opOf askRefusal askedFile askedChannel askOn askBy reportRefusal reportedFile reportedArea reportOn reportOnArea reportBy reportByArea sealedIn sealedArea putRows putRefusal filledArea putArea putOn putOnArea putBy putByArea answerOf passed lookedAt found afterFound getFrom getRows getRefusal getOn getBy getWords skipRows skipRefusal skipOn skipBy sealRows sealRefusal sealOn sealOnArea sealBy sealByArea closeRows closeOn closeBy stateRows frozenState thawedState freezeBy thawBy thawOf
+witness-midway = refl
+
+-- and of both files when they are closed
+pub witness-read : notedBy 0 (callsOf (steps1 ++ (steps2 ++ steps3))) ≡ readAll
+unfolding ledgerAfter readAll steps1 steps2 steps3 anyOf allOf allPairs countOf firstAlong countAlong paste pastedIn lowest allFrom carryBack sumFrom logicalSum firstHalf lastHalf folded address checkWord blocks.blockSealRefusal blocks.withCheckWord blocks.sealedBlock blocks.judgeRefusal blocks.errorOf blocks.judgedBlock rowOf isAllowed isPermanent nextAttempt endingOf verdictOf withTurn freshWith bitsFrom freshOf hasRequest acceptsAt operationAt scanFrom workingIn priorityIn ordinaryIn nextTurn startOf askOf judgeOf goesOn repeatOf markAfter endOf bookOf emptySide takenSide partSide oldest filledAt emptiedAt withoutOldest tookBuffer delivered gaveBack metMark putSide putStart added partStart partLength isComplete sealedFile afterPut sendStart sendWords afterWrite openedFile lowestFree freeCount servingFile isBlank beforeStart withFile withChannel numbersInRange noBufferHeldTwice eachHasItsOwn requestsFit channelsWork readsAloneTake writesHaveBlocks fullBlocksRight partBuffersRight placesRight attemptsInLimit sound freshRows freshState freshBy freeOf openRows openOn openBy changedState opOf askRefusal askedFile askedChannel askOn askBy reportRefusal reportedFile reportedArea reportOn reportOnArea reportBy reportByArea sealedIn sealedArea putRows putRefusal filledArea putArea putOn putOnArea putBy putByArea answerOf passed lookedAt found afterFound getFrom getRows getRefusal getOn getBy getWords skipRows skipRefusal skipOn skipBy sealRows sealRefusal sealOn sealOnArea sealBy sealByArea closeRows closeOn closeBy stateRows frozenState thawedState freezeBy thawBy thawOf
+witness-read = refl
+
+pub witness-wrote : notedBy 1 (callsOf (steps1 ++ (steps2 ++ steps3))) ≡ wroteAll
+unfolding ledgerAfter wroteAll steps1 steps2 steps3 anyOf allOf allPairs countOf firstAlong countAlong paste pastedIn lowest allFrom carryBack sumFrom logicalSum firstHalf lastHalf folded address checkWord blocks.blockSealRefusal blocks.withCheckWord blocks.sealedBlock blocks.judgeRefusal blocks.errorOf blocks.judgedBlock rowOf isAllowed isPermanent nextAttempt endingOf verdictOf withTurn freshWith bitsFrom freshOf hasRequest acceptsAt operationAt scanFrom workingIn priorityIn ordinaryIn nextTurn startOf askOf judgeOf goesOn repeatOf markAfter endOf bookOf emptySide takenSide partSide oldest filledAt emptiedAt withoutOldest tookBuffer delivered gaveBack metMark putSide putStart added partStart partLength isComplete sealedFile afterPut sendStart sendWords afterWrite openedFile lowestFree freeCount servingFile isBlank beforeStart withFile withChannel numbersInRange noBufferHeldTwice eachHasItsOwn requestsFit channelsWork readsAloneTake writesHaveBlocks fullBlocksRight partBuffersRight placesRight attemptsInLimit sound freshRows freshState freshBy freeOf openRows openOn openBy changedState opOf askRefusal askedFile askedChannel askOn askBy reportRefusal reportedFile reportedArea reportOn reportOnArea reportBy reportByArea sealedIn sealedArea putRows putRefusal filledArea putArea putOn putOnArea putBy putByArea answerOf passed lookedAt found afterFound getFrom getRows getRefusal getOn getBy getWords skipRows skipRefusal skipOn skipBy sealRows sealRefusal sealOn sealOnArea sealBy sealByArea closeRows closeOn closeBy stateRows frozenState thawedState freezeBy thawBy thawOf
+witness-wrote = refl

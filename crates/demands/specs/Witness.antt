@@ -1,0 +1,135 @@
+-- A longer example, beside P1 to P12: calls in a row in which everything happens that the demands speak of, with what each answers, and the ledgers
+-- that they lead to. So no demand is met by ledgers and histories that have nothing in them. Assumes nothing.
+use Prim.Native.Nat.{ℕ}
+use mathlib.Core.Bool.{Bool, true, false}
+use mathlib.Core.List.{List, [], _∷_, map}
+use lib.ListN.{replicate}
+use Rattle.channel_outcomes.specs.Rules.{good, redundancy, incompleteWord, fileMark, endOfMedium}
+use Rattle.file_input.specs.declared.Got.the-variants.{Record, Leftover, Error, End, Nothing}
+use Rattle.state.specs.declared.State.{State}
+use Rattle.state.specs.Places.{beforeStart}
+use Rattle.pack.specs.Calls.{Call, fresh, opening, close, ask, report, get, put, seal, skip, freeze, thaw, Added, nothing, working, reported, got, Answer, answerOf}
+use Rattle.demands_ledger.specs.Ledgers.{Item, word, wrong, Ledger, blankLedger, ledgerAfter}
+
+-- what a call shows: its refusal, what its answer adds, and the words
+pub data Told : Type 0 where
+  told : ℕ → Added → List ℕ → Told
+
+abbrev pub toldOf : Answer → Told
+toldOf a = told (a .refusal) (a .added) (a .shows)
+
+-- calls in a row, each with the state and the area that the one before left
+unfoldable pub toldBy : State → List ℕ → List Call → List Told
+toldBy s area [] = []
+toldBy s area (call ∷ calls) = toldOf (answerOf s area call) ∷ toldBy (answerOf s area call .state) (answerOf s area call .area) calls
+
+pub record Step : Type 0 where
+  pub call : Call
+  pub tells : Told
+
+abbrev pub so : Call → Told → Step
+so call tells = record { call = call; tells = tells }
+
+-- an accepted call that adds nothing
+abbrev pub done : Told
+done = told 0 nothing []
+
+-- ---- the steps, in three parts: four buffers of three words; file 0 reads from unit 0 of channel 0 and file 1 writes to unit 1, both with two buffers,
+-- sequence and check sum, and blocks of two words; a record of file 0 has two words and one of file 1 has one
+
+-- what is written, and a read that comes between
+unfoldable pub steps1 : List Step
+steps1 =
+    so (fresh 4 3 (record { a = 3; b = 0; c = 0; d = 0; e = 0 })) done
+    ∷ so (opening 0 0 0 14 2 2) done
+    ∷ so (opening 1 0 1 15 2 1) done
+    ∷ so (get 0) (told 0 (got Nothing) [])
+    -- a block that is sealed early, and one that is sealed at once
+    ∷ so (put 1 (5 ∷ [])) done
+    ∷ so (seal 1) done
+    ∷ so (put 1 (6 ∷ [])) done
+    ∷ so (put 1 (7 ∷ [])) done
+    -- an ordinary write is displaced by a priority read, goes on, and ends well
+    ∷ so (ask 1 1 0) (told 0 (working 1) [])
+    ∷ so (ask 0 0 1) (told 0 (working 1) [])
+    ∷ so (report 0 1 redundancy []) (told 0 (reported 0 0 0) [])
+    ∷ so (report 0 0 good (1 ∷ 2 ∷ 786433 ∷ [])) (told 0 (reported 1 0 1) [])
+    ∷ so (report 0 1 good []) (told 0 (reported 1 0 255) (5 ∷ 1310721 ∷ []))
+    ∷ []
+
+-- what is read
+unfoldable pub steps2 : List Step
+steps2 =
+    so (get 0) (told 0 (got (Record 0 2)) (1 ∷ 2 ∷ []))
+    -- a read that a freeze stops, and that ends in the opposite mode with a block in error
+    ∷ so (ask 0 0 0) (told 0 (working 0) [])
+    ∷ so freeze done
+    ∷ so (report 0 0 redundancy []) (told 0 (reported 0 0 255) [])
+    ∷ so thaw done
+    ∷ so (report 0 0 redundancy []) (told 0 (reported 0 0 0) [])
+    ∷ so (report 0 0 redundancy []) (told 0 (reported 0 0 0) [])
+    ∷ so (report 0 0 good (3 ∷ 0 ∷ [])) (told 0 (reported 2 3 255) [])
+    ∷ so (get 0) (told 0 (got (Error 3)) [])
+    ∷ so (ask 0 0 0) (told 0 (working 0) [])
+    ∷ so (report 0 0 good (4 ∷ 5 ∷ 2359299 ∷ [])) (told 0 (reported 1 0 255) [])
+    ∷ []
+
+-- what is left, skipped and closed
+unfoldable pub steps3 : List Step
+steps3 =
+    so (get 0) (told 0 (got (Leftover 3 1)) (3 ∷ []))
+    ∷ so (skip 0) done
+    ∷ so (skip 0) done
+    ∷ so (get 0) (told 0 (got Nothing) [])
+    ∷ so (ask 0 0 0) (told 0 (working 0) [])
+    ∷ so (report 0 0 fileMark []) (told 0 (reported 3 0 255) [])
+    ∷ so (get 0) (told 0 (got End) [])
+    ∷ so (ask 0 0 0) (told 10 (working 0) [])
+    -- a write that ends permanently; its block is sent again, to the end of the medium; then a mark
+    ∷ so (ask 1 1 0) (told 0 (working 1) [])
+    ∷ so (report 0 1 incompleteWord []) (told 0 (reported 6 0 255) [])
+    ∷ so (ask 1 1 0) (told 0 (working 1) [])
+    ∷ so (report 0 1 endOfMedium []) (told 0 (reported 4 0 255) (6 ∷ 7 ∷ 3407874 ∷ []))
+    ∷ so (ask 1 2 0) (told 0 (working 1) [])
+    ∷ so (report 0 1 good []) (told 0 (reported 1 0 255) [])
+    ∷ so (close 1) done
+    ∷ so (close 0) done
+    ∷ []
+
+abbrev pub callsOf : List Step → List Call
+callsOf = map (λ (x : Step). x .call)
+
+abbrev pub tellsOf : List Step → List Told
+tellsOf = map (λ (x : Step). x .tells)
+
+-- a lent area of twelve words
+abbrev pub lent : List ℕ
+lent = replicate 12 0
+
+-- ---- the ledgers
+
+-- what is noted of a file: the words put, the blocks sent, the blocks that came, what was given and dropped, and what is owed
+pub data Noted : Type 0 where
+  noted : List ℕ → List (List ℕ) → List (List ℕ) → List Item → List (List Item) → Noted
+
+abbrev pub notedOf : Ledger → Noted
+notedOf g = noted (g .puts) (g .sent) (g .came) (g .gone) (g .owed)
+
+-- the ledger of file i after calls from before the first fresh start on
+abbrev pub notedBy : ℕ → List Call → Noted
+notedBy i calls = notedOf (ledgerAfter i beforeStart lent blankLedger calls)
+
+-- file 0 after the second part: two blocks are owed, of one the error is told
+unfoldable pub midway : Noted
+midway =
+    noted [] [] ((1 ∷ 2 ∷ 786433 ∷ []) ∷ (3 ∷ 0 ∷ []) ∷ (4 ∷ 5 ∷ 2359299 ∷ []) ∷ []) (word 1 ∷ word 2 ∷ wrong 3 ∷ [])
+    ((word 3 ∷ []) ∷ (word 4 ∷ word 5 ∷ []) ∷ [])
+
+-- both at the end
+unfoldable pub readAll : Noted
+readAll =
+    noted [] [] ((1 ∷ 2 ∷ 786433 ∷ []) ∷ (3 ∷ 0 ∷ []) ∷ (4 ∷ 5 ∷ 2359299 ∷ []) ∷ [])
+    (word 1 ∷ word 2 ∷ wrong 3 ∷ word 3 ∷ word 4 ∷ word 5 ∷ []) []
+
+unfoldable pub wroteAll : Noted
+wroteAll = noted (5 ∷ 6 ∷ 7 ∷ []) ((5 ∷ 1310721 ∷ []) ∷ (6 ∷ 7 ∷ 3407874 ∷ []) ∷ []) [] [] []

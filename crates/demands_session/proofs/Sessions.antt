@@ -1,0 +1,173 @@
+-- The demands of every session: each is the demand itself, of the history that the session's lines are. Assumes nothing.
+use Prim.Native.Nat.{ℕ, _+_, _%_}
+use mathlib.Core.Path.{_≡_, refl, sym, ap, _∙_, subst}
+use mathlib.Core.Logic.{_≢_}
+use mathlib.Core.Bool.{true, false}
+use mathlib.Core.Option.{Option, some}
+use mathlib.Core.List.{List, [], _∷_, _++_}
+use lib.ListN.{length}
+use Rattle.word.specs.CheckWords.{blockNumbers}
+use Rattle.block.specs.Blocks.{judgedBlock}
+use Rattle.pool.specs.Serving.{serves}
+use Rattle.state.specs.declared.State.{State}
+use Rattle.state.specs.Places.{beforeStart, fileAt}
+use Rattle.pack_start.specs.declared.Masks.{Masks}
+use Rattle.call_request.specs.Ask.{isPriority}
+use Rattle.pack.specs.Calls.{Call, fresh, opening, close, ask, report, answerOf}
+use Rattle.pack.specs.Histories.{after, count, freshStart, declaredOn}
+use Rattle.demands_ledger.specs.Ledgers.{Ledger, blankLedger, toldError, stateAfter, areaAfter, ledgerAfter}
+use Rattle.demands_ledger.specs.Blocks.{joined}
+use Rattle.demands.specs.Demands.{Refuses, Holds, Frees, Takes, Books, dataIn, Writes, Reads, Answers}
+use Rattle.demands.proofs.Demands.{demand1, demand2-before, demand2-freed, demand2-taken, demand2-booked, demand2-writes, demand2-closed, demand2-reads, demand2-judged, demand3}
+use Rattle.session.specs.Session.{Course, withText, playLines}
+use Rattle.session.proofs.Counting.{lines-append}
+use Rattle.demands_session.specs.Played.{callIn, callsIn, lineOf, lineFor, stateFor, areaFor, zeros, stateIn, areaIn, lentFrom}
+use Rattle.demands_session.proofs.Played.{course-cons, history-is, lent-state}
+
+-- ---- a line within a session, after the lines ks
+
+module _ (ks : List (List ℕ)) (l : List ℕ) (call : Call) (isCall : callIn l ≡ some call) where
+  course-at : (ls : List (List ℕ)) → playLines beforeStart zeros (ks ++ (l ∷ ls))
+      ≡ withText (playLines beforeStart zeros ks .text) (withText (lineOf (answerOf (stateIn ks) (areaIn ks) call))
+      (playLines (answerOf (stateIn ks) (areaIn ks) call .state) (answerOf (stateIn ks) (areaIn ks) call .area) ls))
+  course-at ls =
+      lines-append ks (l ∷ ls) beforeStart zeros
+      ∙ ap (withText (playLines beforeStart zeros ks .text)) (course-cons (stateIn ks) (areaIn ks) l ls
+      ∙ ap (λ (c : Option Call). withText (lineFor (stateIn ks) (areaIn ks) c) (playLines (stateFor (stateIn ks) (areaIn ks) c) (areaFor (stateIn ks) (areaIn ks) c) ls)) isCall)
+
+  -- what is printed for it, after the text of the lines before it, is its call's answer in the state and the area that they lead to
+  pub printed-at : (ls : List (List ℕ)) → playLines beforeStart zeros (ks ++ (l ∷ ls)) .text
+      ≡ playLines beforeStart zeros ks .text ++ (lineOf (answerOf (stateIn ks) (areaIn ks) call)
+      ++ playLines (answerOf (stateIn ks) (areaIn ks) call .state) (answerOf (stateIn ks) (areaIn ks) call .area) ls .text)
+  unfolding withText
+  printed-at ls = ap (λ (c : Course). c .text) (course-at ls)
+
+  -- the state and the area after the lines ls that follow it
+  pub state-at : (ls : List (List ℕ)) → stateIn (ks ++ (l ∷ ls))
+      ≡ stateAfter (answerOf (stateIn ks) (areaIn ks) call .state) (answerOf (stateIn ks) (areaIn ks) call .area) (callsIn ls)
+  unfolding withText
+  state-at ls = ap (λ (c : Course). c .state) (course-at ls) ∙ history-is _ _ ls .state
+
+  pub area-at : (ls : List (List ℕ)) → areaIn (ks ++ (l ∷ ls))
+      ≡ areaAfter (answerOf (stateIn ks) (areaIn ks) call .state) (answerOf (stateIn ks) (areaIn ks) call .area) (callsIn ls)
+  unfolding withText
+  area-at ls = ap (λ (c : Course). c .area) (course-at ls) ∙ history-is _ _ ls .words
+
+-- ---- Demand 1, of every line that is a call: after any lines ks
+
+pub session1 : (ks : List (List ℕ)) (call : Call) → Refuses (stateIn ks) (areaIn ks) call
+session1 ks call = demand1 (stateIn ks) (areaIn ks) call
+
+-- ---- Demand 2: "Each buffer is free, or held by exactly one open file": after any lines
+
+pub session2-held : (ls : List (List ℕ)) → Holds (stateIn ls)
+session2-held ls =
+    subst Holds (lent-state beforeStart zeros (callsIn ls) ∙ sym (history-is beforeStart zeros ls .state))
+    (demand2-before (lentFrom beforeStart zeros (callsIn ls)))
+
+-- From here on: a line of the session that is a fresh start and accepted, after the lines ks; then any lines.
+module _ (ks : List (List ℕ)) (l : List ℕ) (m w : ℕ) (masks : Masks) (isFresh : callIn l ≡ some (fresh m w masks))
+    (started : answerOf (stateIn ks) (areaIn ks) (fresh m w masks) .refusal ≡ 0) where
+  abbrev pub start : State
+  start = answerOf (stateIn ks) (areaIn ks) (fresh m w masks) .state
+
+  -- the state and the area of the program when the lines `later` have come after it
+  abbrev pub stateThen : List (List ℕ) → State
+  stateThen later = stateIn (ks ++ (l ∷ later))
+
+  abbrev pub areaThen : List (List ℕ) → List ℕ
+  areaThen later = areaIn (ks ++ (l ∷ later))
+
+  -- the ledger of file i
+  abbrev pub accountThen : List (List ℕ) → ℕ → Ledger
+  accountThen later i = ledgerAfter i start (areaIn ks) blankLedger (callsIn later)
+
+  -- what holds of the history holds of the session
+  so : (P : State → List ℕ → Type 0) (later : List (List ℕ))
+      → P (stateAfter start (areaIn ks) (callsIn later)) (areaAfter start (areaIn ks) (callsIn later)) → P (stateThen later) (areaThen later)
+  unfolding answerOf
+  so P later p =
+      subst (λ (s : State). P s (areaThen later)) (sym (state-at ks l (fresh m w masks) isFresh later))
+      (subst (P (stateAfter start (areaIn ks) (callsIn later))) (sym (area-at ks l (fresh m w masks) isFresh later)) p)
+
+  so-lent : (P : State → List ℕ → Type 0) (later : List (List ℕ))
+      → P (after start (lentFrom start (areaIn ks) (callsIn later))) (areaAfter start (areaIn ks) (callsIn later)) → P (stateThen later) (areaThen later)
+  so-lent P later p =
+      so P later (subst (λ (s : State). P s (areaAfter start (areaIn ks) (callsIn later))) (lent-state start (areaIn ks) (callsIn later)) p)
+
+  -- "and a freed one is used again."
+  pub session2-freed : (later : List (List ℕ)) (file : ℕ) → answerOf (stateThen later) (areaThen later) (close file) .refusal ≡ 0
+      → Frees (stateThen later) file (answerOf (stateThen later) (areaThen later) (close file) .state)
+  session2-freed later file =
+      so-lent (λ s xs. answerOf s xs (close file) .refusal ≡ 0 → Frees s file (answerOf s xs (close file) .state)) later
+      (demand2-freed (stateIn ks) (areaIn ks) m w masks started (lentFrom start (areaIn ks) (callsIn later)) _ file)
+
+  pub session2-taken : (later : List (List ℕ)) (file channel unit flags size rlen : ℕ)
+      → answerOf (stateThen later) (areaThen later) (opening file channel unit flags size rlen) .refusal ≡ 0
+      → Takes (stateThen later) file (answerOf (stateThen later) (areaThen later) (opening file channel unit flags size rlen) .state)
+  session2-taken later file channel unit flags size rlen =
+      so-lent (λ s xs. answerOf s xs (opening file channel unit flags size rlen) .refusal ≡ 0
+      → Takes s file (answerOf s xs (opening file channel unit flags size rlen) .state)) later
+      (demand2-taken (stateIn ks) (areaIn ks) m w masks started (lentFrom start (areaIn ks) (callsIn later)) _ file channel unit flags size rlen)
+
+  -- a completion is booked to the one file of its unit
+  pub session2-booked : (later : List (List ℕ)) (channel unit outcome : ℕ) (words : List ℕ)
+      → answerOf (stateThen later) (areaThen later) (report channel unit outcome words) .refusal ≡ 0
+      → Books (stateThen later) channel unit (answerOf (stateThen later) (areaThen later) (report channel unit outcome words) .state)
+  session2-booked later channel unit outcome words =
+      so-lent (λ s xs. answerOf s xs (report channel unit outcome words) .refusal ≡ 0
+      → Books s channel unit (answerOf s xs (report channel unit outcome words) .state)) later
+      (demand2-booked (stateIn ks) (areaIn ks) m w masks started (lentFrom start (areaIn ks) (callsIn later)) _ channel unit outcome words)
+
+  -- "blocks we write carry the one right check word;"
+  pub session2-writes : (later : List (List ℕ)) (i : ℕ) → fileAt (stateThen later) i .opened ≡ true → fileAt (stateThen later) i .output ≡ true
+      → Writes (stateThen later .w) (fileAt (stateThen later) i) (areaThen later) (accountThen later i)
+  session2-writes later i =
+      so (λ s xs. fileAt s i .opened ≡ true → fileAt s i .output ≡ true → Writes (s .w) (fileAt s i) xs (accountThen later i)) later
+      (demand2-writes (stateIn ks) (areaIn ks) m w masks started (callsIn later) i)
+
+  -- when an output file is closed, all that was put was handed out
+  pub session2-closed : (later : List (List ℕ)) (i : ℕ) → fileAt (stateThen later) i .opened ≡ true → fileAt (stateThen later) i .output ≡ true
+      → answerOf (stateThen later) (areaThen later) (close i) .refusal ≡ 0
+      → joined (dataIn (fileAt (stateThen later) i) (accountThen later i .sent)) ≡ accountThen later i .puts
+  session2-closed later i =
+      so (λ s xs. fileAt s i .opened ≡ true → fileAt s i .output ≡ true → answerOf s xs (close i) .refusal ≡ 0
+      → joined (dataIn (fileAt s i) (accountThen later i .sent)) ≡ accountThen later i .puts) later
+      (demand2-closed (stateIn ks) (areaIn ks) m w masks started (callsIn later) i)
+
+  -- "blocks we read are judged by it as delivered."
+  pub session2-reads : (later : List (List ℕ)) (i : ℕ) → fileAt (stateThen later) i .opened ≡ true → fileAt (stateThen later) i .output ≡ false
+      → Reads (stateThen later .w) (fileAt (stateThen later) i) (areaThen later) (accountThen later i)
+  session2-reads later i =
+      so (λ s xs. fileAt s i .opened ≡ true → fileAt s i .output ≡ false → Reads (s .w) (fileAt s i) xs (accountThen later i)) later
+      (demand2-reads (stateIn ks) (areaIn ks) m w masks started (callsIn later) i)
+
+  pub session2-judged : (later : List (List ℕ)) (i channel unit outcome : ℕ) (words : List ℕ) → serves channel unit (fileAt (stateThen later) i) ≡ true
+      → words ≢ [] → answerOf (stateThen later) (areaThen later) (report channel unit outcome words) .refusal ≡ 0
+      → toldError (answerOf (stateThen later) (areaThen later) (report channel unit outcome words) .added)
+      ≡ judgedBlock words (fileAt (stateThen later) i .sequence) (fileAt (stateThen later) i .check) ((1 + length (accountThen later i .came)) % blockNumbers) .error
+  session2-judged later i channel unit outcome words =
+      so (λ s xs. serves channel unit (fileAt s i) ≡ true → words ≢ [] → answerOf s xs (report channel unit outcome words) .refusal ≡ 0
+      → toldError (answerOf s xs (report channel unit outcome words) .added)
+      ≡ judgedBlock words (fileAt s i .sequence) (fileAt s i .check) ((1 + length (accountThen later i .came)) % blockNumbers) .error) later
+      (demand2-judged (stateIn ks) (areaIn ks) m w masks started (callsIn later) i channel unit outcome words)
+
+  -- Demand 3, of an ordinary request that is accepted after the lines `before`, and of any lines `later` after it, no fresh start among them
+  pub session3 : (before : List (List ℕ)) → count freshStart start (lentFrom start (areaIn ks) (callsIn before)) ≡ 0
+      → (file op priority : ℕ) → isPriority priority ≡ false
+      → answerOf (stateThen before) (areaThen before) (ask file op priority) .refusal ≡ 0
+      → (later : List (List ℕ))
+      → let d = answerOf (stateThen before) (areaThen before) (ask file op priority) in
+      count freshStart (d .state) (lentFrom (d .state) (d .area) (callsIn later)) ≡ 0
+      → Answers (declaredOn start (fileAt (stateThen before) file .channel)) (fileAt (stateThen before) file .channel)
+      (fileAt (stateThen before) file .unit)
+      (stateThen before) (d .state) (lentFrom (d .state) (d .area) (callsIn later))
+  session3 before first file op priority ordinary accepted later =
+      so-lent (λ s xs. answerOf s xs (ask file op priority) .refusal ≡ 0
+      → count freshStart (answerOf s xs (ask file op priority) .state)
+      (lentFrom (answerOf s xs (ask file op priority) .state) (answerOf s xs (ask file op priority) .area) (callsIn later)) ≡ 0
+      → Answers (declaredOn start (fileAt s file .channel)) (fileAt s file .channel) (fileAt s file .unit) s
+      (answerOf s xs (ask file op priority) .state)
+      (lentFrom (answerOf s xs (ask file op priority) .state) (answerOf s xs (ask file op priority) .area) (callsIn later))) before
+      (λ z. demand3 (stateIn ks) (areaIn ks) m w masks started (lentFrom start (areaIn ks) (callsIn before)) first file op priority _ ordinary z _)
+      accepted
