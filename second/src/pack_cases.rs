@@ -5,6 +5,7 @@ mod areas;
 mod buffers;
 mod given;
 mod input_by_hand;
+mod kept_masks;
 mod output_by_hand;
 mod random_changes;
 mod random_steps;
@@ -14,6 +15,7 @@ mod turns_by_hand;
 mod unsound;
 mod unsound_bench;
 mod unsound_files;
+mod unsound_masks;
 mod unsound_requests;
 
 use script::Script;
@@ -30,19 +32,21 @@ pub fn pack_cases() -> Vec<Vec<u64>> {
     output_by_hand::add_cases(&mut script);
     turns_by_hand::add_cases(&mut script);
     random_steps::add_cases(&mut script);
+    unsound_masks::add_cases(&mut script);
+    kept_masks::add_cases(&mut script);
     script.commands
 }
 
 #[cfg(test)]
 mod tests {
     use super::*;
-    use crate::pack::FILES;
+    use crate::pack::{DOUBLE, FILES};
     use crate::pack_player::{
         answer_script, Player, ASK, CLOSE, FRESH, GET, OPEN, PRINT_SOUND, PRINT_STATE, PUT, REPORT, ROOM,
         SEAL, SKIP, THAW,
     };
     use crate::sound::{all_clauses, broken_clauses, is_sound, Clause};
-    use crate::state::State;
+    use crate::state::{Buffer, State};
     use crate::state_pack::{pack_of, state_of};
     use crate::text::lines_of;
     use std::collections::{BTreeMap, BTreeSet};
@@ -186,6 +190,70 @@ mod tests {
         }
     }
 
+    type Test = fn(&State) -> bool;
+
+    /// Whether the mask says that a buffer is free.
+    fn says_free(state: &State, buffer: Buffer) -> bool {
+        buffer.number < 32 && state.free >> buffer.number & 1 == 1
+    }
+
+    /// Wrong masks of every sort are asked for, each met by fresh starts, opens and closes that nothing
+    /// but the mask refuses.
+    #[test]
+    fn wrong_masks_of_every_sort() {
+        let sorts: [(&str, Test); 9] = [
+            ("single", |state| state.open_files().any(|file| !file.double && says_free(state, file.low))),
+            ("low", |state| state.open_files().any(|file| file.double && says_free(state, file.low))),
+            ("high", |state| state.open_files().any(|file| file.double && says_free(state, file.high))),
+            ("free one clear", |state| state.free_mask() & !state.free != 0),
+            ("all clear", |state| state.free == 0),
+            ("at m", |state| (1..32).contains(&state.buffers) && state.free >> state.buffers & 1 == 1),
+            ("31", |state| state.buffers < 31 && state.free >> 31 == 1),
+            ("as many", |state| state.free.count_ones() == state.free_mask().count_ones()),
+            ("before fresh", |state| state.buffers == 0),
+        ];
+        let mut met = BTreeSet::new();
+        play_all(&pack_cases(), |played| {
+            let state = &played.before.state;
+            if broken_clauses(state) != [Clause::FreeMask] {
+                return;
+            }
+            let mut right = played.before.clone();
+            right.state.free = state.free_mask();
+            let accepted =
+                right.play(played.command).expect("a command").is_some_and(|answer| answer[0] == 0);
+            if accepted || played.command[0] == PRINT_SOUND {
+                let names = sorts.iter().filter(|(_, is_of)| is_of(state)).map(|&(name, _)| name);
+                met.extend(names.map(|name| (name, played.command[0])));
+            }
+        });
+        for (name, _) in &sorts {
+            for command in [FRESH, OPEN, CLOSE, PRINT_SOUND] {
+                let possible = *name != "before fresh" || [FRESH, PRINT_SOUND].contains(&command);
+                assert!(!possible || met.contains(&(*name, command)), "{name}: {command}");
+            }
+        }
+    }
+
+    /// Opens meet pools with no free buffer, with one and with all 32, and take the last one and the last two.
+    #[test]
+    fn opens_meet_masks_of_every_sort() {
+        let mut met = BTreeSet::new();
+        play_all(&pack_cases(), |played| {
+            if let &[OPEN, _, _, _, flags, ..] = played.command {
+                let [before, after] =
+                    [played.before, played.after].map(|player| player.state.free.count_ones());
+                met.insert((played.first(), flags & DOUBLE, before, after));
+            }
+        });
+        for (flags, taken) in [(0, 1), (DOUBLE, 2)] {
+            assert!((0..taken).all(|free| met.contains(&(7, flags, free, free))), "{flags}");
+            for free in [taken, taken + 1, 32] {
+                assert!(met.contains(&(0, flags, free, free - taken)), "{flags}: {free}");
+            }
+        }
+    }
+
     /// Each call is refused 1 on every unsound state that it meets, and meets at least three.
     #[test]
     fn every_call_meets_unsound_states() {
@@ -240,7 +308,7 @@ mod tests {
             }
         });
         assert!(states.len() >= 30, "{}", states.len());
-        let tests: [fn(&State) -> bool; 4] = [
+        let tests: [Test; 4] = [
             |state| state.frozen,
             |state| state.open_files().count() > 0,
             |state| state.requests().count() > 0,

@@ -7,8 +7,8 @@ use crate::sound::is_sound;
 use crate::state::State;
 use crate::state_calls::{self as calls, Shown};
 use crate::state_fields::{
-    set_file_field, set_pool_field, set_unit_field, state_numbers, AT, BLOCK_SIZE, FILE_FIELDS, HIGH, LOW,
-    NUMBER, POOL_FIELDS, RECORD_LENGTH, UNIT_FIELDS, WIDTH, WORDS,
+    set_file_field, set_pool_field, set_unit_field, state_numbers, AT, BLOCK_SIZE, FILE_FIELDS, FREE, HIGH,
+    LOW, NUMBER, POOL_FIELDS, RECORD_LENGTH, UNIT_FIELDS, WIDTH, WORDS,
 };
 use crate::text::{line_of, numbers_of};
 
@@ -203,9 +203,18 @@ fn limits_of(command: &[u64]) -> Option<Vec<u64>> {
         FILE => vec![files, FILE_FIELDS - 1, file_limit(command.get(2).copied())],
         UNIT => vec![channels, units, UNIT_FIELDS - 1, BYTE],
         SCAN_MARK => vec![channels, BYTE],
-        POOL => vec![POOL_FIELDS - 1, if command.get(1) == Some(&WIDTH) { TWO_BYTES } else { BYTE }],
+        POOL => vec![POOL_FIELDS - 1, pool_limit(command.get(1).copied())],
         _ => return None,
     })
+}
+
+/// The largest number that a field of the pool can take; the mask takes any, modulo 2^32.
+fn pool_limit(field: Option<u64>) -> u64 {
+    match field {
+        Some(WIDTH) => TWO_BYTES,
+        Some(FREE) => u64::MAX,
+        _ => BYTE,
+    }
 }
 
 /// The largest number that a field of a file can take.
@@ -260,8 +269,8 @@ mod tests {
             &["1", "0", "0", "0", "0 0", "1"],
         );
         answers(
-            "0 1 2 1 0 0 0 0; 14 0 0 1 3; 14 0 0 4 1; 20; 13 0 0 1; 13 0 7 2; 13 0 8 1; 20; 13 0 13 1; 20",
-            &["0", "0", "0", "1"],
+            "0 1 2 1 0 0 0 0; 14 0 0 1 3; 14 0 0 4 1; 20; 13 0 0 1; 13 0 7 2; 13 0 8 1; 20; 13 0 13 1; 20; 16 3 0; 20",
+            &["0", "0", "0", "0", "1"],
         );
     }
 
@@ -271,7 +280,30 @@ mod tests {
         let room = |first: &str, between: usize, last: &str| format!("{first} {} {last}", zeros(between));
         answers(
             "12 0 18446744073709551615; 12 63 7; 18; 19",
-            &[&room("18446744073709551615", 62, "7"), "0 0 0 0 10 0 10 0 10 0 10 0 10 16"],
+            &[&room("18446744073709551615", 62, "7"), "0 0 0 0 0 10 0 10 0 10 0 10 0 10 16"],
+        );
+    }
+
+    /// The mask of the free buffers: printed after the freeze, set by hand modulo 2^32, and judged.
+    #[test]
+    fn free_masks() {
+        let units = "0 0 1 0 0 0 0 0 1 1 0 0 0 0 0 10 0 10 0 10 0 10 0 10";
+        let file = "0 1 0 0 0 1 0 0 1 1 0 1 0 0 0 0 0 0 1 0 0 0 0";
+        answers(
+            "0 3 1 3 0 0 0 0; 19; 1 0 0 0 2 1 1; 19; 2 0; 9; 19",
+            &[
+                "0",
+                &format!("3 1 0 7 {units} 16"),
+                "0",
+                &format!("3 1 0 4 {units} {file} 16"),
+                "0",
+                "0",
+                &format!("3 1 1 7 {units} 16"),
+            ],
+        );
+        answers(
+            "16 3 1; 20; 9; 0 1 1 0 0 0 0 0; 16 3 4294967296; 20; 0 1 1 0 0 0 0 0; 16 3 4294967297; 20; 16 3 3; 20",
+            &["0", "1", "1", "1", "0", "1", "0"],
         );
     }
 
@@ -329,9 +361,10 @@ mod tests {
             ("14 0 0 6 0", 3, 5, 6),
             ("14 0 0 4 256", 4, 255, 256),
             ("15 0 256", 2, 255, 256),
-            ("16 3 0", 1, 2, 3),
+            ("16 4 0", 1, 3, 4),
             ("16 0 256", 2, 255, 256),
             ("16 1 65536", 2, 65_535, 65_536),
+            ("16 2 256", 2, 255, 256),
         ] {
             let kind = command.split(' ').next().expect("a command");
             complains(command, &format!("number {place} of command {kind} is over {limit}: {number}"));

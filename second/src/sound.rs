@@ -15,7 +15,7 @@ const LAST_ERROR: u64 = 3;
 type Holds = fn(&State) -> bool;
 
 /// The clauses, each with the test that a state must pass.
-const CLAUSES: [(Clause, Holds); 26] = [
+const CLAUSES: [(Clause, Holds); 27] = [
     (Clause::PoolSizes, pool_sizes),
     (Clause::NothingBeforeFresh, nothing_before_fresh),
     (Clause::ScanMarks, scan_marks),
@@ -30,6 +30,7 @@ const CLAUSES: [(Clause, Holds); 26] = [
     (Clause::OutputZeros, output_zeros),
     (Clause::HeldOnce, held_once),
     (Clause::OwnBuffers, own_buffers),
+    (Clause::FreeMask, free_mask),
     (Clause::DeclaredUnits, declared_units),
     (Clause::OwnUnits, own_units),
     (Clause::FittingRequests, fitting_requests),
@@ -61,6 +62,7 @@ pub enum Clause {
     OutputZeros,
     HeldOnce,
     OwnBuffers,
+    FreeMask,
     DeclaredUnits,
     OwnUnits,
     FittingRequests,
@@ -183,6 +185,11 @@ fn own_buffers(state: &State) -> bool {
         let in_pool = file.buffers().iter().all(|buffer| buffer.number < state.buffers);
         in_pool && (!file.double || file.low.number < file.high.number)
     })
+}
+
+/// M-104, "Keep the free ones as one bit each": the mask has the bits of the free buffers and no other.
+fn free_mask(state: &State) -> bool {
+    state.free == state.free_mask()
 }
 
 /// "each open file has ... a declared unit".
@@ -323,7 +330,7 @@ mod tests {
     /// Nine buffers of six words. Input with a full block; output, part-filled, with a check word;
     /// output at work on a write; input, idle; input at work on a read. Buffer 8 is free.
     fn bench() -> State {
-        let mut state = State { buffers: 9, width: 6, ..State::default() };
+        let mut state = State { buffers: 9, width: 6, free: 1 << 8, ..State::default() };
         for unit in 0..5 {
             state.channels[0].units[unit].declared = true;
         }
@@ -347,17 +354,19 @@ mod tests {
         state
     }
 
-    /// The change of the bench breaks this clause and no other.
+    /// The change of the bench, with the mask put right after it, breaks this clause and no other.
     fn breaks(clause: Clause, change: impl FnOnce(&mut State)) {
         let mut state = bench();
         change(&mut state);
+        state.free = state.free_mask();
         assert_eq!(broken_clauses(&state), [clause]);
     }
 
-    /// The change leaves the bench sound.
+    /// The change leaves the bench sound if the mask is put right.
     fn keeps(change: impl FnOnce(&mut State)) {
         let mut state = bench();
         change(&mut state);
+        state.free = state.free_mask();
         assert_eq!(broken_clauses(&state), []);
     }
 
@@ -379,10 +388,10 @@ mod tests {
         }
         keeps(|state| (state.buffers, state.width) = (32, 1_024));
         for (buffers, width) in [(0, 1), (1, 0)] {
-            let state = State { buffers, width, ..State::default() };
+            let state = State { buffers, width, free: buffers as u32, ..State::default() };
             assert_eq!(broken_clauses(&state), [Clause::PoolSizes]);
         }
-        assert!(is_sound(&State { buffers: 1, width: 1, ..State::default() }));
+        assert!(is_sound(&State { buffers: 1, width: 1, free: 1, ..State::default() }));
     }
 
     #[test]
@@ -558,6 +567,96 @@ mod tests {
         breaks(Clause::OwnBuffers, |state| state.files[INPUT].low.number = 8);
         keeps(|state| state.buffers = 8);
         breaks(Clause::OwnBuffers, |state| state.buffers = 7);
+    }
+
+    /// The change alone breaks the clause of the mask and no other; with the mask that is right, the
+    /// state is sound.
+    fn needs_mask(right: u32, change: impl FnOnce(&mut State)) {
+        let mut state = bench();
+        change(&mut state);
+        assert_eq!(broken_clauses(&state), [Clause::FreeMask]);
+        state.free = right;
+        assert_eq!(broken_clauses(&state), []);
+    }
+
+    /// Every other mask of the bench is wrong that differs in a bit or two, or in all.
+    #[test]
+    fn masks_of_the_bench() {
+        for bit in 0..32 {
+            needs_mask(256, |state| state.free ^= 1 << bit);
+            for other in 0..bit {
+                needs_mask(256, |state| state.free ^= 1 << bit | 1 << other);
+            }
+        }
+        for wrong in [0, 0x1ff, u32::MAX, !256, 255, 128, 512] {
+            needs_mask(256, |state| state.free = wrong);
+        }
+    }
+
+    /// The mask goes with m and with the buffers of the open files.
+    #[test]
+    fn masks_go_with_the_pool_and_the_files() {
+        needs_mask(0, |state| state.buffers = 8);
+        needs_mask(0x300, |state| state.buffers = 10);
+        needs_mask(0x7fff_ff00, |state| state.buffers = 31);
+        needs_mask(0xffff_ff00, |state| state.buffers = 32);
+        needs_mask(1 << 5, |state| state.files[IDLE].low.number = 8);
+        needs_mask(1 << 1, |state| state.files[INPUT].high.number = 8);
+        needs_mask(1 << 6 | 1 << 9, |state| {
+            state.buffers = 10;
+            (state.files[READING].low.number, state.files[READING].high.number) = (7, 8);
+        });
+        needs_mask(1 << 3 | 1 << 8, |state| {
+            state.files[OUTPUT].double = false;
+            state.files[OUTPUT].high = Buffer::default();
+        });
+        needs_mask(0, |state| {
+            state.files[IDLE].double = true;
+            state.files[IDLE].high.number = 8;
+        });
+        needs_mask(1 << 5 | 1 << 8, |state| state.files[IDLE] = FileState::default());
+        needs_mask(0, |state| state.files[CLOSED] = file(4, buffer(8, Slot::Empty), None));
+    }
+
+    /// Which file holds a buffer does not matter.
+    #[test]
+    fn masks_of_buffers_that_changed_hands() {
+        let mut state = bench();
+        (state.files[IDLE].low.number, state.files[INPUT].high.number) = (1, 5);
+        assert_eq!(broken_clauses(&state), []);
+    }
+
+    /// Pools without files: m ones, and before the first fresh start none.
+    #[test]
+    fn masks_of_pools_without_files() {
+        for buffers in 0..=32 {
+            let ones = ((1_u64 << buffers) - 1) as u32;
+            let width = buffers.min(1);
+            let sound = |free| is_sound(&State { buffers, width, free, ..State::default() });
+            assert!(sound(ones));
+            assert!((0..32).all(|bit| !sound(ones ^ 1 << bit)));
+            assert_eq!([sound(0), sound(u32::MAX)], [buffers == 0, buffers == 32]);
+        }
+    }
+
+    /// All 32 buffers are held by sixteen double files.
+    #[test]
+    fn the_mask_of_a_pool_that_is_taken() {
+        let mut state = State { buffers: 32, width: 5, ..State::default() };
+        for number in 0..16_usize {
+            let (channel, unit) = (number / UNITS, number % UNITS);
+            state.channels[channel].units[unit].declared = true;
+            let [low, high] = [number, number + 16].map(|held| buffer(held as u64, Slot::Empty));
+            state.files[number] = FileState { channel: channel as u64, ..file(unit as u64, low, Some(high)) };
+        }
+        assert_eq!(broken_clauses(&state), []);
+        for bit in 0..32 {
+            state.free = 1 << bit;
+            assert_eq!(broken_clauses(&state), [Clause::FreeMask]);
+        }
+        state.files[3] = FileState::default();
+        state.free = 1 << 3 | 1 << 19;
+        assert_eq!(broken_clauses(&state), []);
     }
 
     #[test]

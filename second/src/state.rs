@@ -72,6 +72,8 @@ pub struct State {
     pub buffers: u64,
     pub width: u64,
     pub frozen: bool,
+    /// The free buffers: bit b stands for buffer b.
+    pub free: u32,
     pub channels: [ChannelState; CHANNELS],
     pub files: [FileState; FILES],
 }
@@ -111,6 +113,16 @@ impl State {
     /// The open files, the lowest first.
     pub fn open_files(&self) -> impl Iterator<Item = &FileState> {
         self.files.iter().filter(|file| file.opened)
+    }
+
+    /// The free buffers as the pool and the files tell them: bit b is set exactly if b < m and no open
+    /// file holds buffer b.
+    pub fn free_mask(&self) -> u32 {
+        let held = |number: u64| {
+            self.open_files().any(|file| file.buffers().iter().any(|buffer| buffer.number == number))
+        };
+        let free = (0..u32::BITS).filter(|&bit| u64::from(bit) < self.buffers && !held(u64::from(bit)));
+        free.fold(0, |mask, bit| mask | 1 << bit)
     }
 
     /// A unit; the numbers may be any.

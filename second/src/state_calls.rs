@@ -244,6 +244,61 @@ mod tests {
         }
     }
 
+    /// A wrong mask is refused by every call, whatever bit of it is wrong.
+    #[test]
+    fn every_call_judges_the_mask() {
+        let (right, area) = state_and_area();
+        assert_eq!(right.free, 1 << 4);
+        for number in 0..11 {
+            for bit in 0..32 {
+                let (mut state, mut words) = (right.clone(), area.clone());
+                state.free ^= 1 << bit;
+                let before = state.clone();
+                assert_eq!(call(number, &mut state, &mut words), Err(1));
+                assert_eq!((&state, &words), (&before, &area));
+                state.free ^= 1 << bit;
+                assert_eq!(call(number, &mut state, &mut words), expected(number));
+            }
+        }
+    }
+
+    /// A fresh start fills the mask with m ones, open clears bits, close sets them; no other call and no
+    /// refused one changes it.
+    #[test]
+    fn masks_after_calls() {
+        let area = [0; 64];
+        let mut state = State::default();
+        for (buffers, ones) in [(32, u32::MAX), (1, 1), (31, u32::MAX >> 1), (5, 31)] {
+            fresh(&mut state, &area, buffers, 2, [15, 0, 0, 0, 0]).expect("a fresh start");
+            assert_eq!(state.free, ones);
+        }
+        let mut opened = |file, flags, answer, free| {
+            assert_eq!(open(&mut state, &opening(file, flags, 1, 1)), answer);
+            assert_eq!(state.free, free);
+            state.clone()
+        };
+        opened(0, 0, Ok(()), 0b11110);
+        opened(1, DOUBLE, Ok(()), 0b11000);
+        opened(2, OUTPUT, Ok(()), 0b10000);
+        opened(3, DOUBLE, Err(7), 0b10000);
+        state = opened(3, 0, Ok(()), 0);
+        let mut closed = |file, answer, free| {
+            assert_eq!(close(&mut state, file), answer);
+            assert_eq!(state.free, free);
+            state.clone()
+        };
+        closed(1, Ok(()), 0b00110);
+        closed(1, Err(5), 0b00110);
+        state = closed(3, Ok(()), 0b10110);
+        assert_eq!(open(&mut state, &opening(3, DOUBLE, 1, 1)), Ok(()));
+        assert_eq!((state.free, &state.files[3].buffers()[1].number), (0b10000, &2));
+        for number in 3..11 {
+            let (mut state, mut area) = state_and_area();
+            assert_eq!(call(number, &mut state, &mut area), expected(number));
+            assert_eq!(state.free, 1 << 4);
+        }
+    }
+
     /// A caller begins with the state before the first fresh start, frozen or not; with a part of it
     /// changed, it does not begin.
     #[test]

@@ -54,7 +54,8 @@ pub const WORKING: u64 = 3;
 pub const BUFFERS: u64 = 0;
 pub const WIDTH: u64 = 1;
 pub const FROZEN: u64 = 2;
-pub const POOL_FIELDS: u64 = 3;
+pub const FREE: u64 = 3;
+pub const POOL_FIELDS: u64 = 4;
 
 /// What ends the units of a channel, and what ends a printed state.
 const NO_MORE_UNITS: u64 = UNITS as u64;
@@ -131,11 +132,12 @@ fn set_turn(unit: &mut UnitState, kind: u64) {
     unit.request.get_or_insert(zeros).turn = turn;
 }
 
-/// Sets a field of the pool.
+/// Sets a field of the pool. The mask of the free buffers is taken modulo 2^32.
 pub fn set_pool_field(state: &mut State, field: u64, value: u64) {
     match field {
         BUFFERS => state.buffers = value,
         WIDTH => state.width = value,
+        FREE => state.free = value as u32,
         _ => state.frozen = value != 0,
     }
 }
@@ -177,8 +179,8 @@ pub fn unit_fields(unit: &UnitState) -> [u64; 6] {
 }
 
 /// The fields of the pool in their order.
-pub fn pool_fields(state: &State) -> [u64; 3] {
-    [state.buffers, state.width, u64::from(state.frozen)]
+pub fn pool_fields(state: &State) -> [u64; 4] {
+    [state.buffers, state.width, u64::from(state.frozen), u64::from(state.free)]
 }
 
 /// A state as it is printed: what is all zero is left out.
@@ -239,7 +241,21 @@ mod tests {
         }
         let mut state = State::default();
         set_pool_field(&mut state, FROZEN, 2);
-        assert_eq!(pool_fields(&state), [0, 0, 1]);
+        assert_eq!(pool_fields(&state), [0, 0, 1, 0]);
+    }
+
+    /// Each field of the pool is found where it was set; the mask has 32 bits.
+    #[test]
+    fn fields_of_the_pool() {
+        let mut state = State::default();
+        for (field, value) in [(BUFFERS, 7), (WIDTH, 8), (FROZEN, 1), (FREE, 9)] {
+            set_pool_field(&mut state, field, value);
+        }
+        assert_eq!(pool_fields(&state), [7, 8, 1, 9]);
+        for (value, free) in [(1 << 31, 1 << 31), (1 << 32, 0), (u64::MAX, (1 << 32) - 1), (5 << 32 | 6, 6)] {
+            set_pool_field(&mut state, FREE, value);
+            assert_eq!(pool_fields(&state), [7, 8, 1, free]);
+        }
     }
 
     /// Setting a kind makes a slot with zeros; a number that the kind has not is not set.
@@ -284,14 +300,15 @@ mod tests {
     #[test]
     fn states_as_they_are_printed() {
         let mut state = State::default();
-        assert_eq!(state_numbers(&state), [0, 0, 0, 0, 10, 0, 10, 0, 10, 0, 10, 0, 10, 16]);
+        assert_eq!(state_numbers(&state), [0, 0, 0, 0, 0, 10, 0, 10, 0, 10, 0, 10, 0, 10, 16]);
         set_pool_field(&mut state, BUFFERS, 3);
         set_pool_field(&mut state, WIDTH, 5);
+        set_pool_field(&mut state, FREE, 4_294_967_295);
         state.channels[1].mark = 7;
         set_unit_field(&mut state.channels[1].units[9], DECLARED, 1);
         set_unit_field(&mut state.channels[4].units[0], TURN_KIND, WORKING);
         set_file_field(&mut state.files[15], NUMBER, 2);
-        let mut expected = vec![3, 5, 0, 0, 10, 7, 9, 1, 0, 0, 0, 0, 0, 10, 0, 10, 0, 10];
+        let mut expected = vec![3, 5, 0, 4_294_967_295, 0, 10, 7, 9, 1, 0, 0, 0, 0, 0, 10, 0, 10, 0, 10];
         expected.extend([0, 0, 0, 3, 0, 0, 0, 0, 10, 15]);
         expected.extend([0, 0, 0, 0, 0, 0, 0, 0, 0, 0, 2, 0, 0, 0, 0, 0, 0, 0, 0, 0, 0, 0, 16]);
         assert_eq!(state_numbers(&state), expected);

@@ -7,7 +7,8 @@ use crate::pack::Pack;
 use crate::state::{Buffer, ChannelState, FileState, Slot, State, UnitState};
 use crate::word::Chosen;
 
-/// The pack of a sound state, with the area that the caller lends.
+/// The pack of a sound state, with the area that the caller lends. It finds the free buffers from its
+/// files, as the mask of a sound state tells them.
 pub fn pack_of(state: &State, area: &[u64]) -> Pack {
     Pack {
         channels: std::array::from_fn(|number| channel_of(&state.channels[number], state.frozen)),
@@ -28,6 +29,7 @@ pub fn state_of(pack: &Pack) -> State {
         width: pack.width as u64,
         // All channels are frozen together.
         frozen: pack.channels[0].frozen,
+        free: pack.free_buffers().iter().fold(0, |mask, buffer| mask | 1 << buffer),
         channels: std::array::from_fn(|number| channel_state(&pack.channels[number])),
         files: std::array::from_fn(|number| pack.files[number].as_ref().map(file_state).unwrap_or_default()),
     }
@@ -137,9 +139,9 @@ mod tests {
         Slot::Full { words, at, error }
     }
 
-    /// A pool of five buffers of four words, and a double file on unit 7 of channel 3.
+    /// A pool of five buffers of four words, and a double file on unit 7 of channel 3; it holds 1 and 4.
     fn state_with(output: bool, low: Slot, high: Slot) -> State {
-        let mut state = State { buffers: 5, width: 4, ..State::default() };
+        let mut state = State { buffers: 5, width: 4, free: 0b01101, ..State::default() };
         state.channels[3].mark = 9;
         state.channels[3].units[7].declared = true;
         state.files[15] = FileState {
@@ -224,6 +226,7 @@ mod tests {
     fn a_single_file_has_no_high_buffer() {
         let mut state = state_with(true, Slot::PartFilled { words: 1 }, Slot::Empty);
         state.files[15].double = false;
+        state.free = 0b11101;
         state.files[15].high = Buffer::default();
         assert_eq!(there_and_back(&state).file(15).expect("an open file").buffers, [1]);
     }

@@ -5,7 +5,7 @@ use mathlib.Core.List.{List, [], _∷_}
 use Prim.Native.Nat.{ℕ, zero, suc, _+_, _<_}
 use native.Mathlib.Nat.{le-of-suc-le-suc, not-suc-le-zero}
 use native.Mathlib.Omega.{arith}
-use lib.ListN.{length, getD}
+use lib.ListN.{length, getD, set}
 use Rattle.area.specs.Lists.{anyOf, allOf, allPairs}
 use Rattle.area.proofs.Walks.{by-test, true-not-false, and-left, and-right, and-both, or-first, or-second, all-at, at-all}
 
@@ -74,3 +74,33 @@ module _ {A : Type 0} (test : A → A → Bool) (d : A) where
   at-pairs (x ∷ xs) each =
       and-both (allOf (test x) xs) _ (at-all (test x) d xs (λ j h. each 0 (suc j) (omega arith) (omega arith)))
       (at-pairs xs (λ i j l h. each (suc i) (suc j) (omega arith) (omega arith)))
+
+-- ---- some element of a list in which one is replaced
+
+-- by one that passes if the other did
+pub any-alike : {A : Type 0} (test : A → Bool) (d : A) (xs : List A) (i : ℕ) (y : A) → test y ≡ test (getD xs i d) → anyOf test (set xs i y) ≡ anyOf test xs
+unfolding anyOf
+any-alike test d [] i y e = refl
+any-alike test d (x ∷ xs) zero y e = ap (λ (t : Bool). t || anyOf test xs) e
+any-alike test d (x ∷ xs) (suc i) y e = ap (λ (t : Bool). test x || t) (any-alike test d xs i y e)
+
+-- by any: with the one that went, and with the one that came, they are the same
+pub any-exchange : {A : Type 0} (test : A → Bool) (d : A) (xs : List A) (i : ℕ) (y : A) → i < length xs
+    → (anyOf test (set xs i y) || test (getD xs i d)) ≡ (anyOf test xs || test y)
+unfolding anyOf
+any-exchange test d [] i y l = absurd (not-suc-le-zero l)
+any-exchange test d (x ∷ xs) zero y l = swap (test y) (anyOf test xs) (test x)
+  where
+    swap : (a b c : Bool) → ((a || b) || c) ≡ ((c || b) || a)
+    swap true b true = refl
+    swap true true false = refl
+    swap true false false = refl
+    swap false true true = refl
+    swap false true false = refl
+    swap false false true = refl
+    swap false false false = refl
+any-exchange test d (x ∷ xs) (suc i) y l = under (test x) _ _ _ _ (any-exchange test d xs i y (le-of-suc-le-suc l))
+  where
+    under : (a b c e f : Bool) → (b || c) ≡ (e || f) → ((a || b) || c) ≡ ((a || e) || f)
+    under true b c e f q = refl
+    under false b c e f q = q

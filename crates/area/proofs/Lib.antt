@@ -10,3 +10,4 @@ pub mod Marks
 pub mod Bools
 pub mod Numbered
 pub mod Exactly
+pub mod Masks

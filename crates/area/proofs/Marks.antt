@@ -6,12 +6,12 @@ use Prim.Native.Nat.{ℕ, zero, suc, _+_, _-_, _≤_, _<_}
 use native.Mathlib.Decide.{decLt}
 use native.Mathlib.Numerals.{add-one}
 use native.Mathlib.Omega.{arith}
-use borrow.Author.Tests.{eq-eqb, ne-eqb}
-use lib.Dec.{eqb}
+use borrow.Author.Tests.{eq-eqb, ne-eqb, lt-ltb, le-ltb}
+use lib.Dec.{eqb, ltb}
 use lib.ListN.{getD, set}
 use Rattle.area.specs.declared.Found.{Found}
 use Rattle.area.specs.declared.Found.the-variants.{At, Nothing}
-use Rattle.area.specs.Lists.{anyOf, allOf, allPairs, countOf, firstAlong, countAlong, along}
+use Rattle.area.specs.Lists.{anyOf, allOf, allPairs, countOf, firstAlong, countAlong, along, isFound, numberOr}
 use Rattle.area.proofs.Walks.{true-not-false, and-left, and-right, and-both}
 use Rattle.area.proofs.Firsts.{First, first-finds, first-stop, first-go, first-none, count-stop, count-go, count-none}
 
@@ -241,3 +241,81 @@ first-lowest test n u p e =
     lower F at j h l =
         let back : along suc (j - u) u ≡ j = along-suc (j - u) u ∙ omega arith in
         ap test (sym back) ∙ F .before (j - u) (omega arith)
+
+-- ---- tests that agree, and a test that fails from a number on
+
+pub first-ext : (s t : ℕ → Bool) (n u : ℕ) → ((b : ℕ) → u ≤ b → b < u + n → s b ≡ t b) → firstAlong suc s n u ≡ firstAlong suc t n u
+unfolding firstAlong
+first-ext s t zero u h = refl
+first-ext s t (suc n) u h =
+    ap₂ (λ (b : Bool) (x : Found). cond b (At u) x) (h u (omega arith) (omega arith)) (first-ext s t n (suc u) (λ b l k. h b (omega arith) (omega arith)))
+
+pub count-ext : (s t : ℕ → Bool) (n u : ℕ) → ((b : ℕ) → u ≤ b → b < u + n → s b ≡ t b) → countAlong suc s n u ≡ countAlong suc t n u
+unfolding countAlong
+count-ext s t zero u h = refl
+count-ext s t (suc n) u h =
+    ap₂ (λ (b : Bool) (x : ℕ). cond b 1 0 + x) (h u (omega arith) (omega arith)) (count-ext s t n (suc u) (λ b l k. h b (omega arith) (omega arith)))
+
+-- past the first that passes, the first of the others is the next
+pub first-next : (test : ℕ → Bool) (n u p : ℕ) → firstAlong suc test n u ≡ At p
+    → firstAlong suc (λ b. test b && not (eqb p b)) n u ≡ firstAlong suc test (u + n - suc p) (suc p)
+unfolding firstAlong
+first-next test zero u p e = true-not-false refl (sym (ap isFound e))
+first-next test (suc n) u p e = go (test u) refl e (first-next test n (suc u) p)
+  where
+    go : (t : Bool) → test u ≡ t → cond t (At u) (firstAlong suc test n (suc u)) ≡ At p
+        → (firstAlong suc test n (suc u) ≡ At p → firstAlong suc (λ b. test b && not (eqb p b)) n (suc u) ≡ firstAlong suc test (suc u + n - suc p) (suc p))
+        → cond (t && not (eqb p u)) (At u) (firstAlong suc (λ b. test b && not (eqb p b)) n (suc u)) ≡ firstAlong suc test (u + suc n - suc p) (suc p)
+    go true q k later =
+        let here : u ≡ p = ap (λ (x : Found). numberOr x u) k in
+        let left : n ≡ u + suc n - suc p = omega arith in
+        let start : suc u ≡ suc p = omega arith in
+        cond-false _ _ (ap not (eq-eqb p u (sym here)))
+        ∙ first-ext (λ b. test b && not (eqb p b)) test n (suc u) (λ b l h. others (test b) (eqb p b) (ne-eqb p b (λ (r : p ≡ b). omega arith)))
+        ∙ ap₂ (firstAlong suc test) left start
+      where
+        others : (a c : Bool) → c ≡ false → (a && not c) ≡ a
+        others true c r = ap not r
+        others false c r = refl
+    go false q k later =
+        let left : suc u + n - suc p ≡ u + suc n - suc p = omega arith in
+        later k ∙ ap (λ (j : ℕ). firstAlong suc test j (suc p)) left
+
+-- none of them passes
+first-nothing : (test : ℕ → Bool) (n u : ℕ) → ((b : ℕ) → u ≤ b → test b ≡ false) → firstAlong suc test n u ≡ Nothing
+unfolding firstAlong
+first-nothing test zero u h = refl
+first-nothing test (suc n) u h = cond-false _ _ (h u (omega arith)) ∙ first-nothing test n (suc u) (λ b l. h b (omega arith))
+
+past-end : (test : ℕ → Bool) (m b : ℕ) → m ≤ b → (ltb b m && test b) ≡ false
+past-end test m b h = ap (λ (t : Bool). t && test b) (le-ltb b m h)
+
+before-end : (test : ℕ → Bool) (m b : ℕ) → b < m → (ltb b m && test b) ≡ test b
+before-end test m b h = ap (λ (t : Bool). t && test b) (lt-ltb b m h)
+
+-- of the numbers below m alone: as many more may be looked at
+pub first-below : (test : ℕ → Bool) (m n k : ℕ) → m ≤ n → firstAlong suc (λ b. ltb b m && test b) (n - k) k ≡ firstAlong suc test (m - k) k
+unfolding firstAlong
+first-below test m n k h = go (m - k) k refl
+  where
+    go : (d u : ℕ) → m - u ≡ d → firstAlong suc (λ b. ltb b m && test b) (n - u) u ≡ firstAlong suc test d u
+    go zero u e = first-nothing (λ b. ltb b m && test b) (n - u) u (λ b l. past-end test m b (omega arith))
+    go (suc d) u e =
+        let left : n - u ≡ suc (n - suc u) = omega arith in
+        ap (λ (j : ℕ). firstAlong suc (λ b. ltb b m && test b) j u) left
+        ∙ ap₂ (λ (b : Bool) (x : Found). cond b (At u) x) (before-end test m u (omega arith)) (go d (suc u) (omega arith))
+
+pub count-below : (test : ℕ → Bool) (m n k : ℕ) → m ≤ n → countAlong suc (λ b. ltb b m && test b) (n - k) k ≡ countAlong suc test (m - k) k
+unfolding countAlong
+count-below test m n k h = go (m - k) k refl
+  where
+    none : (j u : ℕ) → m ≤ u → countAlong suc (λ b. ltb b m && test b) j u ≡ 0
+    none zero u l = refl
+    none (suc j) u l = ap₂ (λ (b : Bool) (x : ℕ). cond b 1 0 + x) (past-end test m u l) (none j (suc u) (omega arith))
+
+    go : (d u : ℕ) → m - u ≡ d → countAlong suc (λ b. ltb b m && test b) (n - u) u ≡ countAlong suc test d u
+    go zero u e = none (n - u) u (omega arith)
+    go (suc d) u e =
+        let left : n - u ≡ suc (n - suc u) = omega arith in
+        ap (λ (j : ℕ). countAlong suc (λ b. ltb b m && test b) j u) left
+        ∙ ap₂ (λ (b : Bool) (x : ℕ). cond b 1 0 + x) (before-end test m u (omega arith)) (go d (suc u) (omega arith))

@@ -1,4 +1,5 @@
 pub mod Lists
+pub mod Masks
 pub mod Numbered
 pub mod Parts
 pub mod Refusals

@@ -35,6 +35,11 @@ abbrev pub isFound : Found → Bool
 isFound (At u) = true
 isFound Nothing = false
 
+-- the number that it found, another if none
+abbrev pub numberOr : Found → ℕ → ℕ
+numberOr (At u) none = u
+numberOr Nothing none = none
+
 -- how many of those numbers pass the test
 unfoldable pub countAlong : (ℕ → ℕ) → (ℕ → Bool) → ℕ → ℕ → ℕ
 countAlong next test zero u = 0

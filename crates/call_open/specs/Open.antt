@@ -1,19 +1,16 @@
 -- Open (document 01, "Files and buffers"). Assumes nothing.
-use Prim.Native.Nat.{ℕ, _+_, _/_, _%_}
+use Prim.Native.Nat.{ℕ, _/_, _%_}
 use mathlib.Core.Bool.{Bool, not, _||_}
-use mathlib.Core.List.{List, [], _∷_}
+use mathlib.Core.List.{[], _∷_}
 use lib.Dec.{ltb, eqb}
-use Rattle.area.specs.declared.Found.{Found}
-use Rattle.area.specs.declared.Found.the-variants.{At, Nothing}
 use Rattle.area.specs.Refusals.{Rows, lowest}
 use Rattle.channel.specs.declared.Channel.{Channel}
 use Rattle.channel.specs.Units.{declaredAt}
 use Rattle.file.specs.declared.File.{File}
 use Rattle.file.specs.declared.Wish.{Wish}
 use Rattle.file.specs.Sizes.{sizesFit, buffersFor, openedFile}
-use Rattle.pool.specs.Free.{lowestFree, freeCount}
+use Rattle.pool.specs.declared.FreeBuffers.{FreeBuffers}
 use Rattle.file.specs.declared.FileChange.{FileChange}
-use Rattle.call_open.specs.declared.Free.{Free}
 use Rattle.file.specs.Changes.{fileChange}
 
 -- "flag 1 output, 2 double, 4 sequence, 8 check"
@@ -37,24 +34,10 @@ wishOf channel unit flags size rlen = record {
   rlen = rlen;
 }
 
--- ---- the free buffers
-
-abbrev pub numberOf : Found → ℕ
-numberOf (At b) = b
-numberOf Nothing = 0
-
--- the lowest free one of the buffers k up to m
-abbrev pub lowestNumber : ℕ → List File → ℕ → ℕ
-lowestNumber m fs k = numberOf (lowestFree m fs k)
-
--- how many are free, and "the lowest-numbered free buffers": the lowest, and the lowest above that
-unfoldable pub freeOf : ℕ → List File → Free
-freeOf m fs = record { count = freeCount m fs; low = lowestNumber m fs 0; high = lowestNumber m fs (lowestNumber m fs 0 + 1) }
-
 -- ---- its refusals
 
 -- of whether row 1 applies and whether the unit is bound, the file of that number, the channel, the free buffers, W, and what is asked for
-unfoldable pub openRows : Bool → Bool → File → Channel → Free → ℕ → Wish → Rows
+unfoldable pub openRows : Bool → Bool → File → Channel → FreeBuffers → ℕ → Wish → Rows
 openRows c1 bound f c free w q =
     -- "an argument is outside its range", "a state passed back is unsound"
     (1, c1)
@@ -68,11 +51,11 @@ openRows c1 bound f c free w q =
     ∷ (13, not (sizesFit w (q .sequence) (q .check) (q .size) (q .rlen)))
     ∷ []
 
-abbrev pub openRefusal : Bool → Bool → File → Channel → Free → ℕ → Wish → ℕ
+abbrev pub openRefusal : Bool → Bool → File → Channel → FreeBuffers → ℕ → Wish → ℕ
 openRefusal c1 bound f c free w q = lowest (openRows c1 bound f c free w q)
 
 -- ---- its effect
 
 -- "The lowest-numbered free buffers are taken; they start empty."
-unfoldable pub openOn : Bool → Bool → File → Channel → Free → ℕ → Wish → FileChange
+unfoldable pub openOn : Bool → Bool → File → Channel → FreeBuffers → ℕ → Wish → FileChange
 openOn c1 bound f c free w q = fileChange (openRefusal c1 bound f c free w q) f (openedFile q (free .low) (free .high))

@@ -4,16 +4,8 @@ mod closes;
 mod opens;
 
 pub use closes::close_on;
-pub use opens::free_of;
 pub use opens::open_on;
 pub use opens::wish_of;
 
 // All four flags of an open together.
 pub const FLAGS: u8 = 15;
-
-// The free buffers: how many, and the two lowest of them.
-pub struct Free {
-    pub count: usize,
-    pub low: u8,
-    pub high: u8,
-}

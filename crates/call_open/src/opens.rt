@@ -1,6 +1,4 @@
 // Open on one file: a file number gets a unit and the lowest-numbered free buffers.
-use crate::Free;
-use area::Found;
 use area::row;
 use channel::Channel;
 use channel::is_declared;
@@ -10,12 +8,10 @@ use file::Wish;
 use file::buffers_for;
 use file::opened_file;
 use file::sizes_fit;
-use pool::FILES;
-use pool::free_count;
-use pool::lowest_free;
+use pool::FreeBuffers;
 ghost use mathlib.Core.Path.{_≡_};
 ghost use Prim.Native.Nat.{_<_};
-ghost use Rattle.call_open.specs.Open.{wishOf, lowestNumber, freeOf, openRefusal, openOn};
+ghost use Rattle.call_open.specs.Open.{wishOf, openRefusal, openOn};
 
 // What the arguments of an open ask for: flag 1 is output, 2 double, 4 sequence, 8 check.
 pub fn wish_of(channel: u8, unit: u8, flags: u8, size: u16, rlen: u16) -> Wish
@@ -33,29 +29,8 @@ pub fn wish_of(channel: u8, unit: u8, flags: u8, size: u16, rlen: u16) -> Wish
     }
 }
 
-// The number of the lowest free one of the buffers k up to m, 0 if none of them is free.
-fn lowest_number(m: u8, files: [File; FILES], k: usize) -> u8
-    ensures { λ r. ⌜ r ≡ lowestNumber m files k ⌝ }
-{
-    let x = lowest_free(m, files, k);
-    match x {
-        Found::At(b) => b as u8,
-        Found::Nothing => 0,
-    }
-}
-
-// The free buffers of a pool: how many, and the two lowest.
-pub fn free_of(m: u8, files: [File; FILES]) -> Free
-    ensures { λ r. ⌜ r ≡ freeOf m files ⌝ }
-{
-    let count = free_count(m, files);
-    let low = lowest_number(m, files, 0);
-    let high = lowest_number(m, files, (low as usize) + 1);
-    Free { count, low, high }
-}
-
 // The refusal of an open, 0 for none.
-fn open_refusal(c1: bool, bound: bool, f: File, c: Channel, free: Free, w: u16, q: Wish) -> u8
+fn open_refusal(c1: bool, bound: bool, f: File, c: Channel, free: FreeBuffers, w: u16, q: Wish) -> u8
     ensures { λ r. ⌜ r ≡ openRefusal c1 bound f c free w q ⌝ }
 {
     let known = is_declared(c, q.unit as usize);
@@ -74,7 +49,7 @@ pub fn open_on(
     bound: bool,
     f: File,
     c: Channel,
-    free: Free,
+    free: FreeBuffers,
     w: u16,
     q: Wish,
 ) -> FileChange

@@ -27,7 +27,8 @@ use Rattle.state.specs.Places.{beforeStart}
 use Rattle.state.specs.Stores.{withFile, withChannel}
 use Rattle.state_sound.specs.Soundness.{numbersInRange, noBufferHeldTwice, eachHasItsOwn, requestsFit, channelsWork, readsAloneTake, writesHaveBlocks, fullBlocksRight, partBuffersRight, placesRight, attemptsInLimit, sound}
 use Rattle.pack_start.specs.Fresh.{freshRows, freshState, freshBy}
-use Rattle.call_open.specs.Open.{freeOf, openRows, openOn}
+use Rattle.call_open.specs.Open.{openRows, openOn}
+use Rattle.pool.specs.Free.{freeOf}
 use Rattle.pack_open.specs.Open.{openBy}
 use Rattle.pack_request.specs.Changes.{changedState}
 use Rattle.call_request.specs.Ask.{opOf, askRefusal, askedFile, askedChannel, askOn}

@@ -14,7 +14,8 @@ use Rattle.state.specs.Places.{fileAt, channelAt}
 use Rattle.state_sound.specs.Soundness.{sound}
 use Rattle.pack_record.specs.Misused.{misused}
 use Rattle.pack_start.specs.Fresh.{freshRows}
-use Rattle.call_open.specs.Open.{wishOf, freeOf, openRows}
+use Rattle.call_open.specs.Open.{wishOf, openRows}
+use Rattle.pool.specs.Free.{freeOf}
 use Rattle.pack_open.specs.Open.{openOff}
 use Rattle.call_open.specs.Close.{closeRows}
 use Rattle.pack_open.specs.Close.{closeOff}

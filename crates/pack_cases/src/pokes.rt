@@ -22,6 +22,10 @@ fn size(n: u64) -> u16 {
     (n % 65536) as u16
 }
 
+fn mask(n: u64) -> u32 {
+    (n % 4294967296) as u32
+}
+
 fn place(n: u64) -> usize {
     (n % 256) as usize
 }
@@ -252,6 +256,7 @@ fn pool_with(s: State, field: u64, v: u64) -> State {
     match field {
         0 => t.m = byte(v),
         1 => t.w = size(v),
+        3 => t.free = mask(v),
         _ => t.frozen = v != 0,
     }
     t

@@ -198,6 +198,7 @@ pub fn state(s: State) {
     answer(s.m as u64);
     number(s.w as u64);
     number(flag(s.frozen));
+    number(s.free as u64);
     channels(s);
     files(s);
     number(FILES as u64);

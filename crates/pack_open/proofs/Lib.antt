@@ -1,3 +1,4 @@
 pub mod Frames
 pub mod OpenTheorems
 pub mod CloseTheorems
+pub mod ByMask

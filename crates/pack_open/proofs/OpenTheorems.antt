@@ -19,7 +19,7 @@ use Rattle.channel.specs.Units.{unitCount, declaredAt}
 use Rattle.file.specs.declared.File.{File}
 use Rattle.file.specs.declared.Wish.{Wish}
 use Rattle.file.specs.Sizes.{sizesFit, buffersFor, openedFile, closedFile}
-use Rattle.pool.specs.Free.{fileCount, heldBy, isHeld, isFree, freeCount, Lowest}
+use Rattle.pool.specs.Free.{fileCount, heldBy, isHeld, isFree, freeCount, lowestNumber, freeOf, Lowest}
 use Rattle.pool.specs.Serving.{serves, isBound}
 use Rattle.state_sound.proofs.Changes.{opened-sound}
 use Rattle.state_sound.proofs.Replaced.{unbound}
@@ -30,12 +30,12 @@ use Rattle.state_sound.specs.Soundness.{sound}
 use Rattle.state_sound.proofs.Everywhere.{by-place}
 use Rattle.state_sound.proofs.Facts.{sound-facts, facts-sound}
 use Rattle.state_sound.proofs.Kept.{open-kept as open-facts}
-use Rattle.call_open.specs.Open.{isSet, wishOf, lowestNumber, freeOf, openRows, openOn, allFlags}
+use Rattle.call_open.specs.Open.{isSet, wishOf, openRows, openOn, allFlags}
 use Rattle.pack_open.specs.Open.{openOff, openChange, openBy}
 use Rattle.state.proofs.Answered.{not-so, state-refused, state-accepted}
 use Rattle.file.proofs.Changed.{file-accepted}
 use Rattle.pack_open.proofs.Frames.{OnlyFile, store-frame}
-use Rattle.call_open.proofs.Frees.{first-free, second-free}
+use Rattle.pool.proofs.Lowest.{first-free, second-free}
 
 module _ (s : State) (file channel unit flags size rlen : ℕ) where
   -- the rows of this open

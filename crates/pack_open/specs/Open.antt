@@ -3,7 +3,7 @@ use Prim.Native.Nat.{ℕ}
 use mathlib.Core.Bool.{Bool, not, _||_}
 use lib.Dec.{leb, ltb}
 use Rattle.channel.specs.Units.{unitCount}
-use Rattle.pool.specs.Free.{fileCount}
+use Rattle.pool.specs.Free.{fileCount, freeOf}
 use Rattle.pool.specs.Serving.{isBound}
 use Rattle.state.specs.declared.State.{State}
 use Rattle.state.specs.Places.{channelCount, fileAt, channelAt}
@@ -12,7 +12,7 @@ use Rattle.state_sound.specs.Soundness.{sound}
 use Rattle.state.specs.declared.Called.{Called}
 use Rattle.file.specs.declared.FileChange.{FileChange}
 use Rattle.state.specs.Answers.{called}
-use Rattle.call_open.specs.Open.{allFlags, wishOf, freeOf, openOn}
+use Rattle.call_open.specs.Open.{allFlags, wishOf, openOn}
 
 -- row 1: "Files 0 to 15", "Channels 0 to 4", "Units 0 to 9", four flags, a sound state
 abbrev pub openOff : State → ℕ → ℕ → ℕ → ℕ → Bool

@@ -1,10 +1,10 @@
 // Open on a whole state.
 use call_open::FLAGS;
-use call_open::free_of;
 use call_open::open_on;
 use call_open::wish_of;
 use channel::UNITS;
 use pool::FILES;
+use pool::free_in;
 use pool::is_bound;
 use state::CHANNELS;
 use state::Called;
@@ -37,7 +37,7 @@ pub fn open(s: State, file: u8, channel: u8, unit: u8, flags: u8, size: u16, rle
     let bound = is_bound(files, channel, unit);
     let f = file_at(s, file as usize);
     let c = channel_at(s, channel as usize);
-    let free = free_of(s.m, files);
+    let free = free_in(s.free);
     let q = wish_of(channel, unit, flags, size, rlen);
     let x = open_on(c1, bound, f, c, free, s.w, q);
     if x.refusal != 0 {

@@ -38,7 +38,8 @@ use Rattle.file.specs.declared.File.{File}
 use Rattle.file.specs.Sizes.{closedFile}
 use Rattle.file_input.specs.Delivers.{blockFits}
 use Rattle.pool.specs.Free.{fileCount}
-use Rattle.pool.specs.Serving.{serves, servingFile, numberOr}
+use Rattle.area.specs.Lists.{numberOr}
+use Rattle.pool.specs.Serving.{serves, servingFile}
 use Rattle.state_sound.specs.Files.{shareBuffer, shareUnit, apart}
 use Rattle.state_sound.proofs.Replaced.{alike-self, unbound}
 use Rattle.state.specs.declared.State.{State}

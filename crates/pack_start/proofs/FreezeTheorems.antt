@@ -135,7 +135,7 @@ thaw-twice c = start-twice c false
 
 pub thaw-thaw : (s : State) → thawedState (thawedState s) ≡ thawedState s
 unfolding thawedState
-thaw-thaw s = ap (λ (cs : List Channel). record { m = s .m; w = s .w; frozen = false; channels = cs; files = s .files }) (map-twice thawOf thaw-twice (s .channels))
+thaw-thaw s = ap (λ (cs : List Channel). record { m = s .m; w = s .w; frozen = false; channels = cs; files = s .files; free = s .free }) (map-twice thawOf thaw-twice (s .channels))
 
 -- ---- "After every accepted call, a channel that is idle and not frozen starts an activity .. if any request waits."
 

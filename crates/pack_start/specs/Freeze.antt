@@ -20,11 +20,11 @@ stateRefusal s = lowest (stateRows s)
 
 -- "Freeze stops starts on all channels"
 unfoldable pub frozenState : State → State
-frozenState s = record { m = s .m; w = s .w; frozen = true; channels = s .channels; files = s .files }
+frozenState s = record { m = s .m; w = s .w; frozen = true; channels = s .channels; files = s .files; free = s .free }
 
 -- "Thaw lets starts happen.": every channel that is idle starts what is due
 unfoldable pub thawedState : State → State
-thawedState s = record { m = s .m; w = s .w; frozen = false; channels = map thawOf (s .channels); files = s .files }
+thawedState s = record { m = s .m; w = s .w; frozen = false; channels = map thawOf (s .channels); files = s .files; free = s .free }
 
 unfoldable pub freezeBy : State → Called
 freezeBy s = called (stateRefusal s) s (frozenState s)

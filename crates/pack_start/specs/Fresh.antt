@@ -8,6 +8,7 @@ use Rattle.area.specs.Refusals.{Rows, lowest}
 use Rattle.channel.specs.Units.{unitCount, freshOf}
 use Rattle.file.specs.Sizes.{closedFile}
 use Rattle.pool.specs.Free.{fileCount, poolFits}
+use Rattle.pool.specs.Masks.{allFree}
 use Rattle.state.specs.declared.State.{State}
 use Rattle.state.specs.declared.Called.{Called}
 use Rattle.pack_start.specs.declared.Masks.{Masks}
@@ -43,6 +44,7 @@ freshState m w k = record {
   frozen = false;
   channels = freshOf (k .a) ∷ freshOf (k .b) ∷ freshOf (k .c) ∷ freshOf (k .d) ∷ freshOf (k .e) ∷ [];
   files = replicate fileCount closedFile;
+  free = allFree m;
 }
 
 -- of a state, an area of n words, and what the start asks for

@@ -55,6 +55,7 @@ pub fn thawed_state(s: State) -> State
         frozen: false,
         channels: started,
         files,
+        free: s.free,
     }
 }
 

@@ -4,6 +4,7 @@ use area::row;
 use channel::UNITS;
 use file::closed_file;
 use pool::FILES;
+use pool::all_free;
 use pool::pool_fits;
 use state::Called;
 use state::State;
@@ -56,12 +57,14 @@ pub fn fresh_state(m: u8, w: u16, masks: Masks) -> State
     let f = closed_file();
     let channels = [a, b, c, d, e];
     let files = [f; FILES];
+    let free = all_free(m);
     State {
         m,
         w,
         frozen: false,
         channels,
         files,
+        free,
     }
 }
 

@@ -1,13 +1,14 @@
--- Which buffers of a pool are free (document 01, "Sizes"). Assumes nothing.
+-- Which buffers of a pool are free (document 01, "Sizes"): held by no open file. Assumes nothing.
 use Prim.Native.Nat.{ℕ, suc, _+_, _-_, _≤_, _<_}
 use mathlib.Core.Path.{_≡_}
 use mathlib.Core.Bool.{Bool, true, false, not, cond, _&&_, _||_}
 use mathlib.Core.List.{List, [], _∷_}
 use lib.Dec.{leb, eqb}
 use Rattle.area.specs.declared.Found.{Found}
-use Rattle.area.specs.Lists.{anyOf, countOf, firstAlong, countAlong}
+use Rattle.area.specs.Lists.{anyOf, countOf, firstAlong, countAlong, numberOr}
 use Rattle.file.specs.declared.File.{File}
 use Rattle.file.specs.Sizes.{buffersFor}
+use Rattle.pool.specs.declared.FreeBuffers.{FreeBuffers}
 
 -- "Files 0 to 15."
 abbrev pub fileCount : ℕ
@@ -52,6 +53,14 @@ pub record Lowest (m : ℕ) (fs : List File) (k b : ℕ) : Type 0 where
 -- how many buffers of the pool are free
 unfoldable pub freeCount : ℕ → List File → ℕ
 freeCount m fs = countAlong suc (isFree fs) m 0
+
+-- the number of the lowest free one of the buffers k up to m, past the last if none is
+abbrev pub lowestNumber : ℕ → List File → ℕ → ℕ
+lowestNumber m fs k = numberOr (lowestFree m fs k) bufferLimit
+
+-- how many are free, and "the lowest-numbered free buffers": the lowest, and the lowest above that
+unfoldable pub freeOf : ℕ → List File → FreeBuffers
+freeOf m fs = record { count = freeCount m fs; low = lowestNumber m fs 0; high = lowestNumber m fs (lowestNumber m fs 0 + 1) }
 
 -- how many open files hold buffer b
 abbrev pub holders : List File → ℕ → ℕ

@@ -1,2 +1,3 @@
 pub mod Free
 pub mod Serving
+pub mod Masks

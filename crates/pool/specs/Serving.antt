@@ -5,8 +5,7 @@ use mathlib.Core.List.{List}
 use lib.Dec.{eqb}
 use lib.ListN.{getD}
 use Rattle.area.specs.declared.Found.{Found}
-use Rattle.area.specs.declared.Found.the-variants.{At, Nothing}
-use Rattle.area.specs.Lists.{firstAlong, isFound}
+use Rattle.area.specs.Lists.{firstAlong, isFound, numberOr}
 use Rattle.file.specs.declared.File.{File}
 use Rattle.file.specs.Sizes.{closedFile}
 use Rattle.pool.specs.Free.{fileCount}
@@ -20,10 +19,6 @@ unfoldable pub servingFile : List File → ℕ → ℕ → Found
 servingFile fs channel unit = firstAlong suc (λ i. serves channel unit (getD fs i closedFile)) fileCount 0
 
 -- its number; past the last file if there is none
-abbrev pub numberOr : Found → ℕ → ℕ
-numberOr (At i) none = i
-numberOr Nothing none = none
-
 abbrev pub fileServing : List File → ℕ → ℕ → ℕ
 fileServing fs channel unit = numberOr (servingFile fs channel unit) fileCount
 

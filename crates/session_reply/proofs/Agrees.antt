@@ -5,7 +5,7 @@ use mathlib.Core.List.{List, []}
 use Prim.Native.Nat.{ℕ}
 use borrow.Author.Tests.{ne-eqb, eqb-false}
 use lib.Dec.{eqb}
-use lib.ListN.{length}
+use lib.ListN.{length, getD}
 use lib.Seq.{set-getD}
 use Rattle.area.specs.Parts.{partOf}
 use Rattle.area.specs.Refusals.{lowest}
@@ -17,6 +17,7 @@ use Rattle.channel_outcomes.specs.Rules.{resultNumber}
 use Rattle.channel_turns.specs.Scans.{workingIn, unitNumber}
 use Rattle.channel_turns.specs.Turns.{judgeOf, bookOf}
 use Rattle.file.specs.declared.File.{File}
+use Rattle.file.specs.declared.FileChange.{FileChange}
 use Rattle.file.specs.Sizes.{closedFile}
 use Rattle.session_frame.specs.declared.Masks as frame
 use Rattle.session_frame.specs.declared.Frame.{Frame}
@@ -28,12 +29,16 @@ use Rattle.session_frame.specs.declared.PutFrame.{PutFrame}
 use Rattle.session_frame.specs.declared.Frame.the-variants.{Malformed, Fresh, Open, Close, Ask, Report, Get, Put, Seal, Skip, Freeze, Thaw}
 use Rattle.session_frame.specs.Frames.{frameOf}
 use Rattle.pool.specs.Free.{fileCount}
+use Rattle.pool.specs.Masks.{freeAfter}
+use Rattle.pool.specs.Serving.{isBound}
+use Rattle.pool.proofs.FreeMasks.{after-same}
 use Rattle.state.specs.declared.State.{State}
 use Rattle.state.specs.Places.{noChannel, fileAt, channelAt}
 use Rattle.state.specs.Stores.{withFile, withChannel}
 use Rattle.state_sound.specs.Soundness.{sound}
 use Rattle.pack_start.specs.Fresh.{freshRefusal, freshState, freshBy}
-use Rattle.call_open.specs.Open.{openOn}
+use Rattle.call_open.specs.Open.{wishOf, openOn}
+use Rattle.pack_open.proofs.ByMask.{by-mask}
 use Rattle.pack_open.specs.Open.{openChange, openBy}
 use Rattle.call_open.specs.Close.{closeOn}
 use Rattle.pack_open.specs.Close.{closeChange, closeBy}
@@ -61,11 +66,13 @@ use Rattle.session_reply.specs.Turns.{stateNumber, wholeOf, changeOf, ar
 
 same-channel : (s : State) (j : ℕ) → withChannel s j (channelAt s j) ≡ s
 unfolding withChannel
-same-channel s j = ap (λ (cs : List Channel). record { m = s .m; w = s .w; frozen = s .frozen; channels = cs; files = s .files }) (set-getD (s .channels) j noChannel)
+same-channel s j = ap (λ (cs : List Channel). record { m = s .m; w = s .w; frozen = s .frozen; channels = cs; files = s .files; free = s .free }) (set-getD (s .channels) j noChannel)
 
 same-file : (s : State) (i : ℕ) → withFile s i (fileAt s i) ≡ s
 unfolding withFile
-same-file s i = ap (λ (fs : List File). record { m = s .m; w = s .w; frozen = s .frozen; channels = s .channels; files = fs }) (set-getD (s .files) i closedFile)
+same-file s i =
+    ap (λ (fs : List File). record { m = s .m; w = s .w; frozen = s .frozen; channels = s .channels; files = fs; free = freeAfter (s .free) (fileAt s i) (getD fs i closedFile) }) (set-getD (s .files) i closedFile)
+    ∙ sym (ap (λ (n : ℕ). record { m = s .m; w = s .w; frozen = s .frozen; channels = s .channels; files = s .files; free = n }) (after-same (s .free) (fileAt s i) (fileAt s i) refl))
 
 same-both : (s : State) (i j : ℕ) → withFile (withChannel s j (channelAt s j)) i (fileAt s i) ≡ s
 same-both s i j = ap (λ (t : State). withFile t i (fileAt s i)) (same-channel s j) ∙ same-file s i
@@ -159,7 +166,15 @@ module _ (s : State) (area words : List ℕ) where
   unfolding Right replyOn turnedFrom areaFrom wholeOf changeOf areaOf replyTo openBy openChangeOn openOn
   open-right q =
       let x = openChange s (q .file) (q .channel) (q .unit) (q .flags) (q .size) (q .rlen) in
-      ap (λ (u : State). quietly (x .refusal) u area) (stored-file s (q .file) (q .channel) (x .refusal) (x .file) (refused-file (x .refusal) (fileAt s (q .file)) _))
+      ap (λ (y : FileChange). record {
+        state = withFile (withChannel s (q .channel) (channelAt s (q .channel))) (q .file) (y .file);
+        area = area;
+        answer = answerOr (y .refusal) answer.Done;
+        words = [];
+      })
+      (by-mask s (q .file) (q .channel) (q .unit) (q .flags) (isBound (s .files) (q .channel) (q .unit)) (fileAt s (q .file)) (channelAt s (q .channel)) (s .w)
+      (wishOf (q .channel) (q .unit) (q .flags) (q .size) (q .rlen)))
+      ∙ ap (λ (u : State). quietly (x .refusal) u area) (stored-file s (q .file) (q .channel) (x .refusal) (x .file) (refused-file (x .refusal) (fileAt s (q .file)) _))
 
   close-right : (file : ℕ) → Right (Close file)
   unfolding Right replyOn turnedFrom areaFrom wholeOf changeOf areaOf replyTo closeBy closeChangeOn closeOn

@@ -14,14 +14,15 @@ use Rattle.file.specs.declared.File.{File}
 use Rattle.file.specs.declared.Wish.{Wish}
 use Rattle.file_input.specs.Gets.{gotStart, gotWords}
 use Rattle.pool.specs.Free.{fileCount}
+use Rattle.pool.specs.Masks.{freeIn}
 use Rattle.pool.specs.Serving.{isBound}
 use Rattle.state.specs.declared.State.{State}
 use Rattle.state.specs.Places.{channelCount}
 use Rattle.file.specs.declared.FileChange.{FileChange}
-use Rattle.call_open.specs.declared.Free.{Free}
+use Rattle.pool.specs.declared.FreeBuffers.{FreeBuffers}
 use Rattle.pack_start.specs.declared.Masks.{Masks}
 use Rattle.pack_start.specs.Fresh.{freshRefusal, freshState}
-use Rattle.call_open.specs.Open.{wishOf, freeOf, openOn}
+use Rattle.call_open.specs.Open.{wishOf, openOn}
 use Rattle.call_request.specs.declared.AskChange.{AskChange}
 use Rattle.call_request.specs.declared.ReportChange.{ReportChange}
 use Rattle.call_request.specs.Ask.{askOn}
@@ -40,14 +41,14 @@ use Rattle.session_reply.specs.Replies.{answerOr, gotAnswer, masksOf}
 use Rattle.session_reply.specs.Changes.{quietChange, openWrong, openChangeOn, askChangeOn, reportChangeOn, reportAreaOn, getChangeOn, putChangeOn, putAreaOn, sealChangeOn, sealAreaOn}
 use Rattle.session_reply.specs.Turns.{wholeOf}
 
-pub opened-as : (unsound : Bool) (m w : ℕ) (files : List File) (f : File) (c : Channel) (q : OpenFrame)
-    (bound : Bool) (free : Free) (wish : Wish) (x : FileChange) (r : Change)
-    → bound ≡ isBound files (q .channel) (q .unit) → free ≡ freeOf m files → wish ≡ wishOf (q .channel) (q .unit) (q .flags) (q .size) (q .rlen)
+pub opened-as : (unsound : Bool) (w mask : ℕ) (files : List File) (f : File) (c : Channel) (q : OpenFrame)
+    (bound : Bool) (free : FreeBuffers) (wish : Wish) (x : FileChange) (r : Change)
+    → bound ≡ isBound files (q .channel) (q .unit) → free ≡ freeIn mask → wish ≡ wishOf (q .channel) (q .unit) (q .flags) (q .size) (q .rlen)
     → x ≡ openOn (openWrong unsound (q .file) (q .channel) (q .unit) (q .flags)) bound f c free w wish → r ≡ quietChange (x .refusal) (x .file) c
-    → r ≡ openChangeOn unsound m w files f c q
+    → r ≡ openChangeOn unsound w mask files f c q
 unfolding openChangeOn
-opened-as unsound m w files f c q bound free wish x r eb ef eq ex er =
-    let e : x ≡ openOn (openWrong unsound (q .file) (q .channel) (q .unit) (q .flags)) (isBound files (q .channel) (q .unit)) f c (freeOf m files) w
+opened-as unsound w mask files f c q bound free wish x r eb ef eq ex er =
+    let e : x ≡ openOn (openWrong unsound (q .file) (q .channel) (q .unit) (q .flags)) (isBound files (q .channel) (q .unit)) f c (freeIn mask) w
     (wishOf (q .channel) (q .unit) (q .flags) (q .size) (q .rlen)) =
     ex ∙ rw (eb, ef, eq) in
     er ∙ ap (λ (y : FileChange). quietChange (y .refusal) (y .file) c) e

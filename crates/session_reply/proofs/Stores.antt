@@ -7,7 +7,7 @@ use native.Mathlib.Omega.{arith}
 use borrow.Author.Tests.{ltb-true, ltb-false}
 use lib.Dec.{ltb, eqb}
 use lib.ListN.{length, getD, set, length-map, List·getD-eq-default}
-use lib.Seq.{set-getD, set-out}
+use lib.Seq.{set-getD, set-out, getD-set-same}
 use Rattle.area.proofs.Marks.{cond-true, cond-false}
 use Rattle.area.proofs.Walks.{by-test}
 use Rattle.channel.specs.declared.Channel.{Channel}
@@ -17,6 +17,8 @@ use Rattle.file.specs.Sizes.{closedFile}
 use Rattle.session_frame.specs.declared.Frame.{Frame}
 use Rattle.session_frame.specs.declared.Frame.the-variants.{Malformed, Fresh, Open, Close, Ask, Report, Get, Put, Seal, Skip, Freeze, Thaw}
 use Rattle.pool.specs.Free.{fileCount}
+use Rattle.pool.specs.Masks.{freeAfter}
+use Rattle.pool.proofs.FreeMasks.{after-same}
 use Rattle.state.specs.declared.State.{State}
 use Rattle.state.specs.Places.{channelCount, noChannel, fileAt, channelAt}
 use Rattle.state.specs.Stores.{withFile, withChannel}
@@ -107,30 +109,52 @@ module _ (unsound : Bool) (t : State) (area words after : List ℕ) (frame : Fra
   channel-is : c ≡ channelAt t (channelNumber frame (fileAt t (fileNumber frame (t .files)) .channel))
   channel-is = place-read (t .channels) channelCount j l d₂ was (counts .channels) place₂ read₂ noChannel c or₂ ∙ ap (channelAt t) number-is
 
-  stored : (g new : File) (h kept : Channel) → new ≡ cond (ltb i fileCount) g old → kept ≡ cond (ltb j channelCount) h was
-      → _≡_ {A = State} (record { m = t .m; w = t .w; frozen = t .frozen; channels = set (t .channels) l kept; files = set (t .files) k new })
+  -- the free buffers follow the file: past the last nothing changes
+  mask-is : (g new : File) → new ≡ cond (ltb i fileCount) g old
+      → freeAfter (t .free) old new ≡ freeAfter (t .free) (fileAt t i) (getD (set (t .files) i g) i closedFile)
+  mask-is g new e =
+      by-test (λ b. ltb i fileCount ≡ b → freeAfter (t .free) old new ≡ freeAfter (t .free) (fileAt t i) (getD (set (t .files) i g) i closedFile)) (ltb i fileCount)
+      (λ q b. let h : i < length (t .files) = omega (arith, ltb-true i fileCount b, counts .files) in
+      ap₂ (freeAfter (t .free)) (read ∙ ap (λ (x : ℕ). getD (t .files) x d₁) (place ∙ cond-true _ _ b) ∙ any-default (t .files) i d₁ closedFile h)
+      (e ∙ cond-true _ _ b ∙ sym (getD-set-same (t .files) i g closedFile h)))
+      (λ q b. let h : length (t .files) ≤ i = omega (arith, ltb-false i fileCount b, counts .files) in
+      ap (freeAfter (t .free) old) (e ∙ cond-false _ _ b) ∙ sym (after-same (t .free) old old refl)
+      ∙ after-same (t .free) (fileAt t i) (fileAt t i) refl
+      ∙ ap (λ (fs : List File). freeAfter (t .free) (fileAt t i) (getD fs i closedFile)) (sym (set-out (t .files) i g h)))
+      refl
+
+  stored : (g new : File) (h kept : Channel) (mask : ℕ) → new ≡ cond (ltb i fileCount) g old → kept ≡ cond (ltb j channelCount) h was → mask ≡ freeAfter (t .free) old new
+      → _≡_ {A = State} (record { m = t .m; w = t .w; frozen = t .frozen; channels = set (t .channels) l kept; files = set (t .files) k new; free = mask })
       (withFile (withChannel t (channelNumber frame (fileAt t (fileNumber frame (t .files)) .channel)) h) (fileNumber frame (t .files)) g)
   unfolding withFile withChannel
-  stored g new h kept e e₂ =
-      ap₂ (λ (cs : List Channel) (fs : List File). record { m = t .m; w = t .w; frozen = t .frozen; channels = cs; files = fs })
+  stored g new h kept mask e e₂ e₃ =
+      ap₂ (λ (cs : List Channel) (fs : List File). record { m = t .m; w = t .w; frozen = t .frozen; channels = cs; files = fs; free = mask })
       (place-stored (t .channels) channelCount j l d₂ was (counts .channels) place₂ read₂ h kept e₂ ∙ ap (λ (x : ℕ). set (t .channels) x h) number-is)
       (place-stored (t .files) fileCount i k d₁ old (counts .files) place read g new e ∙ ap (λ (x : ℕ). set (t .files) x g) number)
+      ∙ ap (λ (n : ℕ). record {
+        m = t .m;
+        w = t .w;
+        frozen = t .frozen;
+        channels = set (t .channels) (channelNumber frame (fileAt t (fileNumber frame (t .files)) .channel)) h;
+        files = set (t .files) (fileNumber frame (t .files)) g;
+        free = n;
+      }) (e₃ ∙ mask-is g new e ∙ ap (λ (x : ℕ). freeAfter (t .free) (fileAt t x) (getD (set (t .files) x g) x closedFile)) number)
 
-  pub turned-as : (x : Change) (new : File) (kept : Channel) → x ≡ changeOf unsound (t .m) (t .w) (t .frozen) (t .files) frame f c area words
-      → new ≡ cond (ltb i fileCount) (x .file) old → kept ≡ cond (ltb j channelCount) (x .channel) was
+  pub turned-as : (x : Change) (new : File) (kept : Channel) (mask : ℕ) → x ≡ changeOf unsound (t .m) (t .w) (t .frozen) (t .free) (t .files) frame f c area words
+      → new ≡ cond (ltb i fileCount) (x .file) old → kept ≡ cond (ltb j channelCount) (x .channel) was → mask ≡ freeAfter (t .free) old new
       → record {
         answer = x .answer;
         start = x .start;
         count = x .count;
-        state = record { m = t .m; w = t .w; frozen = t .frozen; channels = set (t .channels) l kept; files = set (t .files) k new };
+        state = record { m = t .m; w = t .w; frozen = t .frozen; channels = set (t .channels) l kept; files = set (t .files) k new; free = mask };
       } ≡ turnedFrom unsound t area frame words
   unfolding turnedFrom
-  turned-as x new kept ex e e₂ =
+  turned-as x new kept mask ex e e₂ e₃ =
       let i' = fileNumber frame (t .files) in
       let j' = channelNumber frame (fileAt t (fileNumber frame (t .files)) .channel) in
-      ap (λ (u : State). record { answer = x .answer; start = x .start; count = x .count; state = u }) (stored (x .file) new (x .channel) kept e e₂)
+      ap (λ (u : State). record { answer = x .answer; start = x .start; count = x .count; state = u }) (stored (x .file) new (x .channel) kept mask e e₂ e₃)
       ∙ ap (λ (y : Change). record { answer = y .answer; start = y .start; count = y .count; state = withFile (withChannel t j' (y .channel)) i' (y .file) })
-      (ex ∙ ap₂ (λ (g : File) (b : Channel). changeOf unsound (t .m) (t .w) (t .frozen) (t .files) frame g b area words) file-is channel-is)
+      (ex ∙ ap₂ (λ (g : File) (b : Channel). changeOf unsound (t .m) (t .w) (t .frozen) (t .free) (t .files) frame g b area words) file-is channel-is)
 
   pub area-as : after ≡ areaOf unsound (t .m) (t .w) frame f c area words → after ≡ areaFrom unsound t area frame words
   unfolding areaFrom

@@ -1,5 +1,5 @@
 -- The same by the calls' inner forms: what each call comes to for the one file f and the one channel c that it concerns. `unsound` stands for
--- the judgement of the state, m and w are its pool. Assumes nothing.
+-- the judgement of the state, m and w are its pool, `free` its free mask. Assumes nothing.
 use Prim.Native.Nat.{ℕ, _*_}
 use mathlib.Core.Bool.{Bool, _||_}
 use mathlib.Core.List.{List}
@@ -14,9 +14,10 @@ use Rattle.channel.specs.Units.{unitCount}
 use Rattle.file.specs.declared.File.{File}
 use Rattle.file_input.specs.Gets.{gotStart, gotWords}
 use Rattle.pool.specs.Free.{fileCount}
+use Rattle.pool.specs.Masks.{freeIn}
 use Rattle.pool.specs.Serving.{isBound}
 use Rattle.state.specs.Places.{channelCount}
-use Rattle.call_open.specs.Open.{allFlags, wishOf, freeOf, openOn}
+use Rattle.call_open.specs.Open.{allFlags, wishOf, openOn}
 use Rattle.call_open.specs.Close.{closeOn}
 use Rattle.call_request.specs.Ask.{askOn}
 use Rattle.call_request.specs.Report.{reportOn, reportOnArea}
@@ -45,9 +46,9 @@ reportWrongBy unsound m w n channel = unsound || (ltb n (m * w) || leb channelCo
 -- ---- the calls that move no words
 
 unfoldable pub openChangeOn : Bool → ℕ → ℕ → List File → File → Channel → OpenFrame → Change
-openChangeOn unsound m w files f c q =
+openChangeOn unsound w free files f c q =
     let x =
-    openOn (openWrong unsound (q .file) (q .channel) (q .unit) (q .flags)) (isBound files (q .channel) (q .unit)) f c (freeOf m files) w
+    openOn (openWrong unsound (q .file) (q .channel) (q .unit) (q .flags)) (isBound files (q .channel) (q .unit)) f c (freeIn free) w
     (wishOf (q .channel) (q .unit) (q .flags) (q .size) (q .rlen))
     in
     quietChange (x .refusal) (x .file) c

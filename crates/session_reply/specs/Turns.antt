@@ -90,21 +90,21 @@ channelNumber Thaw own = own
 
 -- ---- the call
 
-unfoldable pub changeOf : Bool → ℕ → ℕ → Bool → List File → Frame → File → Channel → List ℕ → List ℕ → Change
-changeOf unsound m w frozen files Malformed f c area words = quietChange 1 f c
-changeOf unsound m w frozen files (Fresh q) f c area words = quietChange (freshRefusal unsound (q .m) (q .w) (masksOf (q .masks)) (length area)) f c
-changeOf unsound m w frozen files (Open q) f c area words =
-    openChangeOn unsound m w files f c q
-changeOf unsound m w frozen files (Close file) f c area words = closeChangeOn unsound f c file
-changeOf unsound m w frozen files (Ask q) f c area words = askChangeOn unsound frozen f c q
-changeOf unsound m w frozen files (Report q) f c area words =
+unfoldable pub changeOf : Bool → ℕ → ℕ → Bool → ℕ → List File → Frame → File → Channel → List ℕ → List ℕ → Change
+changeOf unsound m w frozen free files Malformed f c area words = quietChange 1 f c
+changeOf unsound m w frozen free files (Fresh q) f c area words = quietChange (freshRefusal unsound (q .m) (q .w) (masksOf (q .masks)) (length area)) f c
+changeOf unsound m w frozen free files (Open q) f c area words =
+    openChangeOn unsound w free files f c q
+changeOf unsound m w frozen free files (Close file) f c area words = closeChangeOn unsound f c file
+changeOf unsound m w frozen free files (Ask q) f c area words = askChangeOn unsound frozen f c q
+changeOf unsound m w frozen free files (Report q) f c area words =
     reportChangeOn unsound m w frozen f c q area words
-changeOf unsound m w frozen files (Get file) f c area words = getChangeOn unsound m w f c file area
-changeOf unsound m w frozen files (Put q) f c area words = putChangeOn unsound m w f c (q .file) area words
-changeOf unsound m w frozen files (Seal file) f c area words = sealChangeOn unsound m w f c file area
-changeOf unsound m w frozen files (Skip file) f c area words = skipChangeOn unsound f c file
-changeOf unsound m w frozen files Freeze f c area words = quietChange (stateNumber unsound) f c
-changeOf unsound m w frozen files Thaw f c area words = quietChange (stateNumber unsound) f c
+changeOf unsound m w frozen free files (Get file) f c area words = getChangeOn unsound m w f c file area
+changeOf unsound m w frozen free files (Put q) f c area words = putChangeOn unsound m w f c (q .file) area words
+changeOf unsound m w frozen free files (Seal file) f c area words = sealChangeOn unsound m w f c file area
+changeOf unsound m w frozen free files (Skip file) f c area words = skipChangeOn unsound f c file
+changeOf unsound m w frozen free files Freeze f c area words = quietChange (stateNumber unsound) f c
+changeOf unsound m w frozen free files Thaw f c area words = quietChange (stateNumber unsound) f c
 
 unfoldable pub areaOf : Bool → ℕ → ℕ → Frame → File → Channel → List ℕ → List ℕ → List ℕ
 areaOf unsound m w (Report q) f c area words = reportAreaOn unsound m w f c q area words
@@ -127,7 +127,7 @@ turnedFrom unsound t area frame words =
     let i = fileNumber frame (t .files) in
     let f = fileAt t i in
     let j = channelNumber frame (f .channel) in
-    let x = changeOf unsound (t .m) (t .w) (t .frozen) (t .files) frame f (channelAt t j) area words in
+    let x = changeOf unsound (t .m) (t .w) (t .frozen) (t .free) (t .files) frame f (channelAt t j) area words in
     record { answer = x .answer; start = x .start; count = x .count; state = withFile (withChannel t j (x .channel)) i (x .file) }
 
 unfoldable pub areaFrom : Bool → State → List ℕ → Frame → List ℕ → List ℕ

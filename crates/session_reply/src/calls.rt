@@ -3,7 +3,6 @@
 use crate::Change;
 use call_open::FLAGS;
 use call_open::close_on;
-use call_open::free_of;
 use call_open::open_on;
 use call_open::wish_of;
 use call_record::skip_on;
@@ -12,6 +11,7 @@ use channel::Channel;
 use channel::UNITS;
 use file::File;
 use pool::FILES;
+use pool::free_in;
 use pool::is_bound;
 use session_frame::Answer;
 use session_frame::AskFrame;
@@ -47,23 +47,23 @@ pub fn quiet(refusal: u8, f: File, c: Channel) -> Change
 
 pub fn opened(
     unsound: bool,
-    m: u8,
     w: u16,
+    free: u32,
     files: [File; FILES],
     f: File,
     c: Channel,
     q: OpenFrame,
 ) -> Change
-    ensures { λ r. ⌜ r ≡ openChangeOn unsound m w files f c q ⌝ }
+    ensures { λ r. ⌜ r ≡ openChangeOn unsound w free files f c q ⌝ }
 {
     let i = q.file as usize;
     let j = q.channel as usize;
     let u = q.unit as usize;
     let c1 = (FILES <= i) | ((CHANNELS <= j) | ((UNITS <= u) | ((FLAGS < q.flags) | unsound)));
     let bound = is_bound(files, q.channel, q.unit);
-    let free = free_of(m, files);
+    let found = free_in(free);
     let wish = wish_of(q.channel, q.unit, q.flags, q.size, q.rlen);
-    let x = open_on(c1, bound, f, c, free, w, wish);
+    let x = open_on(c1, bound, f, c, found, w, wish);
     let g = x.file;
     quiet(x.refusal, g, c)
 }

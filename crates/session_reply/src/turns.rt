@@ -24,6 +24,7 @@ use crate::wholes::whole;
 use channel::Channel;
 use file::File;
 use pool::FILES;
+use pool::free_after;
 use session_frame::Frame;
 use state::CHANNELS;
 use state::State;
@@ -36,6 +37,7 @@ fn change_of(
     m: u8,
     w: u16,
     frozen: bool,
+    free: u32,
     files: [File; FILES],
     frame: Frame,
     f: File,
@@ -43,13 +45,13 @@ fn change_of(
     area: &mut [u64],
     words: &[u64],
 ) -> Change
-    ensures { λ r. ⌜ r ≡ changeOf unsound m w frozen files frame f c (now (area .entry)) (now (words .entry)) ⌝ }
+    ensures { λ r. ⌜ r ≡ changeOf unsound m w frozen free files frame f c (now (area .entry)) (now (words .entry)) ⌝ }
     ensures { λ _. ⌜ now (area .exit) ≡ areaOf unsound m w frame f c (now (area .entry)) (now (words .entry)) ⌝ }
 {
     match frame {
         Frame::Malformed => quiet(1, f, c),
         Frame::Fresh(q) => quiet(fresh_number(unsound, q, area.len()), f, c),
-        Frame::Open(q) => opened(unsound, m, w, files, f, c, q),
+        Frame::Open(q) => opened(unsound, w, free, files, f, c, q),
         Frame::Close(file) => closed(unsound, f, c, file),
         Frame::Ask(q) => asked(unsound, frozen, f, c, q),
         Frame::Report(q) => reported(unsound, m, w, frozen, f, c, q, area, words),
@@ -80,12 +82,17 @@ pub fn reply_on(unsound: bool, s: State, area: &mut [u64], frame: Frame, words: 
     let l = index_in(j, CHANNELS);
     let was = t.channels[l];
     let c = channel_or(j, was);
-    let x = change_of(unsound, t.m, t.w, t.frozen, files, frame, f, c, area, words);
+    let x = change_of(
+        unsound, t.m, t.w, t.frozen, t.free, files, frame, f, c, area, words,
+    );
     let g = x.file;
     let d = x.channel;
     let a = x.answer;
-    t.files[k] = file_kept(i, g, old);
+    let new = file_kept(i, g, old);
+    let free = free_after(t.free, old, new);
+    t.files[k] = new;
     t.channels[l] = channel_kept(j, d, was);
+    t.free = free;
     Turned {
         answer: a,
         start: x.start,

@@ -27,6 +27,7 @@ beforeStart = record {
   frozen = false;
   channels = replicate channelCount noChannel;
   files = replicate fileCount closedFile;
+  free = 0;
 }
 
 -- the file and the channel of a number; past the last a closed file, and a channel without units

@@ -1,4 +1,4 @@
-// The whole state of a pack by value: the pool's two numbers, the freeze, five channels and sixteen files. A file or a channel is looked up or
+// The whole state of a pack by value: the pool's two numbers, the freeze, five channels, sixteen files, and a bit for each free buffer. A file or a channel is looked up or
 // replaced. When a state is sound stands in `state_sound`. It knows nothing of what a call does.
 mod places;
 mod stores;
@@ -17,13 +17,14 @@ pub use stores::with_file;
 // How many channels there are, the manual's A to E.
 pub const CHANNELS: usize = 5;
 
-// A pool of m buffers of w words; whether starts are frozen; the channels with their units; the files.
+// A pool of m buffers of w words; whether starts are frozen; the channels with their units; the files; the free buffers, bit b for buffer b.
 pub struct State {
     pub m: u8,
     pub w: u16,
     pub frozen: bool,
     pub channels: [Channel; CHANNELS],
     pub files: [File; FILES],
+    pub free: u32,
 }
 
 // The answer of a call that adds nothing to its refusal, 0 for none: and the state after it, which is the one passed if it is refused.

@@ -23,6 +23,7 @@ pub fn before_start() -> State
         frozen: false,
         channels,
         files,
+        free: 0,
     }
 }
 

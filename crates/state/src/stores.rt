@@ -4,18 +4,23 @@ use crate::State;
 use channel::Channel;
 use file::File;
 use pool::FILES;
+use pool::free_after;
 ghost use mathlib.Core.Path.{_≡_};
 ghost use Rattle.state.specs.Stores.{withFile, withChannel};
 
-// The state with another file in the place of that number, unchanged past the last.
+// The state with another file in the place of that number, unchanged past the last. A file that is opened takes its buffers from the free ones,
+// one that is closed gives them back.
 pub fn with_file(s: State, i: usize, f: File) -> State
     ensures { λ r. ⌜ r ≡ withFile s i f ⌝ }
 {
     if FILES <= i {
         return s;
     }
+    let old = s.files[i];
+    let free = free_after(s.free, old, f);
     let mut t = s;
     t.files[i] = f;
+    t.free = free;
     t
 }
 

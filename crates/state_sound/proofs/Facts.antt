@@ -27,6 +27,7 @@ use Rattle.file.specs.declared.File.{File}
 use Rattle.file.specs.Sizes.{closedFile}
 use Rattle.file_input.specs.Delivers.{hasFull}
 use Rattle.pool.specs.Free.{poolSound}
+use Rattle.pool.specs.Masks.{freeMask}
 use Rattle.pool.specs.Serving.{serves}
 use Rattle.state_sound.specs.Files.{inRange, hasBuffers, takenCount, takenRight, fullRight, partRight, placeRight, restIsZero, openSound, isBlank, fileSound, shareBuffer, shareUnit, apart, filesSound}
 use Rattle.state_sound.proofs.FileFacts.{Sound, facts}
@@ -34,7 +35,7 @@ use Rattle.state_sound.proofs.FileFacts as file
 use Rattle.state.specs.declared.State.{State}
 use Rattle.state.specs.Places.{noChannel, fileAt, channelIn, channelAt}
 use Rattle.state_sound.specs.Requests.{requested, isNone, isRead, isWrite, fitsOutput}
-use Rattle.state_sound.specs.Soundness.{ifOpen, channelOf, requestOf, fileInRange, turnInRange, unitInRange, channelInRange, numbersInRange, buffersApart, noBufferHeldTwice, hasItsOwn, unitsApart, eachHasItsOwn, unitFits, channelFits, requestsFit, worksRight, channelsWork, takenByRead, readsAloneTake, writeHasBlock, writesHaveBlocks, fullBlocksRight, partBuffersRight, placesRight, inLimit, turnInLimit, channelInLimit, attemptsInLimit, sound}
+use Rattle.state_sound.specs.Soundness.{ifOpen, channelOf, requestOf, fileInRange, turnInRange, unitInRange, channelInRange, numbersInRange, buffersApart, noBufferHeldTwice, hasItsOwn, unitsApart, eachHasItsOwn, unitFits, channelFits, requestsFit, worksRight, channelsWork, takenByRead, readsAloneTake, writeHasBlock, writesHaveBlocks, fullBlocksRight, partBuffersRight, placesRight, inLimit, turnInLimit, channelInLimit, attemptsInLimit, freeMaskRight, sound}
 use Rattle.state_sound.specs.Judged.{fileReady, fileFits, turnRight, unitRight, unitServed, channelRight, judgedState}
 use Rattle.state_sound.proofs.Everywhere.{by-place, all-places, from-places, place-inside, pair-places}
 use Rattle.state_sound.proofs.Apart.{buffers-swap, units-swap, apart-swap, buffers-closed, units-closed, apart-closed}
@@ -58,6 +59,8 @@ pub record SoundFacts (s : State) : Type 0 where
   pub channels : (c : ℕ) → ChannelFacts (s .m) (s .frozen) (channelAt s c)
   -- every unit with a request has an open file
   pub served : (c u : ℕ) → isNone (requested (turnAt (channelAt s c) u)) ≡ false → Served (s .files) c u
+  -- the mask says which buffers are free
+  pub free : s .free ≡ freeMask (s .m) (s .files)
 
 -- ---- an open file's clauses, one by one
 
@@ -159,6 +162,7 @@ module _ (s : State) where
       let h₁ = both {a = poolSound (s .m) (s .w)} h in
       let h₂ = both {a = filesSound (s .m) (s .w) (s .files)} (h₁ .1) in
       let h₃ = both {a = allOf (fileFits (s .channels)) (s .files)} (h₂ .1) in
+      let h₄ = both {a = allFrom (channelRight (s .m) (s .frozen) (s .files)) 0 (s .channels)} (h₃ .1) in
       let f = both {a = allOf (fileSound (s .m) (s .w)) (s .files)} (h₂ .0) in
       let each : (i : ℕ) → fileSound (s .m) (s .w) (fileAt s i) ≡ true = all-places (s .files) closedFile (fileSound (s .m) (s .w)) (closed-sound (s .m) (s .w)) (f .0) in
       let fit : (i : ℕ) → fileFits (s .channels) (fileAt s i) ≡ true = all-places (s .files) closedFile (fileFits (s .channels)) refl (h₃ .0) in
@@ -169,10 +173,11 @@ module _ (s : State) where
         apart = pair-places (s .files) closedFile apart apart-closed apart-swap (f .1);
         declared = λ i o. and-left (declaredAt (channelOf (s .channels) (fileAt s i)) (fileAt s i .unit)) _ (unless (fileAt s i .opened) _ (fit i) o);
         ready = λ i o. and-right (declaredAt (channelOf (s .channels) (fileAt s i)) (fileAt s i .unit)) _ (unless (fileAt s i .opened) _ (fit i) o);
-        channels = λ c. by-place (s .channels) noChannel (ChannelFacts (s .m) (s .frozen)) c (λ l. own c (channelAt s c) (from-at (channelRight (s .m) (s .frozen) (s .files)) noChannel (s .channels) (h₃ .1) c l)) (no-facts (s .m) (s .frozen));
+        channels = λ c. by-place (s .channels) noChannel (ChannelFacts (s .m) (s .frozen)) c (λ l. own c (channelAt s c) (from-at (channelRight (s .m) (s .frozen) (s .files)) noChannel (s .channels) (h₄ .0) c l)) (no-facts (s .m) (s .frozen));
         served = λ c u. by-place (s .channels) noChannel (λ x. isNone (requested (turnAt x u)) ≡ false → Served (s .files) c u) c
-            (λ l. unit c u (channelAt s c) (from-at (channelRight (s .m) (s .frozen) (s .files)) noChannel (s .channels) (h₃ .1) c l))
+            (λ l. unit c u (channelAt s c) (from-at (channelRight (s .m) (s .frozen) (s .files)) noChannel (s .channels) (h₄ .0) c l))
             (λ n. true-not-false (ap (λ (t : Turn). isNone (requested t)) (no-idle u)) n);
+        free = eqb-true (s .free) (freeMask (s .m) (s .files)) (h₄ .1);
       }
     where
       own : (c : ℕ) (x : Channel) → channelRight (s .m) (s .frozen) (s .files) c x ≡ true → ChannelFacts (s .m) (s .frozen) x
@@ -216,11 +221,13 @@ module _ (s : State) where
         (and-both (allOf (fileFits (s .channels)) (s .files)) _
         (at-all (fileFits (s .channels)) closedFile (s .files) (λ i l.
         unless-so (fileAt s i .opened) _ (λ o. and-both (declaredAt (channelOf (s .channels) (fileAt s i)) (fileAt s i .unit)) _ (F .declared i o) (F .ready i o))))
+        (and-both (allFrom (channelRight (s .m) (s .frozen) (s .files)) 0 (s .channels)) _
         (at-from (channelRight (s .m) (s .frozen) (s .files)) noChannel (s .channels) (λ c l.
         and-both (ltb (channelAt s c .mark) (size (channelAt s c))) _ (mark-right (s .m) (s .frozen) (channelAt s c) (F .channels c))
         (and-both (allOf (unitRight (s .m)) (channelAt s c .units)) _ (units-right (s .m) (s .frozen) (channelAt s c) (F .channels c))
         (and-both (worksRight (s .frozen) (channelAt s c .units)) _ (works-right (s .m) (s .frozen) (channelAt s c) (F .channels c))
-        (at-from (unitServed (s .files) c) (idleUnit false) (channelAt s c .units) (λ u k. unit c u (isNone (requested (turnAt (channelAt s c) u))) refl))))))))
+        (at-from (unitServed (s .files) c) (idleUnit false) (channelAt s c .units) (λ u k. unit c u (isNone (requested (turnAt (channelAt s c) u))) refl))))))
+        (eq-eqb (s .free) (freeMask (s .m) (s .files)) (F .free)))))
       where
         unit : (c u : ℕ) (t : Bool) → isNone (requested (turnAt (channelAt s c) u)) ≡ t → (isNone (requested (turnAt (channelAt s c) u)) || anyOf (serves c u) (s .files)) ≡ true
         unit c u true e = or-first (isNone (requested (turnAt (channelAt s c) u))) _ e
@@ -241,6 +248,7 @@ module _ (s : State) where
       part : partBuffersRight s ≡ true
       places : placesRight s ≡ true
       limits : attemptsInLimit s ≡ true
+      mask : freeMaskRight s ≡ true
 
     parts : Parts
     unfolding sound
@@ -255,6 +263,7 @@ module _ (s : State) where
         let h₈ = both {a = fullBlocksRight s} (h₇ .1) in
         let h₉ = both {a = partBuffersRight s} (h₈ .1) in
         let h₁₀ = both {a = placesRight s} (h₉ .1) in
+        let h₁₁ = both {a = attemptsInLimit s} (h₁₀ .1) in
         record {
           numbers = h₁ .0;
           buffers = h₂ .0;
@@ -266,7 +275,8 @@ module _ (s : State) where
           full = h₈ .0;
           part = h₉ .0;
           places = h₁₀ .0;
-          limits = h₁₀ .1;
+          limits = h₁₁ .0;
+          mask = h₁₁ .1;
         }
 
     ranges-at : (i : ℕ) → fileInRange (s .w) (fileAt s i) ≡ true
@@ -372,7 +382,7 @@ module _ (s : State) where
             (all-right (s .m) (x .units) (and-right (ltb (x .mark) (size x)) _ a) b) w
 
     pub sound-facts : SoundFacts s
-    unfolding apart fileReady numbersInRange
+    unfolding apart fileReady numbersInRange freeMaskRight
     sound-facts = record {
       pool = and-left (poolSound (s .m) (s .w)) _ (parts .numbers);
       files = λ i o. from-clauses (s .m) (s .w) (fileAt s i) o (clauses-at i o) (taken-right (requestOf (s .channels) (fileAt s i)) (fileAt s i) (way-at i o) (taken-at i o));
@@ -384,6 +394,7 @@ module _ (s : State) where
           (and-both (eqb (takenCount (fileAt s i)) (oneIf (isRead (requestOf (s .channels) (fileAt s i))))) _ (taken-at i o) (block-at i o));
       channels = channel-at;
       served = λ c u n. let p = served-fits c u n in record { place = p .place; bound = and-left (serves c u (fileAt s (p .place))) _ (p .passes) };
+      free = eqb-true (s .free) (freeMask (s .m) (s .files)) (parts .mask);
     }
 
   -- ---- and back
@@ -442,7 +453,7 @@ module _ (s : State) where
         unit c u false e = or-second (isNone (requested (turnAt (channelAt s c) u))) _ (fit c u (F .served c u e))
 
     pub facts-sound : sound s ≡ true
-    unfolding sound noBufferHeldTwice eachHasItsOwn channelsWork readsAloneTake writesHaveBlocks fullBlocksRight partBuffersRight placesRight attemptsInLimit apart
+    unfolding sound noBufferHeldTwice eachHasItsOwn channelsWork readsAloneTake writesHaveBlocks fullBlocksRight partBuffersRight placesRight attemptsInLimit freeMaskRight apart
     facts-sound =
         and-both (numbersInRange s) _ numbers-of
         (and-both (allPairs buffersApart (s .files)) _
@@ -461,7 +472,9 @@ module _ (s : State) where
         (and-both (allOf (λ (f : File). ifOpen f (fullRight f)) (s .files)) _ (each-open fullRight (λ i o. parts-at i o .full))
         (and-both (allOf (λ (f : File). ifOpen f (partRight f)) (s .files)) _ (each-open partRight (λ i o. parts-at i o .part))
         (and-both (allOf (λ (f : File). ifOpen f (placeRight f)) (s .files)) _ (each-open placeRight (λ i o. parts-at i o .place))
-        (at-all channelInLimit noChannel (s .channels) (λ c l. all-each (s .m) (channelAt s c .units) (units-right (s .m) (s .frozen) (channelAt s c) (F .channels c)) .1)))))))))))
+        (and-both (allOf channelInLimit (s .channels)) _
+        (at-all channelInLimit noChannel (s .channels) (λ c l. all-each (s .m) (channelAt s c .units) (units-right (s .m) (s .frozen) (channelAt s c) (F .channels c)) .1))
+        (eq-eqb (s .free) (freeMask (s .m) (s .files)) (F .free))))))))))))
 
 -- what the code walks is document 01's paragraph
 pub judged-sound : (s : State) → judgedState s ≡ sound s

@@ -1,5 +1,5 @@
 -- Replacements that keep a sound state sound: one file and its channel, a file alone, an open, a close. Assumes nothing.
-use mathlib.Core.Path.{_≡_, refl, sym, ap, subst, _∙_}
+use mathlib.Core.Path.{_≡_, refl, sym, ap, ap₂, subst, _∙_}
 use mathlib.Core.Logic.{_≢_}
 use mathlib.Core.Bool.{Bool, true, false, not, cond, _&&_, _||_}
 use mathlib.Core.List.{List}
@@ -12,7 +12,7 @@ use lib.Seq.{getD-set-same, getD-set-other, set-getD}
 use borrow.Author.Tests.{eqb-true, eq-eqb, not-true}
 use Rattle.area.specs.Lists.{anyOf}
 use Rattle.area.proofs.Walks.{by-test, true-not-false, and-left, and-right, and-both, or-either, none-at}
-use Rattle.area.proofs.Bools.{both}
+use Rattle.area.proofs.Bools.{both, any-at}
 use Rattle.channel.specs.declared.Channel.{Channel}
 use Rattle.channel.specs.declared.Work.{Work}
 use Rattle.channel.specs.declared.Work.the-variants.{At, Nothing}
@@ -20,10 +20,13 @@ use Rattle.channel.specs.Units.{declaredAt, turnAt}
 use Rattle.file.specs.declared.File.{File}
 use Rattle.file.specs.Sizes.{closedFile}
 use Rattle.pool.specs.Free.{heldBy, isHeld, isFree}
+use Rattle.pool.specs.Masks.{freeMask, freeAfter}
+use Rattle.pool.proofs.FreeMasks.{after-same, held-mask, opened-mask, closed-mask}
 use Rattle.pool.specs.Serving.{serves}
 use Rattle.state_sound.specs.Files.{takenCount, isBlank, shareBuffer, shareUnit, apart}
 use Rattle.state_sound.proofs.FileFacts.{Sound}
 use Rattle.state_sound.proofs.Replaced.{Alike}
+use Rattle.state_sound.proofs.Shares.{apart-holds, held-inside}
 use Rattle.state.specs.declared.State.{State}
 use Rattle.state.specs.Places.{noChannel, fileAt, channelIn, channelAt}
 use Rattle.state.specs.Stores.{withFile, withChannel}
@@ -71,6 +74,8 @@ pub record Replaced (s : State) (c i : ℕ) (x : Channel) (f : File) : Type 0 wh
   -- it is sound by itself, apart from the others, and ready for what is requested of its unit, which is declared
   pub sound : Sound (s .m) (s .w) f
   pub apart : (j : ℕ) → j ≢ i → apart f (fileAt s j) ≡ true
+  -- and holds the buffers that it held, if it was open
+  pub held : fileAt s i .opened ≡ true → (b : ℕ) → heldBy b f ≡ heldBy b (fileAt s i)
   pub declared : declaredAt x (f .unit) ≡ true
   pub ready : fileReady (requested (turnAt x (f .unit))) f ≡ true
   -- the channel is sound, and what is requested of its other units is as it was
@@ -133,6 +138,14 @@ module _ (s : State) (c i : ℕ) (x : Channel) (f : File) (F : SoundFacts s) (R 
       go (yes e) (no q) = old (λ p. q)
       go (no e) k = old (λ p. absurd (e p))
 
+  -- a file that was open holds what it held, and one that was not takes its buffers
+  mask-now : freeAfter (s .free) (fileAt s i) f ≡ freeMask (s .m) fs
+  mask-now = go (fileAt s i .opened) refl
+    where
+      go : (t : Bool) → fileAt s i .opened ≡ t → freeAfter (s .free) (fileAt s i) f ≡ freeMask (s .m) fs
+      go true o = sym (after-same (s .free) (fileAt s i) f (o ∙ sym (R .opened))) ∙ F .free ∙ sym (held-mask (s .m) (s .files) i f (R .held o))
+      go false o = ap (λ (k : ℕ). freeAfter k (fileAt s i) f) (F .free) ∙ opened-mask (s .m) (s .files) i f (R .place) o (R .opened)
+
   pub replaced-facts : SoundFacts (withFile (withChannel s c x) i f)
   unfolding withFile withChannel
   replaced-facts = record {
@@ -148,6 +161,7 @@ module _ (s : State) (c i : ℕ) (x : Channel) (f : File) (F : SoundFacts s) (R 
         (λ j ne o. ap (λ (r : Work). fileReady r (fileAt s j)) (other-unit (fileAt s j .channel) (fileAt s j .unit) (other-file j ne o) .0) ∙ F .ready j o);
     channels = at-place (s .channels) c x noChannel (R .line) (λ n y. ChannelFacts (s .m) (s .frozen) y) (R .facts) (λ n ne. F .channels n);
     served = served-now;
+    free = ap₂ (freeAfter (s .free)) refl (getD-set-same (s .files) i f closedFile (R .place)) ∙ mask-now;
   }
 
 -- ---- the same buffers and the same unit
@@ -174,6 +188,12 @@ same-apart f g h S = over (f .opened) (g .opened) (f .channel) (g .channel) (f .
     over : (o o' : Bool) (c c' u u' : ℕ) (d d' : Bool) (l l' k k' : ℕ) → o ≡ o' → c ≡ c' → u ≡ u' → d ≡ d' → l ≡ l' → k ≡ k' → apartBy o c u d l k h ≡ apartBy o' c' u' d' l' k' h
     over o o' c c' u u' d d' l l' k k' p q r t v w = rw (p, q, r, t, v, w)
 
+same-held : (f g : File) (b : ℕ) → SameHoldings f g → heldBy b f ≡ heldBy b g
+same-held f g b S = over (f .opened) (g .opened) (f .double) (g .double) (f .low .number) (g .low .number) (f .high .number) (g .high .number) (S .opened) (S .double) (S .low) (S .high)
+  where
+    over : (o o' d d' : Bool) (l l' k k' : ℕ) → o ≡ o' → d ≡ d' → l ≡ l' → k ≡ k' → (o && (eqb l b || (d && eqb k b))) ≡ (o' && (eqb l' b || (d' && eqb k' b)))
+    over o o' d d' l l' k k' p q r t = rw (p, q, r, t)
+
 -- "a declared unit": the channel of a sound state's open file is one of its channels
 pub line-of : (s : State) → SoundFacts s → (i : ℕ) → fileAt s i .opened ≡ true → fileAt s i .channel < length (s .channels)
 line-of s F i o = place-inside (s .channels) noChannel (λ (y : Channel). declaredAt y (fileAt s i .unit)) (no-declared (fileAt s i .unit)) (fileAt s i .channel) (F .declared i o)
@@ -197,6 +217,7 @@ module _ (s : State) (i : ℕ) (x : Channel) (f : File) (F : SoundFacts s) (o : 
         was = λ p. (refl, sym (S .unit));
         sound = sound;
         apart = λ j ne. same-apart f (fileAt s i) (fileAt s j) S ∙ F .apart i j (λ e. ne (sym e));
+        held = λ p b. same-held f (fileAt s i) b S;
         declared = ap (declaredAt x) (S .unit) ∙ known;
         ready = ap (λ (u : ℕ). fileReady (requested (turnAt x u)) f) (S .unit) ∙ ready;
         facts = facts;
@@ -205,7 +226,7 @@ module _ (s : State) (i : ℕ) (x : Channel) (f : File) (F : SoundFacts s) (o : 
 
 same-channel : (s : State) (c : ℕ) → withChannel s c (channelAt s c) ≡ s
 unfolding withChannel
-same-channel s c = ap (λ (ks : List Channel). record { m = s .m; w = s .w; frozen = s .frozen; channels = ks; files = s .files }) (set-getD (s .channels) c noChannel)
+same-channel s c = ap (λ (ks : List Channel). record { m = s .m; w = s .w; frozen = s .frozen; channels = ks; files = s .files; free = s .free }) (set-getD (s .channels) c noChannel)
 
 -- an open file alone
 pub file-kept : (s : State) (i : ℕ) (f : File) → SoundFacts s → fileAt s i .opened ≡ true → SameHoldings f (fileAt s i) → Sound (s .m) (s .w) f
@@ -250,6 +271,7 @@ open-kept s i f F place shut o sound none known U =
       was = λ p. true-not-false p shut;
       sound = sound;
       apart = λ j ne. apart-free s f U j;
+      held = λ p. true-not-false p shut;
       declared = known;
       ready = idle (requestOf (s .channels) f) (isNone (requestOf (s .channels) f)) refl quiet;
       facts = F .channels (f .channel);
@@ -280,6 +302,8 @@ close-kept s i F o quiet = record {
   ready = at-place (s .files) i closedFile closedFile place (λ j g. g .opened ≡ true → fileReady (requestOf (s .channels) g) g ≡ true) (λ p. true-not-false p refl) (λ j ne. F .ready j);
   channels = F .channels;
   served = λ c u n. still c u n (F .served c u n);
+  free = ap₂ (λ (k : ℕ) (g : File). freeAfter k (fileAt s i) g) (F .free) (getD-set-same (s .files) i closedFile closedFile place)
+      ∙ closed-mask (s .m) (s .files) i place o inside alone;
 }
   where
     place : i < length (s .files)
@@ -287,6 +311,18 @@ close-kept s i F o quiet = record {
 
     fs : List File
     fs = set (s .files) i closedFile
+
+    -- its buffers are among the m, and no other file holds them
+    inside : (b : ℕ) → heldBy b (fileAt s i) ≡ true → b < s .m
+    inside b h = held-inside (s .m) (s .w) (fileAt s i) b (F .files i o) h
+
+    alone : (b : ℕ) → heldBy b (fileAt s i) ≡ true → isHeld fs b ≡ false
+    alone b h =
+        by-test (λ t. isHeld fs b ≡ t → t ≡ false) (isHeld fs b)
+        (λ t q. let p = any-at (heldBy b) closedFile fs q in
+        true-not-false (p .passes) (at-place (s .files) i closedFile closedFile place (λ j g. heldBy b g ≡ false) refl
+        (λ j ne. apart-holds b (fileAt s i) (fileAt s j) (F .apart i j (λ e. ne (sym e))) h) (p .place)))
+        (λ t q. refl) refl
 
     still : (c u : ℕ) → isNone (requested (turnAt (channelAt s c) u)) ≡ false → Served (s .files) c u → Served (set (s .files) i closedFile) c u
     still c u n p = record { place = p .place; bound = ap (serves c u) (getD-set-other (s .files) i (p .place) closedFile closedFile away) ∙ p .bound }

@@ -1,6 +1,6 @@
 -- Where the files are sound, every buffer is free or held by exactly one open file, and the free ones and those that files hold are all of them.
 -- Assumes nothing.
-use mathlib.Core.Path.{_≡_, refl, sym, ap, ap₂, _∙_}
+use mathlib.Core.Path.{_≡_, refl, sym, ap, ap₂, subst, _∙_}
 use mathlib.Core.Bool.{Bool, true, false, not, cond, _&&_, _||_}
 use mathlib.Core.List.{List, [], _∷_}
 use Prim.Native.Nat.{ℕ, suc, _+_, _<_}
@@ -71,22 +71,30 @@ one-or-two true true low high m o l h =
 one-or-two true false low high m o l h =
     count-either (eqb low) (λ b. false) m 0 (λ b e. refl) ∙ omega (arith, count-one low m 0 (omega arith) (omega arith), count-zero (λ b. false) m 0 (λ b. refl))
 
+-- the second buffer of a sound double file is above its first, and among the m
+second-number : (m w : ℕ) (f : File) → Sound m w f → f .double ≡ true → (f .low .number < f .high .number) × (f .high .number < m)
+second-number m w f S d =
+    let e : (ltb (f .low .number) (f .high .number) && ltb (f .high .number) m) ≡ true = sym (cond-true _ (isNoBuffer (f .high)) d) ∙ S .second in
+    (ltb-true (f .low .number) (f .high .number) (and-left (ltb (f .low .number) (f .high .number)) _ e), ltb-true (f .high .number) m (and-right (ltb (f .low .number) (f .high .number)) _ e))
+
+-- what a sound file holds is among the m
+pub held-inside : (m w : ℕ) (f : File) (b : ℕ) → Sound m w f → heldBy b f ≡ true → b < m
+held-inside m w f b S h =
+    or-either (eqb (f .low .number) b) (f .double && eqb (f .high .number) b) (and-right (f .opened) _ h)
+    (λ e. subst (λ (k : ℕ). k < m) (eqb-true (f .low .number) b e) (S .first))
+    (λ e. subst (λ (k : ℕ). k < m) (eqb-true (f .high .number) b (and-right (f .double) _ e)) (second-number m w f S (and-left (f .double) _ e) .1))
+
 file-holding : (m w : ℕ) (f : File) → fileSound m w f ≡ true → countAlong suc (λ b. heldBy b f) m 0 ≡ holding f
 file-holding m w f h = go (f .opened) refl
   where
     shut : f .opened ≡ false → (b : ℕ) → heldBy b f ≡ false
     shut o b = ap (λ (t : Bool). t && (eqb (f .low .number) b || (f .double && eqb (f .high .number) b))) o
 
-    second : Sound m w f → f .double ≡ true → (f .low .number < f .high .number) × (f .high .number < m)
-    second S d =
-        let e : (ltb (f .low .number) (f .high .number) && ltb (f .high .number) m) ≡ true = sym (cond-true _ (isNoBuffer (f .high)) d) ∙ S .second in
-        (ltb-true (f .low .number) (f .high .number) (and-left (ltb (f .low .number) (f .high .number)) _ e), ltb-true (f .high .number) m (and-right (ltb (f .low .number) (f .high .number)) _ e))
-
     go : (t : Bool) → f .opened ≡ t → countAlong suc (λ b. heldBy b f) m 0 ≡ cond t (buffersFor (f .double)) 0
     go false o = count-zero (λ b. heldBy b f) m 0 (shut o)
     go true o =
         let S = facts m w f h o in
-        one-or-two (f .opened) (f .double) (f .low .number) (f .high .number) m o (S .first) (second S)
+        one-or-two (f .opened) (f .double) (f .low .number) (f .high .number) m o (S .first) (second-number m w f S)
 
 held-counted : (m w : ℕ) (fs : List File) → allOf (fileSound m w) fs ≡ true → allPairs apart fs ≡ true → countAlong suc (isHeld fs) m 0 ≡ allHolding fs
 unfolding anyOf allOf allPairs allHolding

@@ -17,6 +17,8 @@ use Rattle.channel_turns.specs.Starts.{thawOf}
 use Rattle.file.specs.declared.File.{File}
 use Rattle.file.specs.Sizes.{closedFile}
 use Rattle.pool.specs.Free.{fileCount, poolSound}
+use Rattle.pool.specs.Masks.{freeMask, allFree}
+use Rattle.pool.proofs.FreeMasks.{all-free, none-free}
 use Rattle.state_sound.specs.Files.{isBlank}
 use Rattle.state.specs.declared.State.{State}
 use Rattle.state.specs.Places.{channelCount, noChannel, beforeStart, fileAt, channelIn, channelAt}
@@ -33,9 +35,9 @@ use Rattle.state_sound.proofs.Facts.{SoundFacts, facts-sound}
 -- ---- no file open, and nothing requested
 
 pub blank-facts : (s : State) → poolSound (s .m) (s .w) ≡ true → ((i : ℕ) → fileAt s i ≡ closedFile) → ((c : ℕ) → ChannelFacts (s .m) (s .frozen) (channelAt s c))
-    → ((c u : ℕ) → turnAt (channelAt s c) u ≡ Idle) → SoundFacts s
+    → ((c u : ℕ) → turnAt (channelAt s c) u ≡ Idle) → s .free ≡ freeMask (s .m) (s .files) → SoundFacts s
 unfolding isBlank
-blank-facts s pool shut channels quiet = record {
+blank-facts s pool shut channels quiet mask = record {
   pool = pool;
   files = λ i o. true-not-false o (ap (λ (f : File). f .opened) (shut i));
   blank = λ i o. rw (shut i);
@@ -44,6 +46,7 @@ blank-facts s pool shut channels quiet = record {
   ready = λ i o. true-not-false o (ap (λ (f : File). f .opened) (shut i));
   channels = channels;
   served = λ c u n. true-not-false (ap (λ (t : Turn). isNone (requested t)) (quiet c u)) n;
+  free = mask;
 }
 
 closed-files : (n i : ℕ) → getD (replicate n closedFile) i closedFile ≡ closedFile
@@ -59,13 +62,14 @@ before-start-sound =
     facts-sound beforeStart
     (blank-facts beforeStart refl (closed-files fileCount)
     (λ c. subst (ChannelFacts 0 false) (sym (no-channels channelCount c)) (no-facts 0 false))
-    (λ c u. ap (λ (x : Channel). turnAt x u) (no-channels channelCount c) ∙ no-idle u))
+    (λ c u. ap (λ (x : Channel). turnAt x u) (no-channels channelCount c) ∙ no-idle u)
+    (none-free fileCount))
 
 -- ---- a fresh start: any pool, any declared units
 
 -- "A fresh start closes everything, drops all requests, thaws and resets the scans."
 abbrev pub freshState : ℕ → ℕ → List ℕ → ℕ → State
-freshState m w masks n = record { m = m; w = w; frozen = false; channels = map freshOf masks; files = replicate n closedFile }
+freshState m w masks n = record { m = m; w = w; frozen = false; channels = map freshOf masks; files = replicate n closedFile; free = allFree m }
 
 fresh-mark : (mask : ℕ) → freshOf mask .mark < size (freshOf mask)
 unfolding freshOf freshWith bitsFrom
@@ -80,12 +84,13 @@ fresh-sound m w masks n pool some =
     facts-sound (freshState m w masks n)
     (blank-facts (freshState m w masks n) pool (closed-files n)
     (λ c. subst (ChannelFacts m false) (sym (List·getD-map freshOf masks c 0)) (idle-facts m false (freshOf (getD masks c 0)) (fresh-mark (getD masks c 0)) (fresh-quiet (getD masks c 0)) (λ u e. some)))
-    (λ c u. ap (λ (x : Channel). turnAt x u) (List·getD-map freshOf masks c 0) ∙ fresh-quiet (getD masks c 0) u))
+    (λ c u. ap (λ (x : Channel). turnAt x u) (List·getD-map freshOf masks c 0) ∙ fresh-quiet (getD masks c 0) u)
+    (all-free m n))
 
 -- ---- freeze and thaw
 
 abbrev pub frozenState : State → State
-frozenState s = record { m = s .m; w = s .w; frozen = true; channels = s .channels; files = s .files }
+frozenState s = record { m = s .m; w = s .w; frozen = true; channels = s .channels; files = s .files; free = s .free }
 
 pub freeze-kept : (s : State) → SoundFacts s → SoundFacts (frozenState s)
 freeze-kept s F = record {
@@ -97,10 +102,11 @@ freeze-kept s F = record {
   ready = F .ready;
   channels = λ c. freeze-facts (s .m) (s .frozen) (channelAt s c) (F .channels c);
   served = F .served;
+  free = F .free;
 }
 
 abbrev pub thawedState : State → State
-thawedState s = record { m = s .m; w = s .w; frozen = false; channels = map thawOf (s .channels); files = s .files }
+thawedState s = record { m = s .m; w = s .w; frozen = false; channels = map thawOf (s .channels); files = s .files; free = s .free }
 
 module _ (s : State) where
   -- a channel of the thawed state: thawed, or none
@@ -129,4 +135,5 @@ module _ (s : State) where
     ready = λ i o. ap (λ (r : Work). fileReady r (fileAt s i)) (alike (fileAt s i .channel) (fileAt s i .unit) .0) ∙ F .ready i o;
     channels = λ c. thawed-at (λ x y. ChannelFacts (s .m) (s .frozen) x → ChannelFacts (s .m) false y) (λ x. thaw-facts (s .m) (s .frozen) x) (λ f. no-facts (s .m) false) c (F .channels c);
     served = λ c u n. F .served c u (ap isNone (sym (alike c u .0)) ∙ n);
+    free = F .free;
   }

@@ -1,4 +1,5 @@
--- The same paragraph in the order in which the code walks: the pool, the files, each file with its unit, each channel with its units.
+-- The same paragraph in the order in which the code walks: the pool, the files, each file with its unit, each channel with its units, the
+-- free mask.
 -- A theorem says that this is `sound`. Assumes nothing.
 use Prim.Native.Nat.{ℕ}
 use mathlib.Core.Bool.{Bool, true, not, _&&_, _||_}
@@ -16,6 +17,7 @@ use Rattle.channel.specs.Units.{size, declaredAt}
 use Rattle.file.specs.declared.File.{File}
 use Rattle.file_input.specs.Delivers.{hasFull}
 use Rattle.pool.specs.Free.{poolSound}
+use Rattle.pool.specs.Masks.{freeMask}
 use Rattle.pool.specs.Serving.{serves}
 use Rattle.state_sound.specs.Files.{takenCount, filesSound}
 use Rattle.state.specs.declared.State.{State}
@@ -57,4 +59,5 @@ judgedState s =
     poolSound (s .m) (s .w)
     && (filesSound (s .m) (s .w) (s .files)
     && (allOf (fileFits (s .channels)) (s .files)
-    && allFrom (channelRight (s .m) (s .frozen) (s .files)) 0 (s .channels)))
+    && (allFrom (channelRight (s .m) (s .frozen) (s .files)) 0 (s .channels)
+    && eqb (s .free) (freeMask (s .m) (s .files)))))

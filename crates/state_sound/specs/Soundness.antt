@@ -1,5 +1,5 @@
--- "A state passed back by the caller is sound if ..": that paragraph of document 01, a conjunct for each clause, in its order.
--- Assumes nothing.
+-- "A state passed back by the caller is sound if ..": that paragraph of document 01, a conjunct for each clause, in its order, and the mask
+-- of the free buffers. Assumes nothing.
 use Prim.Native.Nat.{ℕ}
 use mathlib.Core.Bool.{Bool, true, not, cond, _&&_, _||_}
 use mathlib.Core.List.{List}
@@ -17,6 +17,7 @@ use Rattle.channel.specs.Units.{unitWorks, size, declaredAt, turnAt}
 use Rattle.file.specs.declared.File.{File}
 use Rattle.file_input.specs.Delivers.{hasFull}
 use Rattle.pool.specs.Free.{poolSound}
+use Rattle.pool.specs.Masks.{freeMask}
 use Rattle.pool.specs.Serving.{serves}
 use Rattle.state_sound.specs.Files.{inRange, hasBuffers, takenCount, fullRight, partRight, placeRight, restIsZero, isBlank, shareBuffer, shareUnit}
 use Rattle.state.specs.declared.State.{State}
@@ -151,7 +152,12 @@ channelInLimit c = allOf (λ (x : Unit). turnInLimit (x .turn)) (c .units)
 unfoldable pub attemptsInLimit : State → Bool
 attemptsInLimit s = allOf channelInLimit (s .channels)
 
--- ---- the paragraph
+-- ---- "Keep the free ones as one bit each" (document 02, M-104): the mask says which buffers no open file holds
+
+unfoldable pub freeMaskRight : State → Bool
+freeMaskRight s = eqb (s .free) (freeMask (s .m) (s .files))
+
+-- ---- the paragraph, and the mask
 
 unfoldable pub sound : State → Bool
 sound s =
@@ -165,4 +171,5 @@ sound s =
     && (fullBlocksRight s
     && (partBuffersRight s
     && (placesRight s
-    && attemptsInLimit s)))))))))
+    && (attemptsInLimit s
+    && freeMaskRight s))))))))))

@@ -2,13 +2,15 @@
 use crate::channels::channels_right;
 use crate::fits::files_fit;
 use crate::pairs::files_sound;
+use pool::free_mask;
 use pool::pool_sound;
 use state::State;
 ghost use mathlib.Core.Path.{_≡_};
 ghost use Rattle.state_sound.specs.Soundness.{sound};
 ghost use Rattle.state_sound.specs.Judged.{judgedState};
 
-// Document 01's paragraph in four passes: the pool, each file and every two, each file with its unit, each channel.
+// Document 01's paragraph in four passes: the pool, each file and every two, each file with its unit, each channel; and the free mask, which is
+// compared with what the files hold.
 fn is_judged(s: State) -> bool
     ensures { λ r. ⌜ r ≡ judgedState s ⌝ }
 {
@@ -18,10 +20,11 @@ fn is_judged(s: State) -> bool
     let own = files_sound(s.m, s.w, files);
     let fits = files_fit(channels, files);
     let turns = channels_right(s.m, s.frozen, files, channels);
-    pool & (own & (fits & turns))
+    let free = free_mask(s.m, files);
+    pool & (own & (fits & (turns & (s.free == free))))
 }
 
-// Whether the state is sound: document 01's paragraph "A state passed back by the caller is sound if ..", for any state.
+// Whether the state is sound: document 01's paragraph "A state passed back by the caller is sound if .." and a right free mask, for any state.
 pub fn is_sound(s: State) -> bool
     ensures { λ r. ⌜ r ≡ sound s ⌝ }
 {

@@ -154,6 +154,7 @@ fn pools_by_hand(script: &mut Script) {
     for (buffers, width) in [(32, 1_024), (16, 5), (16, 4), (32, 2), (13, 5), (1, 64), (1, 65)] {
         script.pool(BUFFERS, buffers);
         script.pool(WIDTH, width);
+        script.right_mask();
         script.print_sound();
         script.get(0);
         script.seal(0);
@@ -162,6 +163,7 @@ fn pools_by_hand(script: &mut Script) {
     }
     script.pool(BUFFERS, 32);
     script.pool(WIDTH, 1_024);
+    script.right_mask();
     script.open(1, DOUBLE, 1_024, 1_024);
     script.ask(1, READ);
     script.report(1, GOOD);

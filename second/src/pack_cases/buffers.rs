@@ -89,6 +89,7 @@ fn buffers_by_hand(script: &mut Script) {
     script.file(0, LOW + BUFFER_NUMBER, 1);
     script.file(0, HIGH + BUFFER_NUMBER, 7);
     script.file(1, LOW + BUFFER_NUMBER, 3);
+    script.right_mask();
     script.print_sound();
     script.open(2, DOUBLE, 2, 1);
     script.open(3, DOUBLE, 2, 1);
@@ -100,9 +101,11 @@ fn buffers_by_hand(script: &mut Script) {
     script.print_room();
     script.begin(1, 2, 3);
     script.pool(BUFFERS, 32);
+    script.right_mask();
     script.open(0, DOUBLE, 2, 1);
     script.file(0, LOW + BUFFER_NUMBER, 30);
     script.file(0, HIGH + BUFFER_NUMBER, 31);
+    script.right_mask();
     script.read(0, &[5, 6]);
     script.read(0, &[7, 8]);
     script.get(0);

@@ -27,13 +27,14 @@ impl Steps<'_> {
         }
     }
 
-    /// A change of the state. If it is unsound then, a few calls meet it; then it is taken back, or
+    /// A change of the state, with the mask that goes with it. If it is unsound then, a few calls meet it; then it is taken back, or
     /// the caller begins anew.
     pub fn change(&mut self) {
         let before = self.state().clone();
         for _ in 0..self.random.between(1, 2) {
             self.change_one();
         }
+        self.script.right_mask();
         self.script.print_sound();
         if is_sound(self.state()) {
             return;

@@ -6,8 +6,8 @@ use crate::pack::{CHANNELS, FILES};
 use crate::pack_player::{self as player, Player};
 use crate::state::State;
 use crate::state_fields::{
-    file_fields, pool_fields, unit_fields, AT, ATTEMPTS, ERROR, FILE_FIELDS, FULL, INCOMPLETE, OPERATION,
-    PART_FILLED, POOL_FIELDS, PRIORITY, SLOT_KIND, TURN_KIND, UNIT_FIELDS, WORDS,
+    file_fields, pool_fields, unit_fields, AT, ATTEMPTS, ERROR, FILE_FIELDS, FREE, FULL, INCOMPLETE,
+    OPERATION, PART_FILLED, POOL_FIELDS, PRIORITY, SLOT_KIND, TURN_KIND, UNIT_FIELDS, WORDS,
 };
 
 pub const READ: u64 = 0;
@@ -40,7 +40,7 @@ impl Script {
     }
 
     /// Adds a call that must be accepted for the case to be what it is meant to be.
-    fn accepted(&mut self, call: &[u64]) {
+    pub fn accepted(&mut self, call: &[u64]) {
         assert_eq!(self.add(call).first(), Some(&0), "{call:?}");
     }
 
@@ -147,6 +147,19 @@ impl Script {
 
     pub fn pool(&mut self, field: u64, value: u64) {
         self.add(&[player::POOL, field, value]);
+    }
+
+    /// Sets the mask of the free buffers by hand.
+    pub fn free(&mut self, mask: u64) {
+        self.pool(FREE, mask);
+    }
+
+    /// Puts the mask of the free buffers right, if it is wrong.
+    pub fn right_mask(&mut self) {
+        let right = self.player.state.free_mask();
+        if self.player.state.free != right {
+            self.free(u64::from(right));
+        }
     }
 
     pub fn print_room(&mut self) {

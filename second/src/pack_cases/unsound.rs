@@ -145,6 +145,7 @@ fn fresh_starts(bench: &mut Bench) {
         bench.script.freeze();
         let before = bench.script.player.state.clone();
         change(bench.script);
+        bench.script.right_mask();
         assert!(!is_sound(&bench.script.player.state));
         bench.script.print_sound();
         bench.script.fresh(8, 9, [1, 0, 0, 0, 0]);

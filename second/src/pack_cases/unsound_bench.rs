@@ -3,7 +3,7 @@
 
 use super::script::{Script, READ, WRITE};
 use crate::pack::{CHECK, DOUBLE, OUTPUT, SEQUENCE};
-use crate::sound::is_sound;
+use crate::sound::{broken_clauses, is_sound, Clause};
 
 /// The files of the bench.
 pub const INPUT: u64 = 0;
@@ -28,7 +28,7 @@ pub const CALLS: [&[u64]; 10] = [
 ];
 
 /// A fresh start that every sound state accepts.
-const FRESH_START: &[u64] = &[0, 2, 3, 1, 0, 0, 0, 512];
+pub const FRESH_START: &[u64] = &[0, 2, 3, 1, 0, 0, 0, 512];
 
 /// Every so many unsound states, what the refused calls left is printed.
 const PRINTED: usize = 12;
@@ -67,11 +67,31 @@ impl<'a> Bench<'a> {
         script.ask(READING, READ);
     }
 
-    /// A change that makes the state unsound: asked for, met by a fresh start and two other calls, taken
-    /// back.
+    /// A change that makes the state unsound, with the mask put right after it: asked for, met by calls,
+    /// taken back.
     pub fn unsound(&mut self, change: impl FnOnce(&mut Script)) {
         let before = self.script.player.state.clone();
         change(self.script);
+        self.script.right_mask();
+        self.meet();
+        self.script.set_state(&before);
+    }
+
+    /// A change after which the mask alone is wrong: asked for, met by calls, the mask put right, met by
+    /// an open and its close, taken back.
+    pub fn wrong_mask(&mut self, change: impl FnOnce(&mut Script)) {
+        let before = self.script.player.state.clone();
+        change(self.script);
+        assert_eq!(broken_clauses(&self.script.player.state), [Clause::FreeMask]);
+        self.meet();
+        self.script.right_mask();
+        self.script.try_open_on(15, 0, 4, 0, 6, 2);
+        self.script.close(15);
+        self.script.set_state(&before);
+    }
+
+    /// An unsound state is asked for, and met by a fresh start and two other calls.
+    fn meet(&mut self) {
         assert!(!is_sound(&self.script.player.state));
         self.script.print_sound();
         self.script.add(FRESH_START);
@@ -82,13 +102,14 @@ impl<'a> Bench<'a> {
             self.script.print_state();
         }
         self.states += 1;
-        self.script.set_state(&before);
     }
 
-    /// A change that leaves the state sound: asked for, now and then met by a fresh start, taken back.
+    /// A change that leaves the state sound, with the mask put right after it: asked for, now and then
+    /// met by a fresh start, taken back.
     pub fn sound(&mut self, change: impl FnOnce(&mut Script)) {
         let before = self.script.player.state.clone();
         change(self.script);
+        self.script.right_mask();
         assert!(is_sound(&self.script.player.state));
         self.script.print_sound();
         if self.sound_states.is_multiple_of(STARTED) {

@@ -22,9 +22,12 @@ fresh-requires-5 c κs = search needs
 closed-file-requires : tie.Need-closed-file-requires
 closed-file-requires c κs = search needs
 
+all-free-requires : tie.Need-all-free-requires
+all-free-requires c κs = search needs
+
 returns : tie.Need-returns
 unfolding freshState
-returns c = simp (c .before .before .before .before .before .fresh .ensures, c .before .before .before .before .fresh2 .ensures, c .before .before .before .fresh3 .ensures, c .before .before .fresh4 .ensures, c .before .fresh5 .ensures, c .closed-file .ensures)
+returns c = simp (c .before .before .before .before .before .before .fresh .ensures, c .before .before .before .before .before .fresh2 .ensures, c .before .before .before .before .fresh3 .ensures, c .before .before .before .fresh4 .ensures, c .before .before .fresh5 .ensures, c .before .closed-file .ensures, c .all-free .ensures)
 
 pub fresh-state-spec : {M : Type 1} → statement M
 fresh-state-spec =
@@ -36,4 +39,5 @@ fresh-state-spec =
     fresh-requires-4
     fresh-requires-5
     closed-file-requires
+    all-free-requires
     returns)

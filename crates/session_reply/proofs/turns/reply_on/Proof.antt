@@ -1,4 +1,3 @@
--- `session_reply::reply_on` meets its contract, because what is read and stored in place is what the lookups and replacements of a state say. Assumes nothing.
 use mathlib.Core.Path.{subst, refl, _≡_, sym, ap, _∙_}
 use mathlib.Core.Logic.{⊎-elim}
 use Prim.Native.Nat.{_<_}
@@ -9,76 +8,113 @@ use Rattle.session_reply.proofs.Stores.{Counts, whole-counts, not-whole
 use borrow.Author.Needs.{needs}
 use Rattle.session_reply.proofs.turns.reply_on.Statement.{statement}
 use Rattle.session_reply.proofs.turns.reply_on.Tie as tie
+use Rattle.session_reply.proofs.turns.reply_on.Reads as reads
+use Rattle.session_reply.proofs.turns.reply_on.Lts as lts
+use Rattle.pool.proofs.free_after.Reads as free-after-reads
+use Rattle.session_reply.proofs.concerns.channel_number.Reads as channel-number-reads
+use Rattle.session_reply.proofs.concerns.file_number.Reads as file-number-reads
+use Rattle.session_reply.proofs.places.channel_kept.Reads as channel-kept-reads
+use Rattle.session_reply.proofs.places.channel_or.Reads as channel-or-reads
+use Rattle.session_reply.proofs.places.file_kept.Reads as file-kept-reads
+use Rattle.session_reply.proofs.places.file_or.Reads as file-or-reads
+use Rattle.session_reply.proofs.places.index_in.Reads as index-in-reads
+use Rattle.session_reply.proofs.turns.change_of.Reads as change-of-reads
+use Rattle.session_reply.proofs.wholes.is_whole.Reads as is-whole-reads
+use Rattle.session_reply.proofs.wholes.whole.Reads as whole-reads
 
+-- src/turns.rt:73:8
 is-whole-requires : tie.Need-is-whole-requires
 is-whole-requires c κs = search needs
 
+-- src/turns.rt:74:13
 whole-requires : tie.Need-whole-requires
 whole-requires c κs = search needs
 
+-- src/turns.rt:77:9
 file-number-requires : tie.Need-file-number-requires
 file-number-requires c κs = search needs
 
+-- src/turns.rt:78:9
 index-in-requires : tie.Need-index-in-requires
 index-in-requires c κs = search needs
 
+-- src/turns.rt:79:15
 mul-old : tie.Need-mul-old
 mul-old c = search needs
 
+-- src/turns.rt:79:15
 element-copy-out-old : tie.Need-element-copy-out-old
 element-copy-out-old c = search needs
 
+-- src/turns.rt:80:9
 file-or-requires : tie.Need-file-or-requires
 file-or-requires c κs = search needs
 
+-- src/turns.rt:81:9
 channel-number-requires : tie.Need-channel-number-requires
 channel-number-requires c κs = search needs
 
+-- src/turns.rt:82:9
 index-in-requires-2 : tie.Need-index-in-requires-2
 index-in-requires-2 c κs = search needs
 
+-- src/turns.rt:83:15
 mul-was : tie.Need-mul-was
 mul-was c = search needs
 
+-- src/turns.rt:83:15
 element-copy-out-was : tie.Need-element-copy-out-was
 element-copy-out-was c = search needs
 
+-- src/turns.rt:84:9
 channel-or-requires : tie.Need-channel-or-requires
 channel-or-requires c κs = search needs
 
+-- src/turns.rt:85:9
 change-of-requires : tie.Need-change-of-requires
 change-of-requires c κs = search needs
 
+-- src/turns.rt:91:9
 file-kept-requires : tie.Need-file-kept-requires
 file-kept-requires c κs = search needs
 
-mul-t24 : tie.Need-mul-t24
-mul-t24 c = let h : c .before .before .before .before .before .before .before .before .before .before .before .before .before .index-in .result < 16 = c .before .before .before .before .before .before .before .before .before .before .before .before .before .index-in .ensures .1 in search needs
+-- src/turns.rt:92:9
+free-after-requires : tie.Need-free-after-requires
+free-after-requires c κs = search needs
 
-element-set-from-t : tie.Need-element-set-from-t
-element-set-from-t c = c .before .before .before .before .before .before .before .before .before .before .before .before .before .index-in .ensures .1
+-- src/turns.rt:93:5
+mul-new : tie.Need-mul-new
+mul-new c = let h : c .before .before .before .before .before .before .before .before .before .before .before .before .before .before .index-in .result < 16 = c .before .before .before .before .before .before .before .before .before .before .before .before .before .before .index-in .ensures .1 in search needs
 
+-- src/turns.rt:93:5
+element-set-from-new : tie.Need-element-set-from-new
+element-set-from-new c = c .before .before .before .before .before .before .before .before .before .before .before .before .before .before .index-in .ensures .1
+
+-- src/turns.rt:94:21
 channel-kept-requires : tie.Need-channel-kept-requires
 channel-kept-requires c κs = search needs
 
-mul-t24-2 : tie.Need-mul-t24-2
-mul-t24-2 c = search needs
+-- src/turns.rt:94:5
+mul-t26 : tie.Need-mul-t26
+mul-t26 c = search needs
 
-element-set-from-t-2 : tie.Need-element-set-from-t-2
-element-set-from-t-2 c = search needs
+-- src/turns.rt:94:5
+element-set-from-t : tie.Need-element-set-from-t
+element-set-from-t c = search needs
 
+-- src/turns.rt:68:1
 same-length : tie.Need-same-length
 same-length c = search needs
 
+-- src/turns.rt:68:1
 returns : tie.Need-returns
-returns c = let a = c .before .before .before .before .before .before .before .before .before .before .before .before .before .before .before .before .before .before .before .before .before .args in
-    let n = length (a .area .now) in
-    let ks : Counts (a .s) = record { files = sym (length-map (a .s .files) _) ∙ c .before .before .before .before .before .before .before .before .before .before .before .before .before .before .before .before .before .before .before .before .before .good .1 .0 .1 .1 .1 .1 .1 .1 .0 .1 .0 .1; channels = sym (length-map (a .s .channels) _) ∙ c .before .before .before .before .before .before .before .before .before .before .before .before .before .before .before .before .before .before .before .before .before .good .1 .0 .1 .1 .1 .1 .1 .0 .1 .0 .1 } in
-    let is : c .before .before .before .before .before .before .before .before .before .before .before .before .before .before .before .before .before .if1 .t ≡ wholeOf (a .unsound) (a .s) (length (a .area .now)) (a .frame) =
-    ⊎-elim {C = c .before .before .before .before .before .before .before .before .before .before .before .before .before .before .before .before .before .if1 .t ≡ wholeOf (a .unsound) (a .s) (length (a .area .now)) (a .frame)} (λ v. v .2 ∙ v .1 .ensures) (λ v. v .1 ∙ sym (not-whole (a .unsound) (a .s) (length (a .area .now)) (a .frame) (sym (c .before .before .before .before .before .before .before .before .before .before .before .before .before .before .before .before .before .before .is-whole .ensures) ∙ v .0 .left))) (c .before .before .before .before .before .before .before .before .before .before .before .before .before .before .before .before .before .if1 .came) in
-    let kt : Counts (c .before .before .before .before .before .before .before .before .before .before .before .before .before .before .before .before .before .if1 .t) = subst Counts (sym is) (whole-counts (a .unsound) (a .s) (length (a .area .now)) (a .frame) ks) in (
-      turned-as (a .unsound) (c .before .before .before .before .before .before .before .before .before .before .before .before .before .before .before .before .before .if1 .t) (a .area .now) (a .words .now) (a .area .now) (a .frame) kt _ _ _ _ _ _ _ _ _ _ (c .before .before .before .before .before .before .before .before .before .before .before .before .before .before .before .file-number .ensures) (c .before .before .before .before .before .before .before .before .before .before .before .before .before .before .index-in .ensures .0) refl (c .before .before .before .before .before .before .before .before .before .before .before .before .file-or .ensures) (c .before .before .before .before .before .before .before .before .before .before .before .channel-number .ensures) (c .before .before .before .before .before .before .before .before .before .before .index-in2 .ensures .0) refl (c .before .before .before .before .before .before .before .before .channel-or .ensures) _ _ _ (c .before .before .before .before .before .before .change-of .ensures .0) (c .before .file-kept .ensures) (c .channel-kept .ensures) ∙ ap (λ (u : State). turnedFrom (a .unsound) u (a .area .now) (a .frame) (a .words .now)) is,
-      area-as (a .unsound) (c .before .before .before .before .before .before .before .before .before .before .before .before .before .before .before .before .before .if1 .t) (a .area .now) (a .words .now) _ (a .frame) kt _ _ _ _ _ _ _ _ _ _ (c .before .before .before .before .before .before .before .before .before .before .before .before .before .before .before .file-number .ensures) (c .before .before .before .before .before .before .before .before .before .before .before .before .before .before .index-in .ensures .0) refl (c .before .before .before .before .before .before .before .before .before .before .before .before .file-or .ensures) (c .before .before .before .before .before .before .before .before .before .before .before .channel-number .ensures) (c .before .before .before .before .before .before .before .before .before .before .index-in2 .ensures .0) refl (c .before .before .before .before .before .before .before .before .channel-or .ensures) (c .before .before .before .before .before .before .change-of .ensures .1) ∙ ap (λ (u : State). areaFrom (a .unsound) u (a .area .now) (a .frame) (a .words .now)) is,
+returns c = let a = c .before .before .before .before .before .before .before .before .before .before .before .before .before .before .before .before .before .before .before .before .before .before .args in
+    let ks : Counts (a .s) = record { files = sym (length-map (a .s .files) _) ∙ c .before .before .before .before .before .before .before .before .before .before .before .before .before .before .before .before .before .before .before .before .before .before .good .1 .0 .1 .1 .1 .1 .1 .1 .0 .1 .0 .1; channels = sym (length-map (a .s .channels) _) ∙ c .before .before .before .before .before .before .before .before .before .before .before .before .before .before .before .before .before .before .before .before .before .before .good .1 .0 .1 .1 .1 .1 .1 .0 .1 .0 .1 } in
+    let is : c .before .before .before .before .before .before .before .before .before .before .before .before .before .before .before .before .before .before .if1 .t ≡ wholeOf (a .unsound) (a .s) (length (a .area .now)) (a .frame) =
+    ⊎-elim {C = c .before .before .before .before .before .before .before .before .before .before .before .before .before .before .before .before .before .before .if1 .t ≡ wholeOf (a .unsound) (a .s) (length (a .area .now)) (a .frame)} (λ v. v .2 ∙ v .1 .ensures) (λ v. v .1 ∙ sym (not-whole (a .unsound) (a .s) (length (a .area .now)) (a .frame) (sym (c .before .before .before .before .before .before .before .before .before .before .before .before .before .before .before .before .before .before .before .is-whole .ensures) ∙ v .0 .left))) (c .before .before .before .before .before .before .before .before .before .before .before .before .before .before .before .before .before .before .if1 .came) in
+    let kt : Counts (c .before .before .before .before .before .before .before .before .before .before .before .before .before .before .before .before .before .before .if1 .t) = subst Counts (sym is) (whole-counts (a .unsound) (a .s) (length (a .area .now)) (a .frame) ks) in (
+      turned-as (a .unsound) (c .before .before .before .before .before .before .before .before .before .before .before .before .before .before .before .before .before .before .if1 .t) (a .area .now) (a .words .now) (a .area .now) (a .frame) kt _ _ _ _ _ _ _ _ _ _ (c .before .before .before .before .before .before .before .before .before .before .before .before .before .before .before .before .file-number .ensures) (c .before .before .before .before .before .before .before .before .before .before .before .before .before .before .before .index-in .ensures .0) refl (c .before .before .before .before .before .before .before .before .before .before .before .before .before .file-or .ensures) (c .before .before .before .before .before .before .before .before .before .before .before .before .channel-number .ensures) (c .before .before .before .before .before .before .before .before .before .before .before .index-in2 .ensures .0) refl (c .before .before .before .before .before .before .before .before .before .channel-or .ensures) _ _ _ _ (c .before .before .before .before .before .before .before .change-of .ensures .0) (c .before .before .file-kept .ensures) (c .channel-kept .ensures) (c .before .free-after .ensures) ∙ ap (λ (u : State). turnedFrom (a .unsound) u (a .area .now) (a .frame) (a .words .now)) is,
+      area-as (a .unsound) (c .before .before .before .before .before .before .before .before .before .before .before .before .before .before .before .before .before .before .if1 .t) (a .area .now) (a .words .now) _ (a .frame) kt _ _ _ _ _ _ _ _ _ _ (c .before .before .before .before .before .before .before .before .before .before .before .before .before .before .before .before .file-number .ensures) (c .before .before .before .before .before .before .before .before .before .before .before .before .before .before .before .index-in .ensures .0) refl (c .before .before .before .before .before .before .before .before .before .before .before .before .before .file-or .ensures) (c .before .before .before .before .before .before .before .before .before .before .before .before .channel-number .ensures) (c .before .before .before .before .before .before .before .before .before .before .before .index-in2 .ensures .0) refl (c .before .before .before .before .before .before .before .before .before .channel-or .ensures) (c .before .before .before .before .before .before .before .change-of .ensures .1) ∙ ap (λ (u : State). areaFrom (a .unsound) u (a .area .now) (a .frame) (a .words .now)) is,
     )
 
 pub reply-on-spec : {M : Type 1} → statement M
@@ -99,10 +135,11 @@ reply-on-spec =
     channel-or-requires
     change-of-requires
     file-kept-requires
-    mul-t24
-    element-set-from-t
+    free-after-requires
+    mul-new
+    element-set-from-new
     channel-kept-requires
-    mul-t24-2
-    element-set-from-t-2
+    mul-t26
+    element-set-from-t
     same-length
     returns)
