@@ -20,14 +20,14 @@ use Rattle.file_output.specs.Puts.{putSide, putStart, added, afterPut}
 use Rattle.file_output.specs.Parts.{partStart, partLength, isComplete, sealedFile}
 use Rattle.file_output.specs.Sends.{sendStart, sendWords, afterWrite}
 use Rattle.file.specs.Sizes.{openedFile}
-use Rattle.pool.specs.Free.{lowestFree, freeCount}
+use Rattle.pool.specs.Free.{lowestFree, freeCount, freeOf}
 use Rattle.pool.specs.Serving.{servingFile}
 use Rattle.state_sound.specs.Files.{isBlank}
 use Rattle.state.specs.Places.{beforeStart}
 use Rattle.state.specs.Stores.{withFile, withChannel}
 use Rattle.state_sound.specs.Soundness.{numbersInRange, noBufferHeldTwice, eachHasItsOwn, requestsFit, channelsWork, readsAloneTake, writesHaveBlocks, fullBlocksRight, partBuffersRight, placesRight, attemptsInLimit, sound}
 use Rattle.pack_start.specs.Fresh.{freshRows, freshState, freshBy}
-use Rattle.call_open.specs.Open.{freeOf, openRows, openOn}
+use Rattle.call_open.specs.Open.{openRows, openOn}
 use Rattle.pack_open.specs.Open.{openBy}
 use Rattle.pack_request.specs.Changes.{changedState}
 use Rattle.call_request.specs.Ask.{opOf, askRefusal, askedFile, askedChannel, askOn}

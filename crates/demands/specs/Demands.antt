@@ -2,14 +2,16 @@
 -- Assumes nothing.
 use mathlib.Core.Path.{_≡_}
 use mathlib.Core.Logic.{_≢_, _⊎_}
-use mathlib.Core.Bool.{true, false, cond}
+use mathlib.Core.Bool.{true, false, cond, _&&_}
 use mathlib.Core.List.{List, [], _∷_, _++_, map}
-use Prim.Native.Nat.{ℕ, _+_, _*_, _≤_, _<_}
+use Prim.Native.Nat.{ℕ, _+_, _*_, _^_, _≤_, _<_}
+use lib.Dec.{ltb}
 use Rattle.area.specs.Refusals.{Given, NoneApplies}
 use Rattle.file.specs.declared.File.{File}
 use Rattle.area.specs.Lists.{countOf}
+use Rattle.area.specs.Masks.{bitAt}
 use Rattle.channel.specs.Units.{operationAt}
-use Rattle.pool.specs.Free.{heldBy, isFree, freeCount, holders, allHolding, Lowest}
+use Rattle.pool.specs.Free.{bufferLimit, heldBy, isFree, freeCount, holders, allHolding, Lowest}
 use Rattle.pool.specs.Serving.{serves}
 use Rattle.state.specs.declared.State.{State}
 use Rattle.state.specs.Places.{fileAt, channelAt}
@@ -44,16 +46,21 @@ pub record Holds (s : State) : Type 0 where
   pub once : (b : ℕ) → holders (s .files) b ≡ cond (isFree (s .files) b) 0 1
   -- the free buffers, and those that files hold, are all m
   pub all : freeCount (s .m) (s .files) + allHolding (s .files) ≡ s .m
+  -- and the free mask says which: bit b is set exactly if b is one of the m buffers and no open file holds it, and no bit stands above
+  pub mask : (b : ℕ) → b < bufferLimit → bitAt (s .free) b ≡ (ltb b (s .m) && isFree (s .files) b)
+  pub above : s .free < 2 ^ bufferLimit
 
 -- "and a freed one is used again.": what the file held is free after its close,
 pub record Frees (s : State) (file : ℕ) (t : State) : Type 0 where
   pub free : (b : ℕ) → heldBy b (fileAt s file) ≡ true → isFree (t .files) b ≡ true
+  pub bits : (b : ℕ) → heldBy b (fileAt s file) ≡ true → bitAt (t .free) b ≡ true
 
 -- and an open takes the lowest free ones, which then this file alone holds
 pub record Takes (s : State) (file : ℕ) (t : State) : Type 0 where
   pub low : Lowest (s .m) (s .files) 0 (fileAt t file .low .number)
   pub high : fileAt t file .double ≡ true → Lowest (s .m) (s .files) (fileAt t file .low .number + 1) (fileAt t file .high .number)
   pub alone : (b i : ℕ) → heldBy b (fileAt t file) ≡ true → heldBy b (fileAt t i) ≡ true → i ≡ file
+  pub bits : (b : ℕ) → heldBy b (fileAt t file) ≡ true → (bitAt (s .free) b ≡ true) × (bitAt (t .free) b ≡ false)
 
 -- A late completion is not booked to a neighbour's file: the channel was working for that unit, one file alone is open on it, and no other
 -- file and no other channel changes.

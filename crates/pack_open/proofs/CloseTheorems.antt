@@ -58,9 +58,9 @@ module _ (s : State) (file : ℕ) (yes₀ : closeBy s file .refusal ≡ 0) where
   none : NoneApplies (rows s file)
   none = close-exactly s file .1 .none (sym (close-exactly s file .0) ∙ yes₀)
 
-  good : sound s ≡ true
+  pub close-good : sound s ≡ true
   unfolding closeRows
-  good = not-so (sound s) (or-right (leb fileCount file) _ (none 1 _ here))
+  close-good = not-so (sound s) (or-right (leb fileCount file) _ (none 1 _ here))
 
   was-open : fileAt s file .opened ≡ true
   unfolding closeRows
@@ -83,7 +83,7 @@ module _ (s : State) (file : ℕ) (yes₀ : closeBy s file .refusal ≡ 0) where
   close-file = ap (λ (t : State). fileAt t file) close-state ∙ getD-set-same (s .files) file closedFile closedFile (place-of s file was-open)
 
   pub close-sound : sound (closeBy s file .state) ≡ true
-  close-sound = ap sound close-state ∙ facts-sound (withFile s file closedFile) (close-facts s file (sound-facts s good) was-open quiet)
+  close-sound = ap sound close-state ∙ facts-sound (withFile s file closedFile) (close-facts s file (sound-facts s close-good) was-open quiet)
 
   -- "Closing gives all back": a buffer that the file held is free afterwards
   pub close-frees : (b : ℕ) → heldBy b (fileAt s file) ≡ true → isFree (closeBy s file .state .files) b ≡ true
@@ -95,7 +95,7 @@ module _ (s : State) (file : ℕ) (yes₀ : closeBy s file .refusal ≡ 0) where
       nobody j (yes e) = ap (λ (k : ℕ). heldBy b (fileAt (closeBy s file .state) k)) e ∙ ap (heldBy b) close-file
       nobody j (no ne) =
           ap (heldBy b) (close-frame s file .files j ne)
-          ∙ apart-holds b (fileAt s file) (fileAt s j) (sound-facts s good .apart file j (λ e. ne (sym e))) h
+          ∙ apart-holds b (fileAt s file) (fileAt s j) (sound-facts s close-good .apart file j (λ e. ne (sym e))) h
 
       held : Somewhere (heldBy b) (closeBy s file .state .files) closedFile → not true ≡ true
       held p = true-not-false (p .passes) (nobody (p .place) (ℕ-discrete (p .place) file))

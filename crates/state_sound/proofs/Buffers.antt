@@ -18,7 +18,7 @@ use Rattle.state_sound.specs.Judged.{judgedState}
 use Rattle.state_sound.proofs.Facts.{sound-facts, facts-judged}
 
 -- a sound pool has at most 32 buffers
-few-buffers : (m w : ℕ) → poolSound m w ≡ true → m ≤ bufferLimit
+pub few-buffers : (m w : ℕ) → poolSound m w ≡ true → m ≤ bufferLimit
 few-buffers m w h =
     or-either (poolFits m w) (eqb m 0 && eqb w 0) h
     (λ e. leb-true m bufferLimit (and-right (leb 1 m) _ (and-left (leb 1 m && leb m bufferLimit) _ e)))
