@@ -30,7 +30,15 @@ pub fn wish_of(channel: u8, unit: u8, flags: u8, size: u16, rlen: u16) -> Wish
 }
 
 // The refusal of an open, 0 for none.
-fn open_refusal(c1: bool, bound: bool, f: File, c: Channel, free: FreeBuffers, w: u16, q: Wish) -> u8
+fn open_refusal(
+    c1: bool,
+    bound: bool,
+    f: File,
+    c: Channel,
+    free: FreeBuffers,
+    w: u16,
+    q: Wish,
+) -> u8
     ensures { λ r. ⌜ r ≡ openRefusal c1 bound f c free w q ⌝ }
 {
     let known = is_declared(c, q.unit as usize);

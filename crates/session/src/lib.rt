@@ -1,10 +1,9 @@
 // A session: its lines, put together from parts of any size, each decoded, played and answered once against the state and the area that the
 // one before left. It knows nothing of where the parts come from and where the answers go.
-mod line;
 mod play;
 mod slow;
 
-pub use line::answer_line;
+pub use play::answer_line;
 use session_line::Line;
 pub use slow::new_talk;
 pub use slow::talk_end;

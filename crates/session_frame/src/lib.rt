@@ -1,16 +1,12 @@
 // A line of a session to a frame: which call it names and its numbers, as they stand in the line; and an answer to its line: its bytes and
 // words as upper-case hexadecimal digits, and a line feed, into a lent area. Words stay in the line until `words_into` brings them to a room.
 // Whether a number is in its range, and which answer a call has, is the pack's to say. It knows nothing of how lines are cut.
-mod ahead;
-mod decode;
-mod kinds;
-mod line;
-mod read;
-mod write;
+mod answers;
+mod frames;
 
-pub use decode::frame_of;
-pub use decode::words_into;
-pub use line::write_answer;
+pub use answers::write_answer;
+pub use frames::frame_of;
+pub use frames::words_into;
 
 // The most characters that a line has: a report of 1,024 words.
 pub const LONGEST: usize = 10248;

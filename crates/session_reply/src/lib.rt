@@ -1,11 +1,7 @@
 // What a frame comes to, against a state and a lent area: played by the pack's inner forms on the one file and the one channel that it concerns.
 // It knows nothing of lines: the frame is decoded before, and its answer written after.
-mod calls;
-mod concerns;
-mod lending;
-mod places;
+mod changes;
 mod turns;
-mod wholes;
 
 use channel::Channel;
 use file::File;

@@ -1,21 +1,103 @@
-// Whether one file is sound: document 01's paragraph on a state that is passed back, clause by clause.
-use crate::clauses::full_fits;
-use crate::clauses::is_no_buffer;
-use crate::clauses::is_unread;
-use crate::clauses::one_if;
-use crate::clauses::part_fits;
-use crate::clauses::place_fits;
+// Whether the files are sound: what one buffer may hold, each file by itself, and every two of them. Document 01's paragraph on a state that is passed
+// back, clause by clause.
+use file::Buffer;
 use file::File;
 use file::LAST_ERROR;
+use file::Slot;
 use file::full_error;
+use file::full_place;
+use file::is_empty;
 use file::is_full;
 use file::is_part;
 use file::is_taken;
 use file::sizes_fit;
+use pool::FILES;
+use pool::holds;
+use pool::serves;
 use word::BLOCK_NUMBERS;
 ghost use mathlib.Core.Path.{_≡_};
 ghost use Prim.Native.Nat.{_≤_};
-ghost use Rattle.state_sound.specs.Files.{inRange, hasBuffers, takenCount, takenRight, fullRight, partsHeld, partRight, placeRight, restIsZero, openSound, isBlank, fileSound};
+ghost use Rattle.state_sound.specs.Files.{isNoBuffer, fullFits, partFits, placeFits, isUnread, inRange, hasBuffers, takenCount, takenRight, fullRight, partsHeld, partRight, placeRight, restIsZero, openSound, isBlank, fileSound, shareBuffer, apart, filesSound};
+ghost use Rattle.area.specs.Lists.{oneIf, allOf, allPairs};
+ghost use lib.ListN.{drop};
+
+fn is_no_buffer(b: Buffer) -> bool
+    ensures { λ r. ⌜ r ≡ isNoBuffer b ⌝ }
+{
+    let x = b.slot;
+    let empty = is_empty(x);
+    (b.number == 0) & empty
+}
+
+// One if it is so, else 0.
+fn one_if(b: bool) -> u8
+    ensures { λ r. ⌜ (r ≡ oneIf b) × (r ≤ 1) ⌝ }
+{
+    if b {
+        return 1;
+    }
+    0
+}
+
+// A full block has 1 to B data words.
+fn full_fits(size: u16, x: Slot) -> bool
+    ensures { λ r. ⌜ r ≡ fullFits size x ⌝ }
+{
+    match x {
+        Slot::Empty => true,
+        Slot::Taken => true,
+        Slot::Part(_) => true,
+        Slot::Full {
+            words,
+            at: _,
+            error: _,
+        } => (1 <= words) & (words <= size),
+    }
+}
+
+// A part-filled buffer has r words or more, and room for r.
+fn part_fits(size: u16, rlen: u16, x: Slot) -> bool
+    ensures { λ r. ⌜ r ≡ partFits size rlen x ⌝ }
+{
+    match x {
+        Slot::Empty => true,
+        Slot::Taken => true,
+        Slot::Part(n) => {
+            let after = (n as u32) + (rlen as u32);
+            (rlen <= n) & (after <= size as u32)
+        }
+        Slot::Full {
+            words: _,
+            at: _,
+            error: _,
+        } => true,
+    }
+}
+
+// The place of get is not past its block.
+fn place_fits(x: Slot) -> bool
+    ensures { λ r. ⌜ r ≡ placeFits x ⌝ }
+{
+    match x {
+        Slot::Empty => true,
+        Slot::Taken => true,
+        Slot::Part(_) => true,
+        Slot::Full {
+            words,
+            at,
+            error: _,
+        } => at <= words,
+    }
+}
+
+// A block that has no place of get and no check error.
+fn is_unread(x: Slot) -> bool
+    ensures { λ r. ⌜ r ≡ isUnread x ⌝ }
+{
+    let at = full_place(x);
+    let error = full_error(x);
+    (at == 0) & (error == 0)
+}
 
 // The sizes, the block number and the check errors are in their ranges.
 fn in_range(w: u16, f: File) -> bool
@@ -165,11 +247,85 @@ fn is_blank(f: File) -> bool
 }
 
 // Whether the file is sound, in a pool of m buffers of w words: an open one by the clauses above, a closed one if it is all zero.
-pub fn file_sound(m: u8, w: u16, f: File) -> bool
+fn file_sound(m: u8, w: u16, f: File) -> bool
     ensures { λ r. ⌜ r ≡ fileSound m w f ⌝ }
 {
     if f.opened {
         return open_sound(m, w, f);
     }
     is_blank(f)
+}
+
+// Whether two open files share a buffer.
+fn share_buffer(f: File, g: File) -> bool
+    ensures { λ r. ⌜ r ≡ shareBuffer f g ⌝ }
+{
+    let low = f.low.number as usize;
+    let high = f.high.number as usize;
+    let a = holds(g, low);
+    let b = holds(g, high);
+    f.opened & (a | (f.double & b))
+}
+
+// Whether two files share neither a buffer nor a unit.
+fn are_apart(f: File, g: File) -> bool
+    ensures { λ r. ⌜ r ≡ apart f g ⌝ }
+{
+    let a = share_buffer(f, g);
+    let b = serves(g, f.channel, f.unit);
+    !a & !(f.opened & b)
+}
+
+// Whether every file is sound by itself.
+fn each_sound(m: u8, w: u16, files: [File; FILES]) -> bool
+    ensures { λ r. ⌜ r ≡ allOf (fileSound m w) files ⌝ }
+{
+    let mut i: usize = 0;
+    while i < FILES {
+        let f = files[i];
+        if !file_sound(m, w, f) {
+            return false;
+        }
+        i += 1;
+    }
+    true
+}
+
+// Whether a file is apart from each of the files k, k + 1 and so on.
+fn apart_from(f: File, files: [File; FILES], k: usize) -> bool
+    ensures { λ r. ⌜ r ≡ allOf (apart f) (drop k files) ⌝ }
+{
+    let mut i = k;
+    while i < FILES {
+        let g = files[i];
+        if !are_apart(f, g) {
+            return false;
+        }
+        i += 1;
+    }
+    true
+}
+
+// Whether every two files are apart.
+fn all_apart(files: [File; FILES]) -> bool
+    ensures { λ r. ⌜ r ≡ allPairs apart files ⌝ }
+{
+    let mut i: usize = 0;
+    while i < FILES {
+        let f = files[i];
+        if !apart_from(f, files, i + 1) {
+            return false;
+        }
+        i += 1;
+    }
+    true
+}
+
+// Whether the files are sound, in a pool of m buffers of w words.
+pub fn files_sound(m: u8, w: u16, files: [File; FILES]) -> bool
+    ensures { λ r. ⌜ r ≡ filesSound m w files ⌝ }
+{
+    let a = each_sound(m, w, files);
+    let b = all_apart(files);
+    a & b
 }

@@ -1,7 +1,7 @@
 // Whether a state that a caller passes back is sound.
 use crate::channels::channels_right;
-use crate::fits::files_fit;
-use crate::pairs::files_sound;
+use crate::channels::files_fit;
+use crate::files::files_sound;
 use pool::free_mask;
 use pool::pool_sound;
 use state::State;

@@ -11,16 +11,16 @@ use Rattle.session_reply.proofs.turns.reply_on.Tie as tie
 use Rattle.session_reply.proofs.turns.reply_on.Reads as reads
 use Rattle.session_reply.proofs.turns.reply_on.Lts as lts
 use Rattle.pool.proofs.free_after.Reads as free-after-reads
-use Rattle.session_reply.proofs.concerns.channel_number.Reads as channel-number-reads
-use Rattle.session_reply.proofs.concerns.file_number.Reads as file-number-reads
-use Rattle.session_reply.proofs.places.channel_kept.Reads as channel-kept-reads
-use Rattle.session_reply.proofs.places.channel_or.Reads as channel-or-reads
-use Rattle.session_reply.proofs.places.file_kept.Reads as file-kept-reads
-use Rattle.session_reply.proofs.places.file_or.Reads as file-or-reads
-use Rattle.session_reply.proofs.places.index_in.Reads as index-in-reads
+use Rattle.session_reply.proofs.turns.channel_number.Reads as channel-number-reads
+use Rattle.session_reply.proofs.turns.file_number.Reads as file-number-reads
+use Rattle.session_reply.proofs.turns.channel_kept.Reads as channel-kept-reads
+use Rattle.session_reply.proofs.turns.channel_or.Reads as channel-or-reads
+use Rattle.session_reply.proofs.turns.file_kept.Reads as file-kept-reads
+use Rattle.session_reply.proofs.turns.file_or.Reads as file-or-reads
+use Rattle.session_reply.proofs.turns.index_in.Reads as index-in-reads
 use Rattle.session_reply.proofs.turns.change_of.Reads as change-of-reads
-use Rattle.session_reply.proofs.wholes.is_whole.Reads as is-whole-reads
-use Rattle.session_reply.proofs.wholes.whole.Reads as whole-reads
+use Rattle.session_reply.proofs.turns.is_whole.Reads as is-whole-reads
+use Rattle.session_reply.proofs.turns.whole.Reads as whole-reads
 
 -- src/turns.rt:73:8
 is-whole-requires : tie.Need-is-whole-requires

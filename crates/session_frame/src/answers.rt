@@ -1,0 +1,246 @@
+// An answer to its line: numbers written as digits into a lent area from a place on, counted in characters, what comes ahead of the words, and the whole
+// line. Every other character of the area stays.
+use crate::Answer;
+use crate::Lead;
+ghost use mathlib.Core.Path.{_≡_};
+ghost use Prim.Native.Nat.{_+_, _*_, _%_, _≤_, _<_};
+ghost use lib.Dec.{leb};
+ghost use lib.ListN.{length};
+ghost use Rattle.area.specs.Parts.{paste, pastedIn};
+ghost use Rattle.session_frame.specs.Digits.{digitOf, byteDigits, concatMap};
+ghost use Rattle.session_frame.specs.Fields.{wordDigits};
+ghost use Rattle.session_frame.specs.Writes.{placeAfter};
+ghost use mathlib.Core.Bool.{false};
+ghost use Rattle.session_frame.specs.Leads.{leadIs, leadOf, leadBytes, shownOf};
+ghost use Rattle.session_frame.specs.Answers.{answerText};
+
+// Whether n characters fit from a place on, of `len` that there are.
+fn has_room(len: usize, at: usize, n: usize) -> bool
+    ensures { λ r. ⌜ r ≡ leb (at + n) len ⌝ }
+{
+    if len < at {
+        return false;
+    }
+    n <= len - at
+}
+
+// Whether n words of ten characters fit.
+fn words_fit(len: usize, at: usize, n: usize) -> bool
+    ensures { λ r. ⌜ r ≡ leb (at + 10 * n) len ⌝ }
+{
+    if len < at {
+        return false;
+    }
+    n <= (len - at) / 10
+}
+
+// The digit of a number below 16.
+fn digit(n: u8) -> u8
+    requires { ⌜ n < 16 ⌝ }
+    ensures { λ r. ⌜ r ≡ digitOf n ⌝ }
+{
+    if n < 10 {
+        return n + 48;
+    }
+    n + 55
+}
+
+// The low byte of a number.
+fn low(x: u64) -> u8
+    ensures { λ r. ⌜ r ≡ x % 256 ⌝ }
+{
+    (x % 256) as u8
+}
+
+// A byte's two digits, where they fit.
+fn write_byte(out: &mut [u8], at: usize, b: u8)
+    requires { ⌜ at + 2 ≤ length (now out) ⌝ }
+    ensures { λ _. ⌜ now (out .exit) ≡ paste at (byteDigits b) (now (out .entry)) ⌝ }
+{
+    let high = digit(b / 16);
+    let low = digit(b % 16);
+    let next = at + 1;
+    out[at] = high;
+    out[next] = low;
+}
+
+// A word's ten digits, where they fit.
+fn write_word(out: &mut [u8], at: usize, w: u64)
+    requires { ⌜ at + 10 ≤ length (now out) ⌝ }
+    ensures { λ _. ⌜ now (out .exit) ≡ paste at (wordDigits w) (now (out .entry)) ⌝ }
+{
+    write_byte(out, at, low(w >> 32));
+    write_byte(out, at + 2, low(w >> 24));
+    write_byte(out, at + 4, low(w >> 16));
+    write_byte(out, at + 6, low(w >> 8));
+    write_byte(out, at + 8, low(w));
+}
+
+// A byte: two digits.
+fn put_byte(out: &mut [u8], at: usize, b: u8) -> usize
+    ensures { λ r. ⌜ r ≡ placeAfter at (byteDigits b) (now (out .entry)) ⌝ }
+    ensures { λ _. ⌜ now (out .exit) ≡ pastedIn at (byteDigits b) (now (out .entry)) ⌝ }
+{
+    let room = has_room(out.len(), at, 2);
+    if room {
+        write_byte(out, at, b);
+        return at + 2;
+    }
+    at
+}
+
+// A word of five bytes: ten digits. What is above 40 bits is not written.
+fn put_word(out: &mut [u8], at: usize, w: u64) -> usize
+    ensures { λ r. ⌜ r ≡ placeAfter at (wordDigits w) (now (out .entry)) ⌝ }
+    ensures { λ _. ⌜ now (out .exit) ≡ pastedIn at (wordDigits w) (now (out .entry)) ⌝ }
+{
+    let room = has_room(out.len(), at, 10);
+    if room {
+        write_word(out, at, w);
+        return at + 10;
+    }
+    at
+}
+
+// All words, one after the other, if all fit.
+fn put_words(out: &mut [u8], at: usize, words: &[u64]) -> usize
+    ensures { λ r. ⌜ r ≡ placeAfter at (concatMap wordDigits (now (words .entry))) (now (out .entry)) ⌝ }
+    ensures { λ _. ⌜ now (out .exit) ≡ pastedIn at (concatMap wordDigits (now (words .entry))) (now (out .entry)) ⌝ }
+{
+    let room = words_fit(out.len(), at, words.len());
+    if !room {
+        return at;
+    }
+    let mut to = at;
+    let mut i = 0;
+    while i < words.len() {
+        write_word(out, to, words[i]);
+        to += 10;
+        i += 1;
+    }
+    to
+}
+
+// A lead of two bytes, 00 and one more.
+fn pair(second: u8, worded: bool) -> Lead
+    ensures { λ r. ⌜ r ≡ leadIs 2 0 second 0 0 worded ⌝ }
+{
+    Lead {
+        count: 2,
+        first: 0,
+        second,
+        third: 0,
+        fourth: 0,
+        worded,
+    }
+}
+
+// A lead of one byte.
+fn single(first: u8) -> Lead
+    ensures { λ r. ⌜ r ≡ leadIs 1 first 0 0 0 false ⌝ }
+{
+    Lead {
+        count: 1,
+        first,
+        second: 0,
+        third: 0,
+        fourth: 0,
+        worded: false,
+    }
+}
+
+// The bytes of an answer ahead of its words.
+fn lead_of(a: Answer) -> Lead
+    ensures { λ r. ⌜ r ≡ leadOf a ⌝ }
+{
+    match a {
+        Answer::Refused(n) => single(n),
+        Answer::Done => single(0),
+        Answer::Asked { working } => pair(working, false),
+        Answer::Reported {
+            result,
+            error,
+            working,
+        } => Lead {
+            count: 4,
+            first: 0,
+            second: result,
+            third: error,
+            fourth: working,
+            worded: true,
+        },
+        Answer::Got(number) => pair(number, true),
+        Answer::GotError { number, error } => Lead {
+            count: 3,
+            first: 0,
+            second: number,
+            third: error,
+            fourth: 0,
+            worded: false,
+        },
+    }
+}
+
+// Writes a lead of one to four bytes at the front of an area where it fits. The answer is the place after it.
+fn write_lead(l: Lead, out: &mut [u8]) -> usize
+    requires { ⌜ (0 < l .count) × (l .count ≤ 4) × (2 * l .count ≤ length (now out)) ⌝ }
+    ensures { λ r. ⌜ (r ≡ 2 * l .count) × (now (out .exit) ≡ paste 0 (concatMap byteDigits (leadBytes l)) (now (out .entry))) ⌝ }
+{
+    put_byte(out, 0, l.first);
+    if l.count == 1 {
+        return 2;
+    }
+    put_byte(out, 2, l.second);
+    if l.count == 2 {
+        return 4;
+    }
+    put_byte(out, 4, l.third);
+    if l.count == 3 {
+        return 6;
+    }
+    put_byte(out, 6, l.fourth);
+    8
+}
+
+// The line feed.
+const FEED: u8 = 10;
+
+// The words that an answer shows: all or none.
+fn shown(words: &[u64], worded: bool) -> &[u64]
+    ensures { λ r. ⌜ now r ≡ shownOf worded (now (words .entry)) ⌝ }
+{
+    if worded {
+        return words;
+    }
+    &words[..0]
+}
+
+// Whether a line of so many bytes and n words, with its line feed, fits into `len` characters.
+fn line_fits(len: usize, count: usize, n: usize) -> bool
+    requires { ⌜ count ≤ 4 ⌝ }
+    ensures { λ r. ⌜ r ≡ leb (2 * count + 10 * n + 1) len ⌝ }
+{
+    let least = 2 * count + 1;
+    if len < least {
+        return false;
+    }
+    n <= (len - least) / 10
+}
+
+// Writes an answer's line at the front of the area, line feed last, and gives its length. Every other character stays.
+// A line that does not fit is not written, and its length is given as 0. Words with an answer that shows none are left out.
+pub fn write_answer(a: Answer, words: &[u64], out: &mut [u8]) -> usize
+    ensures { λ r. ⌜ r ≡ placeAfter 0 (answerText a (now (words .entry))) (now (out .entry)) ⌝ }
+    ensures { λ _. ⌜ now (out .exit) ≡ pastedIn 0 (answerText a (now (words .entry))) (now (out .entry)) ⌝ }
+{
+    let lead = lead_of(a);
+    let part = shown(words, lead.worded);
+    let room = line_fits(out.len(), lead.count, part.len());
+    if !room {
+        return 0;
+    }
+    let mid = write_lead(lead, out);
+    let end = crate::answers::put_words(out, mid, part);
+    out[end] = FEED;
+    end + 1
+}

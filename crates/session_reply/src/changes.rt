@@ -1,0 +1,238 @@
+// The calls, each on the file and the channel that it concerns: those that move no words, and those that move words in the lent area or show them.
+// `unsound` is what is known of the state, m and w are its pool, `free` its free mask.
+use crate::Change;
+use call_open::FLAGS;
+use call_open::close_on;
+use call_open::open_on;
+use call_open::wish_of;
+use call_record::get_on;
+use call_record::put_on;
+use call_record::seal_on;
+use call_record::skip_on;
+use call_request::ask_on;
+use call_request::report_on;
+use channel::Channel;
+use channel::UNITS;
+use file::File;
+use file_input::Got;
+use file_input::got_number;
+use file_input::got_start;
+use pool::FILES;
+use pool::free_in;
+use pool::is_bound;
+use session_frame::Answer;
+use session_frame::AskFrame;
+use session_frame::OpenFrame;
+use session_frame::ReportFrame;
+use state::CHANNELS;
+ghost use mathlib.Core.Path.{_≡_};
+ghost use Rattle.session_reply.specs.Replies.{answerOr, gotAnswer};
+ghost use Rattle.session_reply.specs.Changes.{quietChange, openChangeOn, closeChangeOn, askChangeOn, skipChangeOn, reportChangeOn, reportAreaOn, getChangeOn, putChangeOn, putAreaOn, sealChangeOn, sealAreaOn};
+ghost use Prim.Native.Nat.{_*_};
+ghost use lib.Dec.{ltb};
+
+// The answer of an accepted call, or its refusal.
+fn answer_or(refusal: u8, a: Answer) -> Answer
+    ensures { λ r. ⌜ r ≡ answerOr refusal a ⌝ }
+{
+    if refusal == 0 {
+        return a;
+    }
+    Answer::Refused(refusal)
+}
+
+// A call whose answer adds nothing.
+pub fn quiet(refusal: u8, f: File, c: Channel) -> Change
+    ensures { λ r. ⌜ r ≡ quietChange refusal f c ⌝ }
+{
+    let answer = answer_or(refusal, Answer::Done);
+    Change {
+        answer,
+        start: 0,
+        count: 0,
+        file: f,
+        channel: c,
+    }
+}
+
+pub fn opened(
+    unsound: bool,
+    w: u16,
+    free: u32,
+    files: [File; FILES],
+    f: File,
+    c: Channel,
+    q: OpenFrame,
+) -> Change
+    ensures { λ r. ⌜ r ≡ openChangeOn unsound w free files f c q ⌝ }
+{
+    let i = q.file as usize;
+    let j = q.channel as usize;
+    let u = q.unit as usize;
+    let c1 = (FILES <= i) | ((CHANNELS <= j) | ((UNITS <= u) | ((FLAGS < q.flags) | unsound)));
+    let bound = is_bound(files, q.channel, q.unit);
+    let found = free_in(free);
+    let wish = wish_of(q.channel, q.unit, q.flags, q.size, q.rlen);
+    let x = open_on(c1, bound, f, c, found, w, wish);
+    let g = x.file;
+    quiet(x.refusal, g, c)
+}
+
+pub fn closed(unsound: bool, f: File, c: Channel, file: u8) -> Change
+    ensures { λ r. ⌜ r ≡ closeChangeOn unsound f c file ⌝ }
+{
+    let i = file as usize;
+    let x = close_on((FILES <= i) | unsound, f, c);
+    let g = x.file;
+    quiet(x.refusal, g, c)
+}
+
+pub fn asked(unsound: bool, frozen: bool, f: File, c: Channel, q: AskFrame) -> Change
+    ensures { λ r. ⌜ r ≡ askChangeOn unsound frozen f c q ⌝ }
+{
+    let i = q.file as usize;
+    let x = ask_on(unsound | (FILES <= i), f, c, q.op, q.priority, frozen);
+    let g = x.file;
+    let d = x.channel;
+    let working = x.working;
+    let answer = answer_or(x.refusal, Answer::Asked { working });
+    Change {
+        answer,
+        start: 0,
+        count: 0,
+        file: g,
+        channel: d,
+    }
+}
+
+pub fn skipped(unsound: bool, f: File, c: Channel, file: u8) -> Change
+    ensures { λ r. ⌜ r ≡ skipChangeOn unsound f c file ⌝ }
+{
+    let x = skip_on((FILES <= file as usize) | unsound, f);
+    let g = x.file;
+    quiet(x.refusal, g, c)
+}
+
+// Whether an area of n words is too short for the pool.
+fn is_short(m: u8, w: u16, n: usize) -> bool
+    ensures { λ r. ⌜ r ≡ ltb n (m * w) ⌝ }
+{
+    n < (m as usize) * (w as usize)
+}
+
+pub fn reported(
+    unsound: bool,
+    m: u8,
+    w: u16,
+    frozen: bool,
+    f: File,
+    c: Channel,
+    q: ReportFrame,
+    area: &mut [u64],
+    words: &[u64],
+) -> Change
+    ensures { λ r. ⌜ r ≡ reportChangeOn unsound m w frozen f c q (now (area .entry)) (now (words .entry)) ⌝ }
+    ensures { λ _. ⌜ now (area .exit) ≡ reportAreaOn unsound m w f c q (now (area .entry)) (now (words .entry)) ⌝ }
+{
+    let short = is_short(m, w, area.len());
+    let j = q.channel as usize;
+    let wrong = unsound | (short | (CHANNELS <= j));
+    let x = report_on(wrong, f, c, q.unit, q.outcome, w, frozen, area, words);
+    let g = x.file;
+    let d = x.channel;
+    let result = x.result;
+    let error = x.error;
+    let working = x.working;
+    let answer = answer_or(
+        x.refusal,
+        Answer::Reported {
+            result,
+            error,
+            working,
+        },
+    );
+    Change {
+        answer,
+        start: x.start,
+        count: x.count,
+        file: g,
+        channel: d,
+    }
+}
+
+// The answer that says what get found.
+fn got_answer(g: Got) -> Answer
+    ensures { λ r. ⌜ r ≡ gotAnswer g ⌝ }
+{
+    let number = got_number(g);
+    match g {
+        Got::Record { start: _, words: _ } => Answer::Got(number),
+        Got::Leftover { start: _, words: _ } => Answer::Got(number),
+        Got::Error(error) => Answer::GotError { number, error },
+        Got::End => Answer::Got(number),
+        Got::Nothing => Answer::Got(number),
+    }
+}
+
+pub fn got(unsound: bool, m: u8, w: u16, f: File, c: Channel, file: u8, area: &[u64]) -> Change
+    ensures { λ r. ⌜ r ≡ getChangeOn unsound m w f c file (now (area .entry)) ⌝ }
+{
+    let short = is_short(m, w, area.len());
+    let x = get_on((FILES <= file as usize) | (short | unsound), f, w, area);
+    let g = x.file;
+    let found = x.got;
+    let told = got_answer(found);
+    let answer = answer_or(x.refusal, told);
+    let start = got_start(found);
+    let count = file_input::got_count(found);
+    Change {
+        answer,
+        start,
+        count,
+        file: g,
+        channel: c,
+    }
+}
+
+pub fn filled(
+    unsound: bool,
+    m: u8,
+    w: u16,
+    f: File,
+    c: Channel,
+    file: u8,
+    area: &mut [u64],
+    words: &[u64],
+) -> Change
+    ensures { λ r. ⌜ r ≡ putChangeOn unsound m w f c file (now (area .entry)) (now (words .entry)) ⌝ }
+    ensures { λ _. ⌜ now (area .exit) ≡ putAreaOn unsound m w f file (now (area .entry)) (now (words .entry)) ⌝ }
+{
+    let short = is_short(m, w, area.len());
+    let x = put_on(
+        (FILES <= file as usize) | (short | unsound),
+        f,
+        w,
+        area,
+        words,
+    );
+    let g = x.file;
+    quiet(x.refusal, g, c)
+}
+
+pub fn sealed(
+    unsound: bool,
+    m: u8,
+    w: u16,
+    f: File,
+    c: Channel,
+    file: u8,
+    area: &mut [u64],
+) -> Change
+    ensures { λ r. ⌜ r ≡ sealChangeOn unsound m w f c file (now (area .entry)) ⌝ }
+    ensures { λ _. ⌜ now (area .exit) ≡ sealAreaOn unsound m w f file (now (area .entry)) ⌝ }
+{
+    let short = is_short(m, w, area.len());
+    let x = seal_on((FILES <= file as usize) | (short | unsound), f, w, area);
+    let g = x.file;
+    quiet(x.refusal, g, c)
+}
