@@ -21,11 +21,13 @@ use Rattle.file_output.specs.Parts.{partStart, partLength, isComplete, sealedFi
 use Rattle.file_output.specs.Sends.{sendStart, sendWords, afterWrite}
 use Rattle.file.specs.Sizes.{openedFile}
 use Rattle.pool.specs.Free.{lowestFree, freeCount, freeOf}
+use Rattle.pool.specs.Masks.{freeAfter}
+use Rattle.area.specs.Masks.{maskAlong}
 use Rattle.pool.specs.Serving.{servingFile}
 use Rattle.state_sound.specs.Files.{isBlank}
 use Rattle.state.specs.Places.{beforeStart}
 use Rattle.state.specs.Stores.{withFile, withChannel}
-use Rattle.state_sound.specs.Soundness.{numbersInRange, noBufferHeldTwice, eachHasItsOwn, requestsFit, channelsWork, readsAloneTake, writesHaveBlocks, fullBlocksRight, partBuffersRight, placesRight, attemptsInLimit, sound}
+use Rattle.state_sound.specs.Soundness.{numbersInRange, noBufferHeldTwice, eachHasItsOwn, requestsFit, channelsWork, readsAloneTake, writesHaveBlocks, fullBlocksRight, partBuffersRight, placesRight, attemptsInLimit, sound, freeMaskRight}
 use Rattle.pack_start.specs.Fresh.{freshRows, freshState, freshBy}
 use Rattle.call_open.specs.Open.{openRows, openOn}
 use Rattle.pack_open.specs.Open.{openBy}
@@ -40,5 +42,5 @@ use Rattle.pack.specs.Calls.{answerOf}
 use Rattle.demands.specs.Examples.{play, repeatedFrom, table, allShown, allWanted}
 
 pub examples : allShown table ≡ allWanted table
-unfolding play repeatedFrom table anyOf allOf allPairs countOf firstAlong countAlong paste pastedIn lowest allFrom carryBack sumFrom logicalSum firstHalf lastHalf folded address checkWord blocks.blockSealRefusal blocks.withCheckWord blocks.sealedBlock blocks.judgeRefusal blocks.errorOf blocks.judgedBlock rowOf isAllowed isPermanent nextAttempt endingOf verdictOf withTurn freshWith bitsFrom freshOf hasRequest acceptsAt operationAt scanFrom workingIn priorityIn ordinaryIn nextTurn startOf askOf judgeOf goesOn repeatOf markAfter endOf bookOf emptySide takenSide partSide oldest filledAt emptiedAt withoutOldest tookBuffer delivered gaveBack metMark putSide putStart added partStart partLength isComplete sealedFile afterPut sendStart sendWords afterWrite openedFile lowestFree freeCount servingFile isBlank beforeStart withFile withChannel numbersInRange noBufferHeldTwice eachHasItsOwn requestsFit channelsWork readsAloneTake writesHaveBlocks fullBlocksRight partBuffersRight placesRight attemptsInLimit sound freshRows freshState freshBy freeOf openRows openOn openBy changedState opOf askRefusal askedFile askedChannel askOn askBy reportRefusal reportedFile reportedArea reportOn reportOnArea reportBy reportByArea sealedIn sealedArea putRows putRefusal filledArea putArea putOn putOnArea putBy putByArea answerOf
+unfolding play repeatedFrom table anyOf allOf allPairs countOf firstAlong countAlong paste pastedIn lowest allFrom carryBack sumFrom logicalSum firstHalf lastHalf folded address checkWord blocks.blockSealRefusal blocks.withCheckWord blocks.sealedBlock blocks.judgeRefusal blocks.errorOf blocks.judgedBlock rowOf isAllowed isPermanent nextAttempt endingOf verdictOf withTurn freshWith bitsFrom freshOf hasRequest acceptsAt operationAt scanFrom workingIn priorityIn ordinaryIn nextTurn startOf askOf judgeOf goesOn repeatOf markAfter endOf bookOf emptySide takenSide partSide oldest filledAt emptiedAt withoutOldest tookBuffer delivered gaveBack metMark putSide putStart added partStart partLength isComplete sealedFile afterPut sendStart sendWords afterWrite openedFile lowestFree freeCount servingFile isBlank beforeStart withFile withChannel numbersInRange noBufferHeldTwice eachHasItsOwn requestsFit channelsWork readsAloneTake writesHaveBlocks fullBlocksRight partBuffersRight placesRight attemptsInLimit sound freshRows freshState freshBy freeOf openRows openOn openBy changedState opOf askRefusal askedFile askedChannel askOn askBy reportRefusal reportedFile reportedArea reportOn reportOnArea reportBy reportByArea sealedIn sealedArea putRows putRefusal filledArea putArea putOn putOnArea putBy putByArea answerOf freeMaskRight freeAfter maskAlong
 examples = refl
