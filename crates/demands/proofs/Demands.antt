@@ -23,7 +23,7 @@ use Rattle.pack.specs.Histories.{Lent, answerTo, after, count, freshStart, decl
 use Rattle.pack.specs.Books.{Book, Opened, toldResult, blankBook, bookedAt, bookAfter, openedAfter}
 use Rattle.pack.proofs.Kept.{Good, good-before, start-judged, good-start, history-kept}
 use Rattle.demands_ledger.specs.Ledgers.{Item, Choice, Ledger, blankLedger, toldError, isOn, noted, stateAfter, areaAfter, ledgerAfter}
-use Rattle.demands_ledger.specs.Blocks.{unreadOf, joined}
+use Rattle.demands_ledger.specs.Blocks.{blocksIn, unreadOf, joined}
 use Rattle.demands_ledger.proofs.Frames.{Kept}
 use Rattle.demands_ledger.proofs.Always.{always, started as begun}
 use Rattle.pack.proofs.Seen.{stationAt}
@@ -242,7 +242,7 @@ module _ (s₀ : State) (area₀ : List ℕ) (m w : ℕ) (masks : Masks) (starte
 
   -- buffer moves follow document 01: how the words put are divided into blocks,
   pub demand2-cut : (calls : List Call) (i : ℕ) → fileThen calls i .opened ≡ true → fileThen calls i .output ≡ true
-      → Cuts (stateAfter start area₀ calls .w) (fileThen calls i) (areaAfter start area₀ calls) (account calls i)
+      → Cuts (account calls i) (blocksIn (stateAfter start area₀ calls .w) (fileThen calls i) (areaAfter start area₀ calls))
   demand2-cut calls = ledger-cuts (stateAfter start area₀ calls) (areaAfter start area₀ calls) (account calls) (kept calls)
 
   -- and which block an accepted report for the file i on its unit hands out

@@ -1,6 +1,5 @@
--- The witness: what its calls answer, and the ledgers that they lead to, by computation. Assumes nothing.
+-- The witness: what its calls answer, and the ledgers that they lead to, in one claim, by computation. Assumes nothing.
 use mathlib.Core.Path.{_≡_, refl}
-use mathlib.Core.List.{_++_}
 use Rattle.area.specs.Lists.{anyOf, allOf, allPairs, countOf, firstAlong, countAlong}
 use Rattle.area.specs.Parts.{paste, pastedIn}
 use Rattle.area.specs.Refusals.{lowest}
@@ -50,22 +49,8 @@ use Rattle.call_open.specs.Close.{closeRows, closeOn}
 use Rattle.pack_open.specs.Close.{closeBy}
 use Rattle.pack_start.specs.Freeze.{stateRows, frozenState, thawedState, freezeBy, thawBy}
 use Rattle.demands_ledger.specs.Ledgers.{ledgerAfter}
-use Rattle.demands.specs.Witness.{toldBy, steps1, steps2, steps3, callsOf, tellsOf, lent, notedBy, midway, readAll, wroteAll}
+use Rattle.demands.specs.Witness.{toldBy, steps1, steps2, steps3, midway, readAll, wroteAll, played, wanted}
 
-pub witness-told : toldBy beforeStart lent (callsOf (steps1 ++ (steps2 ++ steps3))) ≡ tellsOf (steps1 ++ (steps2 ++ steps3))
-unfolding toldBy steps1 steps2 steps3 anyOf allOf allPairs countOf firstAlong countAlong paste pastedIn lowest allFrom carryBack sumFrom logicalSum firstHalf lastHalf folded address checkWord blocks.blockSealRefusal blocks.withCheckWord blocks.sealedBlock blocks.judgeRefusal blocks.errorOf blocks.judgedBlock rowOf isAllowed isPermanent nextAttempt endingOf verdictOf withTurn freshWith bitsFrom freshOf hasRequest acceptsAt operationAt scanFrom workingIn priorityIn ordinaryIn nextTurn startOf askOf judgeOf goesOn repeatOf markAfter endOf bookOf emptySide takenSide partSide oldest filledAt emptiedAt withoutOldest tookBuffer delivered gaveBack metMark putSide putStart added partStart partLength isComplete sealedFile afterPut sendStart sendWords afterWrite openedFile lowestFree freeCount servingFile isBlank beforeStart withFile withChannel numbersInRange noBufferHeldTwice eachHasItsOwn requestsFit channelsWork readsAloneTake writesHaveBlocks fullBlocksRight partBuffersRight placesRight attemptsInLimit sound freshRows freshState freshBy freeOf openRows openOn openBy changedState opOf askRefusal askedFile askedChannel askOn askBy reportRefusal reportedFile reportedArea reportOn reportOnArea reportBy reportByArea sealedIn sealedArea putRows putRefusal filledArea putArea putOn putOnArea putBy putByArea answerOf passed lookedAt found afterFound getFrom getRows getRefusal getOn getBy getWords skipRows skipRefusal skipOn skipBy sealRows sealRefusal sealOn sealOnArea sealBy sealByArea closeRows closeOn closeBy stateRows frozenState thawedState freezeBy thawBy thawOf freeMaskRight freeAfter maskAlong
-witness-told = refl
-
--- the blocks and words of the input file, while two blocks are owed still
-pub witness-midway : notedBy 0 (callsOf (steps1 ++ steps2)) ≡ midway
-unfolding ledgerAfter midway steps1 steps2 anyOf allOf allPairs countOf firstAlong countAlong paste pastedIn lowest allFrom carryBack sumFrom logicalSum firstHalf lastHalf folded address checkWord blocks.blockSealRefusal blocks.withCheckWord blocks.sealedBlock blocks.judgeRefusal blocks.errorOf blocks.judgedBlock rowOf isAllowed isPermanent nextAttempt endingOf verdictOf withTurn freshWith bitsFrom freshOf hasRequest acceptsAt operationAt scanFrom workingIn priorityIn ordinaryIn nextTurn startOf askOf judgeOf goesOn repeatOf markAfter endOf bookOf emptySide takenSide partSide oldest filledAt emptiedAt withoutOldest tookBuffer delivered gaveBack metMark putSide putStart added partStart partLength isComplete sealedFile afterPut sendStart sendWords afterWrite openedFile lowestFree freeCount servingFile isBlank beforeStart withFile withChannel numbersInRange noBufferHeldTwice eachHasItsOwn requestsFit channelsWork readsAloneTake writesHaveBlocks fullBlocksRight partBuffersRight placesRight attemptsInLimit sound freshRows freshState freshBy freeOf openRows openOn openBy changedState opOf askRefusal askedFile askedChannel askOn askBy reportRefusal reportedFile reportedArea reportOn reportOnArea reportBy reportByArea sealedIn sealedArea putRows putRefusal filledArea putArea putOn putOnArea putBy putByArea answerOf passed lookedAt found afterFound getFrom getRows getRefusal getOn getBy getWords skipRows skipRefusal skipOn skipBy sealRows sealRefusal sealOn sealOnArea sealBy sealByArea closeRows closeOn closeBy stateRows frozenState thawedState freezeBy thawBy thawOf freeMaskRight freeAfter maskAlong
-witness-midway = refl
-
--- and of both files when they are closed
-pub witness-read : notedBy 0 (callsOf (steps1 ++ (steps2 ++ steps3))) ≡ readAll
-unfolding ledgerAfter readAll steps1 steps2 steps3 anyOf allOf allPairs countOf firstAlong countAlong paste pastedIn lowest allFrom carryBack sumFrom logicalSum firstHalf lastHalf folded address checkWord blocks.blockSealRefusal blocks.withCheckWord blocks.sealedBlock blocks.judgeRefusal blocks.errorOf blocks.judgedBlock rowOf isAllowed isPermanent nextAttempt endingOf verdictOf withTurn freshWith bitsFrom freshOf hasRequest acceptsAt operationAt scanFrom workingIn priorityIn ordinaryIn nextTurn startOf askOf judgeOf goesOn repeatOf markAfter endOf bookOf emptySide takenSide partSide oldest filledAt emptiedAt withoutOldest tookBuffer delivered gaveBack metMark putSide putStart added partStart partLength isComplete sealedFile afterPut sendStart sendWords afterWrite openedFile lowestFree freeCount servingFile isBlank beforeStart withFile withChannel numbersInRange noBufferHeldTwice eachHasItsOwn requestsFit channelsWork readsAloneTake writesHaveBlocks fullBlocksRight partBuffersRight placesRight attemptsInLimit sound freshRows freshState freshBy freeOf openRows openOn openBy changedState opOf askRefusal askedFile askedChannel askOn askBy reportRefusal reportedFile reportedArea reportOn reportOnArea reportBy reportByArea sealedIn sealedArea putRows putRefusal filledArea putArea putOn putOnArea putBy putByArea answerOf passed lookedAt found afterFound getFrom getRows getRefusal getOn getBy getWords skipRows skipRefusal skipOn skipBy sealRows sealRefusal sealOn sealOnArea sealBy sealByArea closeRows closeOn closeBy stateRows frozenState thawedState freezeBy thawBy thawOf freeMaskRight freeAfter maskAlong
-witness-read = refl
-
-pub witness-wrote : notedBy 1 (callsOf (steps1 ++ (steps2 ++ steps3))) ≡ wroteAll
-unfolding ledgerAfter wroteAll steps1 steps2 steps3 anyOf allOf allPairs countOf firstAlong countAlong paste pastedIn lowest allFrom carryBack sumFrom logicalSum firstHalf lastHalf folded address checkWord blocks.blockSealRefusal blocks.withCheckWord blocks.sealedBlock blocks.judgeRefusal blocks.errorOf blocks.judgedBlock rowOf isAllowed isPermanent nextAttempt endingOf verdictOf withTurn freshWith bitsFrom freshOf hasRequest acceptsAt operationAt scanFrom workingIn priorityIn ordinaryIn nextTurn startOf askOf judgeOf goesOn repeatOf markAfter endOf bookOf emptySide takenSide partSide oldest filledAt emptiedAt withoutOldest tookBuffer delivered gaveBack metMark putSide putStart added partStart partLength isComplete sealedFile afterPut sendStart sendWords afterWrite openedFile lowestFree freeCount servingFile isBlank beforeStart withFile withChannel numbersInRange noBufferHeldTwice eachHasItsOwn requestsFit channelsWork readsAloneTake writesHaveBlocks fullBlocksRight partBuffersRight placesRight attemptsInLimit sound freshRows freshState freshBy freeOf openRows openOn openBy changedState opOf askRefusal askedFile askedChannel askOn askBy reportRefusal reportedFile reportedArea reportOn reportOnArea reportBy reportByArea sealedIn sealedArea putRows putRefusal filledArea putArea putOn putOnArea putBy putByArea answerOf passed lookedAt found afterFound getFrom getRows getRefusal getOn getBy getWords skipRows skipRefusal skipOn skipBy sealRows sealRefusal sealOn sealOnArea sealBy sealByArea closeRows closeOn closeBy stateRows frozenState thawedState freezeBy thawBy thawOf freeMaskRight freeAfter maskAlong
-witness-wrote = refl
+pub witness : played ≡ wanted
+unfolding toldBy ledgerAfter steps1 steps2 steps3 midway readAll wroteAll anyOf allOf allPairs countOf firstAlong countAlong paste pastedIn lowest allFrom carryBack sumFrom logicalSum firstHalf lastHalf folded address checkWord blocks.blockSealRefusal blocks.withCheckWord blocks.sealedBlock blocks.judgeRefusal blocks.errorOf blocks.judgedBlock rowOf isAllowed isPermanent nextAttempt endingOf verdictOf withTurn freshWith bitsFrom freshOf hasRequest acceptsAt operationAt scanFrom workingIn priorityIn ordinaryIn nextTurn startOf askOf judgeOf goesOn repeatOf markAfter endOf bookOf emptySide takenSide partSide oldest filledAt emptiedAt withoutOldest tookBuffer delivered gaveBack metMark putSide putStart added partStart partLength isComplete sealedFile afterPut sendStart sendWords afterWrite openedFile lowestFree freeCount servingFile isBlank beforeStart withFile withChannel numbersInRange noBufferHeldTwice eachHasItsOwn requestsFit channelsWork readsAloneTake writesHaveBlocks fullBlocksRight partBuffersRight placesRight attemptsInLimit sound freshRows freshState freshBy freeOf openRows openOn openBy changedState opOf askRefusal askedFile askedChannel askOn askBy reportRefusal reportedFile reportedArea reportOn reportOnArea reportBy reportByArea sealedIn sealedArea putRows putRefusal filledArea putArea putOn putOnArea putBy putByArea answerOf passed lookedAt found afterFound getFrom getRows getRefusal getOn getBy getWords skipRows skipRefusal skipOn skipBy sealRows sealRefusal sealOn sealOnArea sealBy sealByArea closeRows closeOn closeBy stateRows frozenState thawedState freezeBy thawBy thawOf freeMaskRight freeAfter maskAlong
+witness = refl

@@ -56,13 +56,20 @@ module _ (w : ℕ) (f : File) (area puts : List ℕ) (sent : List (List ℕ)) (s
         ∙ ap (λ (n : ℕ). checked (f .sequence) (f .check) n (dataOf (f .sequence) (f .check) b)) (numbers sent);
   }
 
-  file-cuts : (Divided (f .rlen) (f .size) seals 0 (dataBy (choiceIn f) (sent ++ blocksIn w f area)))
-      × (Filling (f .rlen) (f .size) seals (length (joined (dataBy (choiceIn f) (sent ++ blocksIn w f area)))) (partIn w f area))
+  -- the words put, in blocks and after them
+  record FileCuts (c : Choice) : Type 0 where
+    blocks : Divided (c .rlen) (c .size) seals 0 (dataBy c (sent ++ blocksIn w f area))
+    after : joined (dataBy c (sent ++ blocksIn w f area)) ++ partIn w f area ≡ puts
+    filling : Filling (c .rlen) (c .size) seals (length (joined (dataBy c (sent ++ blocksIn w f area)))) (partIn w f area)
+
+  file-cuts : FileCuts (choiceIn f)
   file-cuts =
-      let e = wrote-data w f area puts sent seals T in (
-        subst (Divided (f .rlen) (f .size) seals 0) (sym e) (T .sized),
-        subst (λ (ds : List (List ℕ)). Filling (f .rlen) (f .size) seals (length (joined ds)) (partIn w f area)) (sym e) (T .filling),
-      )
+      let e = wrote-data w f area puts sent seals T in
+      record {
+        blocks = subst (Divided (f .rlen) (f .size) seals 0) (sym e) (T .sized);
+        after = ap (λ (ds : List (List ℕ)). joined ds ++ partIn w f area) e ∙ T .words;
+        filling = subst (λ (ds : List (List ℕ)). Filling (f .rlen) (f .size) seals (length (joined ds)) (partIn w f area)) (sym e) (T .filling);
+      }
 
 -- a block that is due has words
 due-block : (c : Choice) (puts seals : List ℕ) (sent : List (List ℕ)) (b : List ℕ) → Due c puts seals sent b → asBlock b ≡ b ∷ []
@@ -112,16 +119,13 @@ due-one c puts seals sent a b D E =
         ∙ take-append-seam (E .words) (E .rest)
 
 module _ (s : State) (area : List ℕ) (ledgers : ℕ → Ledger) (K : Kept s area ledgers) where
-  pub ledger-cuts : (i : ℕ) → fileAt s i .opened ≡ true → fileAt s i .output ≡ true → Cuts (s .w) (fileAt s i) area (ledgers i)
+  pub ledger-cuts : (i : ℕ) → fileAt s i .opened ≡ true → fileAt s i .output ≡ true → Cuts (ledgers i) (blocksIn (s .w) (fileAt s i) area)
   ledger-cuts i o u =
-      let C = file-cuts (s .w) (fileAt s i) area (ledgers i .puts) (ledgers i .sent) (ledgers i .seals) (K .told i .wrote o u) in
-      let e = sym (chosen-is (fileAt s i) (ledgers i .chosen) (K .told i .chose o)) in
-      record {
-        blocks = subst (λ (c : Choice). Divided (c .rlen) (c .size) (ledgers i .seals) 0
-            (dataBy c (ledgers i .sent ++ blocksIn (s .w) (fileAt s i) area))) e (C .0);
-        filling = subst (λ (c : Choice). Filling (c .rlen) (c .size) (ledgers i .seals)
-            (length (joined (dataBy c (ledgers i .sent ++ blocksIn (s .w) (fileAt s i) area)))) (partIn (s .w) (fileAt s i) area)) e (C .1);
-      }
+      let f = fileAt s i in
+      let T = K .told i .wrote o u in
+      let C = subst (FileCuts (s .w) f area (ledgers i .puts) (ledgers i .sent) (ledgers i .seals) T)
+      (sym (chosen-is f (ledgers i .chosen) (K .told i .chose o))) (file-cuts (s .w) f area (ledgers i .puts) (ledgers i .sent) (ledgers i .seals) T) in
+      record { blocks = C .blocks; part = partIn (s .w) f area; after = C .after; filling = C .filling }
 
   module _ (A : Asked s ledgers) (channel unit outcome : ℕ) (words : List ℕ)
       (z : answerOf s area (report channel unit outcome words) .refusal ≡ 0) where

@@ -1,8 +1,7 @@
 -- A longer example, beside P1 to P12: calls in a row in which everything happens that the demands speak of, with what each answers, and the ledgers
 -- that they lead to. So no demand is met by ledgers and histories that have nothing in them. Assumes nothing.
 use Prim.Native.Nat.{ℕ}
-use mathlib.Core.Bool.{Bool, true, false}
-use mathlib.Core.List.{List, [], _∷_, map}
+use mathlib.Core.List.{List, [], _∷_, _++_, map}
 use lib.ListN.{replicate}
 use Rattle.channel_outcomes.specs.Rules.{good, redundancy, incompleteWord, fileMark, endOfMedium}
 use Rattle.file_input.specs.declared.Got.the-variants.{Record, Leftover, Error, End, Nothing}
@@ -133,3 +132,25 @@ readAll =
 
 unfoldable pub wroteAll : Noted
 wroteAll = noted (5 ∷ 6 ∷ 7 ∷ []) ((5 ∷ 1310721 ∷ []) ∷ (6 ∷ 7 ∷ 3407874 ∷ []) ∷ []) [] [] []
+
+-- ---- what is claimed: the answers of all calls, the ledger of file 0 after the second part, and those of both files at the end
+
+pub record Course : Type 0 where
+  pub tells : List Told
+  pub mid : Noted
+  pub read : Noted
+  pub wrote : Noted
+
+abbrev pub steps : List Step
+steps = steps1 ++ (steps2 ++ steps3)
+
+abbrev pub played : Course
+played = record {
+  tells = toldBy beforeStart lent (callsOf steps);
+  mid = notedBy 0 (callsOf (steps1 ++ steps2));
+  read = notedBy 0 (callsOf steps);
+  wrote = notedBy 1 (callsOf steps);
+}
+
+abbrev pub wanted : Course
+wanted = record { tells = tellsOf steps; mid = midway; read = readAll; wrote = wroteAll }

@@ -8,10 +8,9 @@ use Prim.Native.Nat.{ℕ, _+_, _%_}
 use lib.Dec.{eqb}
 use lib.ListN.{length}
 use Rattle.word.specs.CheckWords.{blockNumbers}
-use Rattle.file.specs.declared.File.{File}
 use Rattle.pack.specs.Calls.{Added, nothing, working, reported, got, Answer}
 use Rattle.demands_ledger.specs.Ledgers.{Choice, Ledger, dataOf}
-use Rattle.demands_ledger.specs.Blocks.{blocksIn, partIn, checked, joined, Sized, Divided, Filling}
+use Rattle.demands_ledger.specs.Blocks.{checked, joined, Sized, Divided, Filling}
 
 -- the data words of blocks, each without its check word, by what the open chose
 abbrev pub dataBy : Choice → List (List ℕ) → List (List ℕ)
@@ -19,14 +18,15 @@ dataBy c = map (dataOf (c .sequence) (c .check))
 
 -- ---- "If less than r then remains of B, the block is sealed at once: it gets its check word and is full. Seal does this early."
 
--- of an output file f
-pub record Cuts (w : ℕ) (f : File) (area : List ℕ) (g : Ledger) : Type 0 where
-  -- each block that was shown, and then each that lies full in the area, has the most whole records that B holds, unless a seal was accepted
-  -- for it: then it ends there
-  pub blocks : Divided (g .chosen .rlen) (g .chosen .size) (g .seals) 0 (dataBy (g .chosen) (g .sent ++ blocksIn w f area))
-  -- and what is part-filled has room for a record more, and no seal was accepted for it
-  pub filling : Filling (g .chosen .rlen) (g .chosen .size) (g .seals) (length (joined (dataBy (g .chosen) (g .sent ++ blocksIn w f area))))
-      (partIn w f area)
+-- of an output file, with the blocks that lie full in the area
+pub record Cuts (g : Ledger) (full : List (List ℕ)) : Type 0 where
+  -- each block that was shown, and then each that lies full, has the most whole records that B holds, unless a seal was accepted for it: then it
+  -- ends there
+  pub blocks : Divided (g .chosen .rlen) (g .chosen .size) (g .seals) 0 (dataBy (g .chosen) (g .sent ++ full))
+  -- and the words put after them, which no block has yet, leave room for a record more, and no seal was accepted for them
+  pub part : List ℕ
+  pub after : joined (dataBy (g .chosen) (g .sent ++ full)) ++ part ≡ g .puts
+  pub filling : Filling (g .chosen .rlen) (g .chosen .size) (g .seals) (length (joined (dataBy (g .chosen) (g .sent ++ full)))) part
 
 -- ---- "Ask write sends the oldest full block."
 

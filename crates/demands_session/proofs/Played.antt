@@ -1,6 +1,6 @@
 -- Every line of a session is answered as its call is: what is printed is a history. Assumes nothing.
 use Prim.Native.Nat.{ℕ, _≤_}
-use mathlib.Core.Path.{_≡_, refl, sym, ap, _∙_, subst}
+use mathlib.Core.Path.{_≡_, refl, sym, ap, _∙_}
 use mathlib.Core.Bool.{true}
 use mathlib.Core.Option.{Option, none, some, Option·none-ne-some}
 use mathlib.Core.List.{List, [], _∷_, _++_}
@@ -20,9 +20,9 @@ use Rattle.session.specs.Session.{Course, withText, playLines, courseOf, sessio
 use Rattle.session.specs.Talks.{talkWith, Said, Piece, AnyCall, playSession, takeAnswers, bytesIn}
 use Rattle.session.proofs.Sessions.{session-right}
 use Rattle.pack.specs.Calls.{Call, answerOf}
-use Rattle.pack.specs.Histories.{Lent, after}
+use Rattle.pack.specs.Histories.{after}
 use Rattle.demands_ledger.specs.Ledgers.{stateAfter, areaAfter}
-use Rattle.demands_session.specs.Played.{callOf, callIn, consOf, callsIn, saidBy, lineOf, noFrame, lineFor, stateFor, areaFor, printed, IsHistory, zeros, stateIn, areaIn, lentFrom}
+use Rattle.demands_session.specs.Played.{callOf, callIn, consOf, callsIn, saidBy, noFrame, lineFor, stateFor, areaFor, printed, IsHistory, zeros, lentFrom}
 
 -- ---- one line
 

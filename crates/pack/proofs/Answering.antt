@@ -1,6 +1,6 @@
 -- The code's answer of each group of calls is the answer of `answerOf`. Assumes nothing.
 use Prim.Native.Nat.{ℕ}
-use mathlib.Core.Path.{_≡_, refl, ap, ap₂, _∙_}
+use mathlib.Core.Path.{_≡_, ap, ap₂, _∙_}
 use mathlib.Core.List.{List}
 use Rattle.file_input.specs.Gets.{gotStart, gotWords}
 use Rattle.file_input.specs.Histories.{shown}
