@@ -16,11 +16,11 @@ use Rattle.demands_ledger.specs.Blocks.{joined, isSealed, Sized, Divided
 module _ (r size : ℕ) (seals : List ℕ) where
   -- ---- the last seal
 
-  pub new-sealed : (p : ℕ) → isSealed (p ∷ seals) p ≡ true
+  new-sealed : (p : ℕ) → isSealed (p ∷ seals) p ≡ true
   unfolding anyOf
   new-sealed p = or-first (eqb p p) _ (eq-eqb p p refl)
 
-  pub old-sealed : (p q : ℕ) → isSealed seals q ≡ true → isSealed (p ∷ seals) q ≡ true
+  old-sealed : (p q : ℕ) → isSealed seals q ≡ true → isSealed (p ∷ seals) q ≡ true
   unfolding anyOf
   old-sealed p q e = or-second (eqb q p) _ e
 

@@ -161,7 +161,7 @@ module _ (s : State) (area : List ℕ) (ledgers : ℕ → Ledger) (K : Kept s ar
       ∙ shows-sent (effectAt c unit outcome) (s .w) f area words
       (sends ∙ ap₂ (λ (a b : Bool). a && b) (asks-write (ledgers i .asked) e) h)
 
-  pub shown-none : (isWriteOp (opOf (ledgers i .asked)) && (eqb result 1 || eqb result 4)) ≡ false → shown ≡ []
+  shown-none : (isWriteOp (opOf (ledgers i .asked)) && (eqb result 1 || eqb result 4)) ≡ false → shown ≡ []
   shown-none h = shown-is ∙ shows-none (effectAt c unit outcome) (s .w) f (reportByArea s area channel unit outcome words) (sends ∙ h)
 
   pub shown-other : ledgers i .asked ≢ 1 → shown ≡ []

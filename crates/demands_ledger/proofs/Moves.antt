@@ -79,7 +79,7 @@ get-same w f =
     (slot-same h (oldest h) (slotAfter (h .rlen) (slotAt h (oldest h))) (h .turned) (h .block))
 
 -- whether a mark was read
-pub drop-marked : (f : File) → withoutOldest f .marked ≡ f .marked
+drop-marked : (f : File) → withoutOldest f .marked ≡ f .marked
 unfolding withoutOldest emptiedAt
 drop-marked f = mark-stays f (oldest f) Empty false (f .block)
 

@@ -72,7 +72,7 @@ module _ (s : State) (area : List ℕ) (ledgers : ℕ → Ledger) (K : Kept s ar
   abbrev L : Ledger
   L = ledgers i
 
-  pub number : reportRefusal (reportWrong s (length area) channel) f c unit outcome (s .w) area words ≡ 0
+  number : reportRefusal (reportWrong s (length area) channel) f c unit outcome (s .w) area words ≡ 0
   unfolding reportRefusal
   number = sym (report-exactly s area channel unit outcome words .number) ∙ z
 
@@ -82,7 +82,7 @@ module _ (s : State) (area : List ℕ) (ledgers : ℕ → Ledger) (K : Kept s ar
   long : s .m * s .w ≤ length area
   long = ltb-false (length area) (s .m * s .w) (or-left (areaShort s (length area)) _ (or-right (not (sound s)) _ (ready .right)))
 
-  pub open-file : f .opened ≡ true
+  open-file : f .opened ≡ true
   open-file = isOpen s area channel unit outcome words (K .good .sixteen) number
 
   S : Sound (s .m) (s .w) f

@@ -46,7 +46,7 @@ first-checked s c k (b ∷ bs) rest (d ∷ ds) e =
     ap₂ (λ (x : List ℕ) (l : List (List ℕ)). x ∷ l) (h ∙ ap (checked s c k) (sym q)) (first-checked s c (nextNumber k) bs rest ds t)
 
 -- the block after them too
-pub next-checked : (s c : Bool) (k : ℕ) (bs : List (List ℕ)) (b : List ℕ) (rest ds : List (List ℕ)) → bs ++ (b ∷ rest) ≡ allChecked s c k ds
+next-checked : (s c : Bool) (k : ℕ) (bs : List (List ℕ)) (b : List ℕ) (rest ds : List (List ℕ)) → bs ++ (b ∷ rest) ≡ allChecked s c k ds
     → b ≡ checked s c (numberAfter k bs) (dataOf s c b)
 unfolding allChecked numberAfter
 next-checked s c k [] b rest [] e = absurd (let z : _≡_ {A = ℕ} 0 1 = cc in omega arith)
