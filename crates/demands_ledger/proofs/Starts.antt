@@ -2,8 +2,8 @@
 use mathlib.Core.Path.{_≡_, refl, sym, ap, subst, _∙_}
 use mathlib.Core.Bool.{Bool, true, false, cond}
 use mathlib.Core.List.{List, []}
-use Prim.Native.Nat.{ℕ, zero, suc}
-use lib.ListN.{length, getD, replicate}
+use Prim.Native.Nat.{ℕ}
+use lib.ListN.{length, getD}
 use Rattle.area.proofs.Walks.{true-not-false}
 use Rattle.file.specs.declared.Slot.{Slot}
 use Rattle.file.specs.declared.Slot.the-variants.{Empty, Taken, Part, Full}
@@ -22,8 +22,7 @@ use Rattle.file_input.proofs.Ages.{took-line}
 use Rattle.file.proofs.Which.{empty-there}
 use Rattle.pool.specs.Free.{fileCount}
 use Rattle.state.specs.declared.State.{State}
-use Rattle.state.specs.Places.{fileAt, channelAt}
-use Rattle.state_sound.proofs.Kept.{place-of}
+use Rattle.state.specs.Places.{fileAt}
 use Rattle.pack_start.specs.declared.Masks.{Masks}
 use Rattle.pack_start.specs.Fresh.{freshState, freshBy}
 use Rattle.call_open.specs.Open.{isSet, wishOf}
@@ -34,14 +33,12 @@ use Rattle.pack_start.proofs.FreshTheorems.{fresh-accepted}
 use Rattle.pack_open.proofs.OpenTheorems.{lowOf, highOf, open-file, open-frame}
 use Rattle.pack_open.proofs.CloseTheorems.{close-file, close-frame}
 use Rattle.pack_start.proofs.FreezeTheorems.{OnlyTurns, freeze-frame, thaw-frame}
-use Rattle.call_request.specs.declared.AskChange.{AskChange}
-use Rattle.call_request.specs.Ask.{isReading, askRefusal, askedFile}
-use Rattle.pack_request.specs.Calls.{askWrong, askChange, askBy}
-use Rattle.call_request.proofs.AskFound.{ask-taken}
-use Rattle.pack_request.proofs.Changed.{here-file}
-use Rattle.pack_request.proofs.AskTheorems.{ask-ready, ask-exactly, ask-frame}
+use Rattle.call_request.specs.Ask.{isReading, askedFile}
+use Rattle.pack_request.specs.Calls.{askBy}
+use Rattle.pack_request.proofs.AskTheorems.{ask-frame, ask-file}
 use Rattle.pack.specs.Calls.{opening, close, ask, freeze, thaw, answerOf}
 use Rattle.pack.proofs.Kept.{Good, call-kept}
+use Rattle.pack.proofs.Marking.{all-closed}
 use Rattle.demands_ledger.specs.Ledgers.{Ledger, newLedger, blankLedger, withClose}
 use Rattle.demands_ledger.specs.Blocks.{allChecked, joined, contents, numberAfter}
 use Rattle.demands_ledger.proofs.Told.{none, Told}
@@ -59,12 +56,6 @@ told-opened w q low high area = record {
   wrote = λ o p. record { data-words = []; words = refl; blocks = refl; number = refl };
   brought = λ o p. record { lies = refl; items = refl; number = refl; untold = none };
 }
-
--- every file after a fresh start is closed
-all-closed : (n i : ℕ) → getD (replicate n closedFile) i closedFile .opened ≡ false
-all-closed zero i = refl
-all-closed (suc n) zero = refl
-all-closed (suc n) (suc i) = all-closed n i
 
 -- a read takes a buffer that is empty
 empty-no-part : (f : File) → isPart (slotAt f (emptySide f)) ≡ false
@@ -135,31 +126,13 @@ module _ (s : State) (area : List ℕ) (ledgers : ℕ → Ledger) (K : Kept s ar
       (ap (λ (f : File). f .opened) (close-file s file z))
       (ap (λ (g : Ledger). g .opened) (entering-here ledgers withClose file)))
 
-  asked-number : (file op priority : ℕ) → askBy s file op priority .refusal ≡ 0
-      → askRefusal (askWrong s file) (fileAt s file) (channelAt s (fileAt s file .channel)) op priority ≡ 0
-  unfolding askRefusal
-  asked-number file op priority z = sym (ask-exactly s file op priority .number) ∙ z
-
-  asked-file : (file op priority : ℕ) → askBy s file op priority .refusal ≡ 0
-      → fileAt (askBy s file op priority .state) file ≡ askedFile op (fileAt s file)
-  unfolding askBy
-  asked-file file op priority z =
-      let c = channelAt s (fileAt s file .channel) in
-      let n = asked-number file op priority z in
-      let x = ask-taken (askWrong s file) (fileAt s file) c op priority (s .frozen) (askRefusal (askWrong s file) (fileAt s file) c op priority) refl
-      n in
-      here-file s file (fileAt s file .channel) (askChange s file op priority .refusal) (askChange s file op priority .file)
-      (askChange s file op priority .channel)
-      (ap (λ (y : AskChange). y .refusal) x) (place-of s file (ask-ready (askWrong s file) (fileAt s file) c op priority n .isOpen))
-      ∙ ap (λ (y : AskChange). y .file) x
-
   pub ask-kept : (file op priority : ℕ) → askBy s file op priority .refusal ≡ 0 → Kept (askBy s file op priority .state) area ledgers
   unfolding answerOf
   ask-kept file op priority z =
       let F = ask-frame s file op priority in
       kept-file s (askBy s file op priority .state) area area ledgers ledgers K (call-kept s area (K .good) (ask file op priority)) file (F .words)
       (F .files) (λ i ne. refl) (λ i ne p k q. refl)
-      (subst (λ (h : File). Told (s .w) h area (ledgers file)) (sym (asked-file file op priority z))
+      (subst (λ (h : File). Told (s .w) h area (ledgers file)) (sym (ask-file s file op priority z))
       (told-asked (s .w) op (fileAt s file) area (ledgers file) (K .told file)))
 
   -- the files are as they were
