@@ -14,6 +14,7 @@ use Rattle.state.specs.Places.{beforeStart, fileAt}
 use Rattle.pack_start.specs.declared.Masks.{Masks}
 use Rattle.call_request.specs.Ask.{isPriority}
 use Rattle.pack.specs.Calls.{Call, fresh, opening, close, ask, report, answerOf}
+use Rattle.pack.specs.Books.{blankBook, bookAfter}
 use Rattle.pack.specs.Histories.{after, count, freshStart, declaredOn}
 use Rattle.demands_ledger.specs.Ledgers.{Ledger, blankLedger, toldError, stateAfter, areaAfter, ledgerAfter}
 use Rattle.demands_ledger.specs.Blocks.{joined}
@@ -161,12 +162,13 @@ module _ (ks : List (List ℕ)) (l : List ℕ) (m w : ℕ) (masks : Masks) (isFr
       count freshStart (d .state) (lentFrom (d .state) (d .area) (callsIn later)) ≡ 0
       → Answers (declaredOn start (fileAt (stateThen before) file .channel)) (fileAt (stateThen before) file .channel)
       (fileAt (stateThen before) file .unit)
-      (stateThen before) (d .state) (lentFrom (d .state) (d .area) (callsIn later))
+      (bookAfter (fileAt (stateThen before) file .channel) start blankBook (lentFrom start (areaIn ks) (callsIn before))) (d .state) (lentFrom (d .state) (d .area) (callsIn later))
   session3 before first file op priority ordinary accepted later =
       so-lent (λ s xs. answerOf s xs (ask file op priority) .refusal ≡ 0
       → count freshStart (answerOf s xs (ask file op priority) .state)
       (lentFrom (answerOf s xs (ask file op priority) .state) (answerOf s xs (ask file op priority) .area) (callsIn later)) ≡ 0
-      → Answers (declaredOn start (fileAt s file .channel)) (fileAt s file .channel) (fileAt s file .unit) s
+      → Answers (declaredOn start (fileAt s file .channel)) (fileAt s file .channel) (fileAt s file .unit)
+      (bookAfter (fileAt s file .channel) start blankBook (lentFrom start (areaIn ks) (callsIn before)))
       (answerOf s xs (ask file op priority) .state)
       (lentFrom (answerOf s xs (ask file op priority) .state) (answerOf s xs (ask file op priority) .area) (callsIn later))) before
       (λ z. demand3 (stateIn ks) (areaIn ks) m w masks started (lentFrom start (areaIn ks) (callsIn before)) first file op priority _ ordinary z _)

@@ -276,7 +276,8 @@ meets-three q o h = by (q .op) refl
 
 -- ---- one call
 
-all-closed : (n i : ℕ) → getD (replicate n closedFile) i closedFile .opened ≡ false
+-- every file after a fresh start is closed
+pub all-closed : (n i : ℕ) → getD (replicate n closedFile) i closedFile .opened ≡ false
 all-closed zero i = refl
 all-closed (suc n) zero = refl
 all-closed (suc n) (suc i) = all-closed n i
