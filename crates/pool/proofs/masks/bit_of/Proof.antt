@@ -1,19 +1,15 @@
-use Rattle.pool.proofs.FreeMasks.{no-bit, bit-word}
+-- `pool::masks::bit_of` meets its contract, branch by branch. Assumes nothing.
 use borrow.Author.Needs.{needs}
+use Rattle.pool.proofs.FreeMasks.{no-bit, bit-word}
 use Rattle.pool.proofs.masks.bit_of.Statement.{statement}
 use Rattle.pool.proofs.masks.bit_of.Tie as tie
-use Rattle.pool.proofs.masks.bit_of.Reads as reads
-use Rattle.pool.proofs.masks.bit_of.Lts as lts
 
--- src/masks.rt:16:9
 returns : tie.Need-returns
 returns c = no-bit _ (c .if1 .taken)
 
--- src/masks.rt:18:5
 shl-result : tie.Need-shl-result
 shl-result c = search needs
 
--- src/masks.rt:12:1
 returns-2 : tie.Need-returns-2
 returns-2 c = bit-word _ (c .if1 .left)
 

@@ -1,3 +1,4 @@
+-- `session_reply::turns::reply_on` meets its contract, by what its callees found. Assumes nothing.
 use mathlib.Core.Path.{subst, refl, _≡_, sym, ap, _∙_}
 use mathlib.Core.Logic.{⊎-elim}
 use Prim.Native.Nat.{_<_}
@@ -22,91 +23,69 @@ use Rattle.session_reply.proofs.turns.change_of.Reads as change-of-read
 use Rattle.session_reply.proofs.turns.is_whole.Reads as is-whole-reads
 use Rattle.session_reply.proofs.turns.whole.Reads as whole-reads
 
--- src/turns.rt:73:8
 is-whole-requires : tie.Need-is-whole-requires
 is-whole-requires c κs = search needs
 
--- src/turns.rt:74:13
 whole-requires : tie.Need-whole-requires
 whole-requires c κs = search needs
 
--- src/turns.rt:77:9
 file-number-requires : tie.Need-file-number-requires
 file-number-requires c κs = search needs
 
--- src/turns.rt:78:9
 index-in-requires : tie.Need-index-in-requires
 index-in-requires c κs = search needs
 
--- src/turns.rt:79:15
 mul-old : tie.Need-mul-old
 mul-old c = search needs
 
--- src/turns.rt:79:15
 element-copy-out-old : tie.Need-element-copy-out-old
 element-copy-out-old c = search needs
 
--- src/turns.rt:80:9
 file-or-requires : tie.Need-file-or-requires
 file-or-requires c κs = search needs
 
--- src/turns.rt:81:9
 channel-number-requires : tie.Need-channel-number-requires
 channel-number-requires c κs = search needs
 
--- src/turns.rt:82:9
 index-in-requires-2 : tie.Need-index-in-requires-2
 index-in-requires-2 c κs = search needs
 
--- src/turns.rt:83:15
 mul-was : tie.Need-mul-was
 mul-was c = search needs
 
--- src/turns.rt:83:15
 element-copy-out-was : tie.Need-element-copy-out-was
 element-copy-out-was c = search needs
 
--- src/turns.rt:84:9
 channel-or-requires : tie.Need-channel-or-requires
 channel-or-requires c κs = search needs
 
--- src/turns.rt:85:9
 change-of-requires : tie.Need-change-of-requires
 change-of-requires c κs = search needs
 
--- src/turns.rt:91:9
 file-kept-requires : tie.Need-file-kept-requires
 file-kept-requires c κs = search needs
 
--- src/turns.rt:92:9
 free-after-requires : tie.Need-free-after-requires
 free-after-requires c κs = search needs
 
--- src/turns.rt:93:5
 mul-new : tie.Need-mul-new
 mul-new c = let h : c .before .before .before .before .before .before .before .before .before .before .before .before .before .before .index-in .result < 16 = c .before .before .before .before .before .before .before .before .before .before .before .before .before .before .index-in .ensures .1 in search needs
 
--- src/turns.rt:93:5
 element-set-from-new : tie.Need-element-set-from-new
 element-set-from-new c = c .before .before .before .before .before .before .before .before .before .before .before .before .before .before .index-in .ensures .1
 
--- src/turns.rt:94:21
 channel-kept-requires : tie.Need-channel-kept-requires
 channel-kept-requires c κs = search needs
 
--- src/turns.rt:94:5
 mul-t26 : tie.Need-mul-t26
 mul-t26 c = search needs
 
--- src/turns.rt:94:5
 element-set-from-t : tie.Need-element-set-from-t
 element-set-from-t c = search needs
 
--- src/turns.rt:68:1
 same-length : tie.Need-same-length
 same-length c = search needs
 
--- src/turns.rt:68:1
 returns : tie.Need-returns
 returns c = let a = c .before .before .before .before .before .before .before .before .before .before .before .before .before .before .before .before .before .before .before .before .before .before .args in
     let ks : Counts (a .s) = record { files = sym (length-map (a .s .files) _) ∙ c .before .before .before .before .before .before .before .before .before .before .before .before .before .before .before .before .before .before .before .before .before .before .good .1 .0 .1 .1 .1 .1 .1 .1 .0 .1 .0 .1; channels = sym (length-map (a .s .channels) _) ∙ c .before .before .before .before .before .before .before .before .before .before .before .before .before .before .before .before .before .before .before .before .before .before .good .1 .0 .1 .1 .1 .1 .1 .0 .1 .0 .1 } in
