@@ -8,11 +8,11 @@ use channel::Unit;
 use file::Buffer;
 use file::File;
 use file::Slot;
+use pool::FILES;
 use state::State;
 use state::channel_at;
 use state::file_at;
 use state::with_channel;
-use state::with_file;
 
 fn byte(n: u64) -> u8 {
     (n % 256) as u8
@@ -251,6 +251,16 @@ fn mark_with(c: Channel, v: u64) -> Channel {
 
 // ---- the state
 
+// The state with another file in the place of that number, and all else as it was: the free mask too.
+fn stored_alone(s: State, i: usize, f: File) -> State {
+    if FILES <= i {
+        return s;
+    }
+    let mut t = s;
+    t.files[i] = f;
+    t
+}
+
 fn pool_with(s: State, field: u64, v: u64) -> State {
     let mut t = s;
     match field {
@@ -268,7 +278,7 @@ pub fn poked(kind: u64, s: State, a: u64, b: u64, c: u64, d: u64) -> State {
     if kind == 13 {
         let f = file_at(s, i);
         let g = file_with(f, b, c);
-        return with_file(s, i, g);
+        return stored_alone(s, i, g);
     }
     if kind == 16 {
         return pool_with(s, a, b);
