@@ -3,7 +3,7 @@ use Prim.Native.Nat.{ℕ, _+_, _%_}
 use mathlib.Core.Path.{_≡_, sym, ap, _∙_, subst}
 use mathlib.Core.Logic.{_≢_}
 use mathlib.Core.Bool.{true, false}
-use mathlib.Core.Option.{Option, some}
+use mathlib.Core.Option.{Option, none, some}
 use mathlib.Core.List.{List, [], _∷_, _++_}
 use lib.ListN.{length}
 use Rattle.word.specs.CheckWords.{blockNumbers}
@@ -13,13 +13,18 @@ use Rattle.state.specs.declared.State.{State}
 use Rattle.state.specs.Places.{beforeStart, fileAt}
 use Rattle.pack_start.specs.declared.Masks.{Masks}
 use Rattle.call_request.specs.Ask.{isPriority}
-use Rattle.pack.specs.Calls.{Call, fresh, opening, close, ask, report, answerOf}
-use Rattle.pack.specs.Books.{blankBook, bookAfter}
+use Rattle.pack.specs.Calls.{Call, fresh, opening, close, ask, report, get, skip, answerOf}
 use Rattle.pack.specs.Histories.{after, count, freshStart, declaredOn}
-use Rattle.demands_ledger.specs.Ledgers.{Ledger, blankLedger, toldError, stateAfter, areaAfter, ledgerAfter}
-use Rattle.demands_ledger.specs.Blocks.{joined}
+use Rattle.pack.specs.Books.{Book, Opened, toldResult, blankBook, bookedAt as inBook, bookAfter, openedAfter}
+use Rattle.demands_ledger.specs.Ledgers.{Ledger, blankLedger, toldError, isOn, noted, stateAfter, areaAfter, ledgerAfter}
+use Rattle.demands_ledger.specs.Blocks.{blocksIn, unreadOf, joined}
 use Rattle.demands.specs.Demands.{Refuses, Holds, Frees, Takes, Books, dataIn, Writes, Reads, Answers}
-use Rattle.demands.proofs.Demands.{demand1, demand2-before, demand2-freed, demand2-taken, demand2-booked, demand2-writes, demand2-closed, demand2-reads, demand2-judged, demand3}
+use Rattle.demands.specs.Results.{Results, Forbids}
+use Rattle.demands.specs.Turns.{worksFor, isPending, Turns, Continues, toldWorking, Tells}
+use Rattle.demands.specs.Marks.{Marks}
+use Rattle.demands.specs.Records.{Gives, Drops}
+use Rattle.demands.specs.Written.{Cuts, HandsOut}
+use Rattle.demands.proofs.Demands.{demand1, demand2-before, demand2-freed, demand2-taken, demand2-booked, demand2-results, demand2-forbidden, demand2-idle, demand2-turns, demand2-continues, demand2-asked, demand2-reported, demand2-single, demand2-holding, demand2-marks, demand2-writes, demand2-closed, demand2-reads, demand2-judged, demand2-got, demand2-skipped, demand2-cut, demand2-sent, demand3}
 use Rattle.session.specs.Session.{Course, withText, playLines}
 use Rattle.session.proofs.Counting.{lines-append}
 use Rattle.demands_session.specs.Played.{callIn, callsIn, lineOf, lineFor, stateFor, areaFor, zeros, stateIn, areaIn, lentFrom}
@@ -120,6 +125,92 @@ module _ (ks : List (List ℕ)) (l : List ℕ) (m w : ℕ) (masks : Masks) (isFr
       → Books s channel unit (answerOf s xs (report channel unit outcome words) .state)) later
       (demand2-booked (stateIn ks) (areaIn ks) m w masks started (lentFrom start (areaIn ks) (callsIn later)) _ channel unit outcome words)
 
+  -- "Scheduling, retry limits .. follow the manual and document 01.": the book of channel c, and what is known of file i
+  abbrev pub bookThen : List (List ℕ) → ℕ → Book
+  bookThen later c = bookAfter c start blankBook (lentFrom start (areaIn ks) (callsIn later))
+
+  abbrev pub openThen : List (List ℕ) → ℕ → Option Opened
+  openThen later i = openedAfter i start none (lentFrom start (areaIn ks) (callsIn later))
+
+  pub session2-results : (later : List (List ℕ)) (channel unit outcome : ℕ) (words : List ℕ)
+      → answerOf (stateThen later) (areaThen later) (report channel unit outcome words) .refusal ≡ 0
+      → Results (bookThen later channel) unit outcome (toldResult (answerOf (stateThen later) (areaThen later) (report channel unit outcome words) .added))
+  session2-results later channel unit outcome words =
+      so-lent (λ s xs. answerOf s xs (report channel unit outcome words) .refusal ≡ 0
+      → Results (bookThen later channel) unit outcome (toldResult (answerOf s xs (report channel unit outcome words) .added))) later
+      (demand2-results (stateIn ks) (areaIn ks) m w masks started (lentFrom start (areaIn ks) (callsIn later)) _ channel unit outcome words)
+
+  pub session2-forbidden : (later : List (List ℕ)) (channel unit outcome : ℕ) (words : List ℕ)
+      → answerOf (stateThen later) (areaThen later) (report channel unit outcome words) .refusal ≡ 12 → Forbids (bookThen later channel) unit outcome
+  session2-forbidden later channel unit outcome words =
+      so-lent (λ s xs. answerOf s xs (report channel unit outcome words) .refusal ≡ 12 → Forbids (bookThen later channel) unit outcome) later
+      (demand2-forbidden (stateIn ks) (areaIn ks) m w masks started (lentFrom start (areaIn ks) (callsIn later)) _ channel unit outcome words)
+
+  pub session2-idle : (later : List (List ℕ)) (channel unit outcome : ℕ) (words : List ℕ)
+      → answerOf (stateThen later) (areaThen later) (report channel unit outcome words) .refusal ≡ 11 → worksFor (stateThen later) channel unit ≡ false
+  session2-idle later channel unit outcome words =
+      so-lent (λ s xs. answerOf s xs (report channel unit outcome words) .refusal ≡ 11 → worksFor s channel unit ≡ false) later
+      (demand2-idle (stateIn ks) (areaIn ks) m w masks started (lentFrom start (areaIn ks) (callsIn later)) _ channel unit outcome words)
+
+  pub session2-turns : (later : List (List ℕ)) (call : Call) (c : ℕ) → answerOf (stateThen later) (areaThen later) call .refusal ≡ 0
+      → Turns c (stateThen later) call (answerOf (stateThen later) (areaThen later) call .state)
+      (inBook c (stateThen later) (record { call = call; area = areaThen later }) (bookThen later c))
+  session2-turns later call c =
+      so-lent (λ s xs. answerOf s xs call .refusal ≡ 0
+      → Turns c s call (answerOf s xs call .state) (inBook c s (record { call = call; area = xs }) (bookThen later c))) later
+      (demand2-turns (stateIn ks) (areaIn ks) m w masks started (lentFrom start (areaIn ks) (callsIn later)) (record { call = call; area = _ }) c)
+
+  pub session2-continues : (later : List (List ℕ)) (channel unit outcome : ℕ) (words : List ℕ)
+      → let a = answerOf (stateThen later) (areaThen later) (report channel unit outcome words) in
+      a .refusal ≡ 0
+      → Continues channel unit (toldResult (a .added)) (stateThen later) (a .state)
+      (inBook channel (stateThen later) (record { call = report channel unit outcome words; area = areaThen later }) (bookThen later channel))
+  session2-continues later channel unit outcome words =
+      so-lent (λ s xs. answerOf s xs (report channel unit outcome words) .refusal ≡ 0
+      → Continues channel unit (toldResult (answerOf s xs (report channel unit outcome words) .added)) s
+      (answerOf s xs (report channel unit outcome words) .state)
+      (inBook channel s (record { call = report channel unit outcome words; area = xs }) (bookThen later channel))) later
+      (demand2-continues (stateIn ks) (areaIn ks) m w masks started (lentFrom start (areaIn ks) (callsIn later)) _ channel unit outcome words)
+
+  pub session2-asked : (later : List (List ℕ)) (file op priority : ℕ)
+      → let a = answerOf (stateThen later) (areaThen later) (ask file op priority) in
+      a .refusal ≡ 0 → Tells (a .state) (fileAt (stateThen later) file .channel) (toldWorking (a .added))
+  session2-asked later file op priority =
+      so-lent (λ s xs. answerOf s xs (ask file op priority) .refusal ≡ 0
+      → Tells (answerOf s xs (ask file op priority) .state) (fileAt s file .channel) (toldWorking (answerOf s xs (ask file op priority) .added))) later
+      (demand2-asked (stateIn ks) (areaIn ks) m w masks started (lentFrom start (areaIn ks) (callsIn later)) _ file op priority)
+
+  pub session2-reported : (later : List (List ℕ)) (channel unit outcome : ℕ) (words : List ℕ)
+      → let a = answerOf (stateThen later) (areaThen later) (report channel unit outcome words) in
+      a .refusal ≡ 0 → Tells (a .state) channel (toldWorking (a .added))
+  session2-reported later channel unit outcome words =
+      so-lent (λ s xs. answerOf s xs (report channel unit outcome words) .refusal ≡ 0
+      → Tells (answerOf s xs (report channel unit outcome words) .state) channel
+      (toldWorking (answerOf s xs (report channel unit outcome words) .added))) later
+      (demand2-reported (stateIn ks) (areaIn ks) m w masks started (lentFrom start (areaIn ks) (callsIn later)) _ channel unit outcome words)
+
+  pub session2-single : (later : List (List ℕ)) (file op priority : ℕ)
+      → answerOf (stateThen later) (areaThen later) (ask file op priority) .refusal ≡ 0
+      → bookThen later (fileAt (stateThen later) file .channel) .requests (fileAt (stateThen later) file .unit) ≡ none
+  session2-single later file op priority =
+      so-lent (λ s xs. answerOf s xs (ask file op priority) .refusal ≡ 0
+      → bookThen later (fileAt s file .channel) .requests (fileAt s file .unit) ≡ none) later
+      (demand2-single (stateIn ks) (areaIn ks) m w masks started (lentFrom start (areaIn ks) (callsIn later)) _ file op priority)
+
+  pub session2-holding : (later : List (List ℕ)) (file op priority : ℕ)
+      → answerOf (stateThen later) (areaThen later) (ask file op priority) .refusal ≡ 8
+      → isPending (bookThen later (fileAt (stateThen later) file .channel) .requests (fileAt (stateThen later) file .unit)) ≡ true
+  session2-holding later file op priority =
+      so-lent (λ s xs. answerOf s xs (ask file op priority) .refusal ≡ 8
+      → isPending (bookThen later (fileAt s file .channel) .requests (fileAt s file .unit)) ≡ true) later
+      (demand2-holding (stateIn ks) (areaIn ks) m w masks started (lentFrom start (areaIn ks) (callsIn later)) _ file op priority)
+
+  pub session2-marks : (later : List (List ℕ)) (file op priority : ℕ)
+      → Marks (stateThen later) (areaThen later) file op priority (openThen later file)
+  session2-marks later file op priority =
+      so-lent (λ s xs. Marks s xs file op priority (openThen later file)) later
+      (demand2-marks (stateIn ks) (areaIn ks) m w masks started (lentFrom start (areaIn ks) (callsIn later)) _ file op priority)
+
   -- "blocks we write carry the one right check word;"
   pub session2-writes : (later : List (List ℕ)) (i : ℕ) → fileAt (stateThen later) i .opened ≡ true → fileAt (stateThen later) i .output ≡ true
       → Writes (stateThen later .w) (fileAt (stateThen later) i) (areaThen later) (accountThen later i)
@@ -153,6 +244,43 @@ module _ (ks : List (List ℕ)) (l : List ℕ) (m w : ℕ) (masks : Masks) (isFr
       ≡ judgedBlock words (fileAt s i .sequence) (fileAt s i .check) ((1 + length (accountThen later i .came)) % blockNumbers) .error) later
       (demand2-judged (stateIn ks) (areaIn ks) m w masks started (callsIn later) i channel unit outcome words)
 
+  -- records and blocks follow document 01: what an accepted get answers, what a skip drops, how the words put are divided, and which block a
+  -- report hands out
+  pub session2-got : (later : List (List ℕ)) (i : ℕ)
+      → let a = answerOf (stateThen later) (areaThen later) (get i) in
+      a .refusal ≡ 0 → Gives (accountThen later i .chosen .rlen) (accountThen later i .marked) (accountThen later i .owed) (a .added) (a .shows)
+  session2-got later i =
+      so (λ s xs. answerOf s xs (get i) .refusal ≡ 0
+      → Gives (accountThen later i .chosen .rlen) (accountThen later i .marked) (accountThen later i .owed) (answerOf s xs (get i) .added)
+      (answerOf s xs (get i) .shows)) later
+      (demand2-got (stateIn ks) (areaIn ks) m w masks started (callsIn later) i)
+
+  pub session2-skipped : (later : List (List ℕ)) (i : ℕ)
+      → let a = answerOf (stateThen later) (areaThen later) (skip i) in
+      a .refusal ≡ 0
+      → Drops (accountThen later i) (noted i (skip i) a (accountThen later i)) (unreadOf (a .state .w) (fileAt (a .state) i) (a .area))
+  session2-skipped later i =
+      so (λ s xs. answerOf s xs (skip i) .refusal ≡ 0
+      → Drops (accountThen later i) (noted i (skip i) (answerOf s xs (skip i)) (accountThen later i))
+      (unreadOf (answerOf s xs (skip i) .state .w) (fileAt (answerOf s xs (skip i) .state) i) (answerOf s xs (skip i) .area))) later
+      (demand2-skipped (stateIn ks) (areaIn ks) m w masks started (callsIn later) i)
+
+  pub session2-cut : (later : List (List ℕ)) (i : ℕ) → fileAt (stateThen later) i .opened ≡ true → fileAt (stateThen later) i .output ≡ true
+      → Cuts (accountThen later i) (blocksIn (stateThen later .w) (fileAt (stateThen later) i) (areaThen later))
+  session2-cut later i =
+      so (λ s xs. fileAt s i .opened ≡ true → fileAt s i .output ≡ true → Cuts (accountThen later i) (blocksIn (s .w) (fileAt s i) xs)) later
+      (demand2-cut (stateIn ks) (areaIn ks) m w masks started (callsIn later) i)
+
+  pub session2-sent : (later : List (List ℕ)) (channel unit outcome : ℕ) (words : List ℕ)
+      → let a = answerOf (stateThen later) (areaThen later) (report channel unit outcome words) in
+      a .refusal ≡ 0 → (i : ℕ) → isOn channel unit (accountThen later i) ≡ true
+      → HandsOut (accountThen later i) (noted i (report channel unit outcome words) a (accountThen later i)) a
+  session2-sent later channel unit outcome words =
+      so (λ s xs. answerOf s xs (report channel unit outcome words) .refusal ≡ 0 → (i : ℕ) → isOn channel unit (accountThen later i) ≡ true
+      → HandsOut (accountThen later i) (noted i (report channel unit outcome words) (answerOf s xs (report channel unit outcome words)) (accountThen later i))
+      (answerOf s xs (report channel unit outcome words))) later
+      (demand2-sent (stateIn ks) (areaIn ks) m w masks started (callsIn later) channel unit outcome words)
+
   -- Demand 3, of an ordinary request that is accepted after the lines `before`, and of any lines `later` after it, no fresh start among them
   pub session3 : (before : List (List ℕ)) → count freshStart start (lentFrom start (areaIn ks) (callsIn before)) ≡ 0
       → (file op priority : ℕ) → isPriority priority ≡ false
@@ -161,15 +289,14 @@ module _ (ks : List (List ℕ)) (l : List ℕ) (m w : ℕ) (masks : Masks) (isFr
       → let d = answerOf (stateThen before) (areaThen before) (ask file op priority) in
       count freshStart (d .state) (lentFrom (d .state) (d .area) (callsIn later)) ≡ 0
       → Answers (declaredOn start (fileAt (stateThen before) file .channel)) (fileAt (stateThen before) file .channel)
-      (fileAt (stateThen before) file .unit)
-      (bookAfter (fileAt (stateThen before) file .channel) start blankBook (lentFrom start (areaIn ks) (callsIn before))) (d .state) (lentFrom (d .state) (d .area) (callsIn later))
+      (fileAt (stateThen before) file .unit) (bookThen before (fileAt (stateThen before) file .channel))
+      (d .state) (lentFrom (d .state) (d .area) (callsIn later))
   session3 before first file op priority ordinary accepted later =
       so-lent (λ s xs. answerOf s xs (ask file op priority) .refusal ≡ 0
       → count freshStart (answerOf s xs (ask file op priority) .state)
       (lentFrom (answerOf s xs (ask file op priority) .state) (answerOf s xs (ask file op priority) .area) (callsIn later)) ≡ 0
       → Answers (declaredOn start (fileAt s file .channel)) (fileAt s file .channel) (fileAt s file .unit)
-      (bookAfter (fileAt s file .channel) start blankBook (lentFrom start (areaIn ks) (callsIn before)))
-      (answerOf s xs (ask file op priority) .state)
+      (bookThen before (fileAt s file .channel)) (answerOf s xs (ask file op priority) .state)
       (lentFrom (answerOf s xs (ask file op priority) .state) (answerOf s xs (ask file op priority) .area) (callsIn later))) before
       (λ z. demand3 (stateIn ks) (areaIn ks) m w masks started (lentFrom start (areaIn ks) (callsIn before)) first file op priority _ ordinary z _)
       accepted
