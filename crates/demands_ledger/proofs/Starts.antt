@@ -26,7 +26,6 @@ use Rattle.file.proofs.Which.{empty-there}
 use Rattle.pool.specs.Free.{fileCount}
 use Rattle.state.specs.declared.State.{State}
 use Rattle.state.specs.Places.{fileAt, channelAt}
-use Rattle.state_sound.proofs.Kept.{place-of}
 use Rattle.pack_start.specs.declared.Masks.{Masks}
 use Rattle.pack_start.specs.Fresh.{freshState, freshBy}
 use Rattle.call_open.specs.Open.{wishOf}
@@ -37,12 +36,9 @@ use Rattle.pack_start.proofs.FreshTheorems.{fresh-accepted}
 use Rattle.pack_open.proofs.OpenTheorems.{lowOf, highOf, open-accepted, open-file, open-frame}
 use Rattle.pack_open.proofs.CloseTheorems.{close-file, close-frame}
 use Rattle.pack_start.proofs.FreezeTheorems.{OnlyTurns, freeze-frame, thaw-frame}
-use Rattle.call_request.specs.declared.AskChange.{AskChange}
 use Rattle.call_request.specs.Ask.{isReading, askRefusal, askedFile}
-use Rattle.pack_request.specs.Calls.{askWrong, askChange, askBy}
-use Rattle.call_request.proofs.AskFound.{ask-taken}
-use Rattle.pack_request.proofs.Changed.{here-file}
-use Rattle.pack_request.proofs.AskTheorems.{ask-ready, ask-exactly, ask-frame}
+use Rattle.pack_request.specs.Calls.{askWrong, askBy}
+use Rattle.pack_request.proofs.AskTheorems.{ask-exactly, ask-frame, ask-file}
 use Rattle.pack.specs.Calls.{opening, close, ask, freeze, thaw, answerOf}
 use Rattle.pack.proofs.Kept.{Good, call-kept}
 use Rattle.demands_ledger.specs.Ledgers.{Choice, Ledger, choiceOf, newLedger, blankLedger, withAsk, withClose}
@@ -162,19 +158,6 @@ module _ (s : State) (area : List ℕ) (ledgers : ℕ → Ledger) (K : Kept s ar
   unfolding askRefusal
   asked-number file op priority z = sym (ask-exactly s file op priority .number) ∙ z
 
-  asked-file : (file op priority : ℕ) → askBy s file op priority .refusal ≡ 0
-      → fileAt (askBy s file op priority .state) file ≡ askedFile op (fileAt s file)
-  unfolding askBy
-  asked-file file op priority z =
-      let c = channelAt s (fileAt s file .channel) in
-      let n = asked-number file op priority z in
-      let x = ask-taken (askWrong s file) (fileAt s file) c op priority (s .frozen) (askRefusal (askWrong s file) (fileAt s file) c op priority) refl
-      n in
-      here-file s file (fileAt s file .channel) (askChange s file op priority .refusal) (askChange s file op priority .file)
-      (askChange s file op priority .channel)
-      (ap (λ (y : AskChange). y .refusal) x) (place-of s file (ask-ready (askWrong s file) (fileAt s file) c op priority n .isOpen))
-      ∙ ap (λ (y : AskChange). y .file) x
-
   pub ask-kept : (file op priority : ℕ) → askBy s file op priority .refusal ≡ 0
       → Kept (askBy s file op priority .state) area (entering ledgers (withAsk op) file)
   unfolding answerOf
@@ -182,7 +165,7 @@ module _ (s : State) (area : List ℕ) (ledgers : ℕ → Ledger) (K : Kept s ar
       let F = ask-frame s file op priority in
       kept-file s (askBy s file op priority .state) area area ledgers (entering ledgers (withAsk op) file) K
       (call-kept s area (K .good) (ask file op priority)) file (F .words) (F .files) (entering-other ledgers (withAsk op) file) (λ i ne p k q. refl)
-      (subst (λ (h : File). Told (s .w) h area (entering ledgers (withAsk op) file file)) (sym (asked-file file op priority z))
+      (subst (λ (h : File). Told (s .w) h area (entering ledgers (withAsk op) file file)) (sym (ask-file s file op priority z))
       (subst (Told (s .w) (askedFile op (fileAt s file)) area) (sym (entering-here ledgers (withAsk op) file))
       (told-noted (s .w) op (askedFile op (fileAt s file)) area (ledgers file)
       (told-asked (s .w) op (fileAt s file) area (ledgers file) (K .told file)))))
