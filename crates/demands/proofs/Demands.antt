@@ -33,7 +33,7 @@ use Rattle.demands.specs.Results.{Results, Forbids}
 use Rattle.demands.specs.Marks.{Marks}
 use Rattle.demands.specs.Turns.{worksFor, isPending, Turns, Continues, toldWorking, Tells}
 use Rattle.demands_ledger.proofs.Asks.{Asked, always-asked, started-asked}
-use Rattle.demands.specs.Demands.{Refuses, Holds, Frees, Takes, Books, dataIn, Writes, Reads, Answers}
+use Rattle.demands.specs.Demands.{Refuses, Holds, Frees, Takes, Books, dataIn, Writes, Reads, Answers, AnswersUrgent}
 use Rattle.demands.specs.Records.{Gives, Drops}
 use Rattle.demands.specs.Written.{Cuts, Due, HandsOut}
 use Rattle.demands.proofs.Refusals.{refuses}
@@ -42,7 +42,7 @@ use Rattle.demands.proofs.Blocks.{ledger-writes, ledger-closed, ledger-
 use Rattle.demands.proofs.Results.{reported-results, refused-forbids}
 use Rattle.demands.proofs.Marks.{asked-marks}
 use Rattle.demands.proofs.Turns.{call-turns, report-continues, ask-tells, report-tells, ask-single, report-idle, ask-holding}
-use Rattle.demands.proofs.Answering.{answered}
+use Rattle.demands.proofs.Answering.{answered, urgent-answered}
 use Rattle.demands.proofs.Records.{gives-one, ledger-got, ledger-skipped}
 use Rattle.demands.proofs.Written.{due-one, ledger-cuts, ledger-sent}
 
@@ -266,3 +266,12 @@ module _ (s₀ : State) (area₀ : List ℕ) (m w : ℕ) (masks : Masks) (starte
       (fileAt (after start before) file .unit) (bookAfter (fileAt (after start before) file .channel) start blankBook before)
       (answerOf (after start before) area (ask file op priority) .state) later
   demand3 = answered s₀ area₀ m w masks started
+
+  -- M-112: "With that and demand 3's premises, an accepted priority request is answered by the time 101 × U + 1 reports have been accepted on
+  -- its channel"; and answered at most once, its channel working or frozen until then
+  pub demand3-urgent : (before : List Lent) → count freshStart start before ≡ 0
+      → (file op priority : ℕ) (area : List ℕ) → isPriority priority ≡ true → answerOf (after start before) area (ask file op priority) .refusal ≡ 0
+      → (later : List Lent) → count freshStart (answerOf (after start before) area (ask file op priority) .state) later ≡ 0
+      → AnswersUrgent (declaredOn start (fileAt (after start before) file .channel)) (fileAt (after start before) file .channel)
+      (fileAt (after start before) file .unit) (answerOf (after start before) area (ask file op priority) .state) later
+  demand3-urgent = urgent-answered s₀ area₀ m w masks started
