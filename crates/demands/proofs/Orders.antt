@@ -1,7 +1,7 @@
 -- An ask or a report on one channel and one on another: each leaves what the other goes by, so their order makes no difference. Assumes nothing.
 use mathlib.Core.Path.{_≡_, refl, sym, ap, subst, _∙_}
 use mathlib.Core.Logic.{_≢_, _⊎_, inl, inr}
-use mathlib.Core.Bool.{Bool, true, false, not, cond, _&&_, _||_, and-false}
+use mathlib.Core.Bool.{Bool, true, false, not, cond, _||_, and-false}
 use mathlib.Core.List.{List, []}
 use Prim.Native.Nat.{ℕ, zero, suc, _+_, _-_, _*_, _≤_, _<_}
 use native.Mathlib.Decide.{ℕ-discrete, decLt}
@@ -11,14 +11,14 @@ use lib.Dec.{leb, ltb, eqb}
 use lib.ListN.{length, getD, set, take, drop}
 use lib.Seq.{set-comm, ext-getD, take-take, getD-take, getD-drop}
 use borrow.Author.Tests.{eq-eqb, ne-eqb, eqb-true, not-true}
-use Rattle.area.specs.Lists.{allOf, firstAlong, numberOr}
-use Rattle.area.specs.Parts.{isWord, partOf, paste, pastedIn}
+use Rattle.area.specs.Lists.{firstAlong, numberOr}
+use Rattle.area.specs.Parts.{partOf, paste, pastedIn}
 use Rattle.area.specs.Refusals.{lowest}
 use Rattle.area.specs.declared.Found.{Found}
 use Rattle.area.specs.declared.Found.the-variants.{At, Nothing}
 use Rattle.area.proofs.Walks.{true-not-false, and-left, and-right, or-either}
 use Rattle.area.proofs.Firsts.{first-finds}
-use Rattle.area.proofs.Pastes.{paste-fitting, paste-part, length-paste}
+use Rattle.area.proofs.Pastes.{paste-fitting, paste-part}
 use Rattle.channel.specs.declared.Channel.{Channel}
 use Rattle.channel.specs.declared.Turn.{Turn}
 use Rattle.channel.specs.declared.Turn.the-variants.{Idle, Waiting, Displaced, Working}
@@ -28,7 +28,7 @@ use Rattle.channel.specs.Units.{turnAt, workOf, operationAt}
 use Rattle.channel_turns.specs.Turns.{judgeOf}
 use Rattle.file.specs.declared.File.{File}
 use Rattle.file.specs.declared.Side.{Side}
-use Rattle.file.specs.declared.Side.the-variants.{Low, High, Neither}
+use Rattle.file.specs.declared.Side.the-variants.{Neither}
 use Rattle.file.specs.Sizes.{closedFile}
 use Rattle.file.specs.Slots.{fullWords}
 use Rattle.file.specs.Sides.{bufferAt, slotAt, startAt, isSide, takenSide, oldest}
@@ -39,37 +39,34 @@ use Rattle.file_input.proofs.Ages.{Aged, noBlock, old, aged}
 use Rattle.file_output.specs.Sends.{sendStart, sendWords, afterWrite}
 use Rattle.pool.specs.Free.{fileCount, heldBy}
 use Rattle.pool.specs.Masks.{freeMask}
-use Rattle.pool.specs.Serving.{serves, servingFile, fileServing}
+use Rattle.pool.specs.Serving.{serves, servingFile}
 use Rattle.state.specs.declared.State.{State}
-use Rattle.state.specs.Places.{fileAt, channelAt, areaShort, noChannel}
+use Rattle.state.specs.Places.{fileAt, channelAt, noChannel}
 use Rattle.state.specs.Stores.{withFile, withChannel}
 use Rattle.state.proofs.Lookups.{file-beyond}
 use Rattle.state_sound.specs.Requests.{requested, isNone, isWrite}
 use Rattle.state_sound.specs.Soundness.{sound}
-use Rattle.state_sound.specs.Judged.{fileReady}
 use Rattle.state_sound.proofs.FileFacts.{Sound}
 use Rattle.state_sound.proofs.FilesKept.{owns}
 use Rattle.state_sound.proofs.Facts.{SoundFacts, sound-facts}
 use Rattle.state_sound.proofs.Shares.{apart-holds}
-use Rattle.state_sound.proofs.Inside.{size-fits, held-own}
+use Rattle.state_sound.proofs.Inside.{size-fits}
 use Rattle.state_sound.proofs.Changes.{numbers, own-oldest}
 use Rattle.state_sound.proofs.Events.{event-alike}
-use Rattle.call_request.specs.declared.AskChange.{AskChange}
-use Rattle.call_request.specs.declared.ReportChange.{ReportChange}
 use Rattle.call_request.specs.declared.Effect.{Effect}
 use Rattle.call_request.specs.declared.Effect.the-variants.{Delivers, MeetsMark, GivesBack, Sends, Keeps}
-use Rattle.call_request.specs.Effects.{effectOf, isDelivery}
+use Rattle.call_request.specs.Effects.{isDelivery}
 use Rattle.call_request.specs.Ask.{askRefusal, askedFile, askOn}
-use Rattle.call_request.specs.Report.{effectAt, shownStart, shownCount, shownBlock, reportRefusal, reportedFile, reportedArea, reportOn, reportOnArea}
+use Rattle.call_request.specs.Report.{effectAt, shownBlock, reportRefusal, reportedFile, reportedArea, reportOn, reportOnArea}
 use Rattle.pack_request.specs.Changes.{changedState}
-use Rattle.pack_request.specs.Calls.{askWrong, askChange, askBy, fileOf, reportWrong, reportChange, reportBy, reportByArea}
+use Rattle.pack_request.specs.Calls.{askWrong, askChange, askBy, fileOf, reportWrong, reportBy, reportByArea}
 use Rattle.pack_request.proofs.Changed.{Frame, changed-taken}
 use Rattle.pack_request.proofs.Ready.{ready-facts}
 use Rattle.pack_request.proofs.AskTheorems.{ask-was-sound, ask-ready, ask-exactly, ask-frame, ask-file}
 use Rattle.pack_request.proofs.ReportTheorems.{report-was-sound, serving, report-exactly, report-frame, report-books-own, report-file}
 use Rattle.pack_request.proofs.ReportWords.{isSending, sends-exactly, report-delivers}
 use Rattle.pack_record.specs.Only.{Only}
-use Rattle.pack_record.proofs.Written.{only-self, only-wider, pasted-only, other-buffer}
+use Rattle.pack_record.proofs.Written.{only-wider, pasted-only}
 use Rattle.pack.specs.Calls.{addsNothing, numberAlone, Call, fresh, opening, close, ask, report, get, put, seal, skip, freeze, thaw, Added, working, reported, Answer, told, answerOf}
 use Rattle.pack.proofs.Kept.{Good, call-kept}
 use Rattle.pack.proofs.Refused.{call-alone}

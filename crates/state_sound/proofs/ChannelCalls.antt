@@ -2,7 +2,7 @@
 -- Assumes nothing.
 use mathlib.Core.Path.{_≡_, refl, sym, ap, subst, _∙_}
 use mathlib.Core.Logic.{_≢_}
-use mathlib.Core.Bool.{Bool, true, false, not, cond, _&&_, _||_}
+use mathlib.Core.Bool.{Bool, true, false, not, _&&_, _||_}
 use mathlib.Core.Option.{Option, none, some}
 use mathlib.Core.List.{List}
 use Prim.Native.Nat.{ℕ, _+_, _≤_, _<_}
@@ -23,7 +23,7 @@ use Rattle.channel_outcomes.specs.declared.Verdict.{Verdict}
 use Rattle.channel_outcomes.specs.declared.Verdict.the-variants.{Refused, Repeats, Ends}
 use Rattle.channel_outcomes.specs.Rules.{verdictOf}
 use Rattle.channel.specs.Units.{size, idleUnit, unitAt, declaredAt, turnAt, withTurn, isIdle, acceptsAt}
-use Rattle.channel_turns.specs.Scans.{nextUnit, workingIn}
+use Rattle.channel_turns.specs.Scans.{workingIn}
 use Rattle.area.specs.Lists.{isFound}
 use Rattle.channel_turns.specs.Turns.{judgeTurn, judgeOf, goesOn, incompleteTurn, repeatOf, markMoved, endOf, bookOf, reportOf}
 use Rattle.channel_turns.specs.Starts.{startOf, thawOf, newRequest, askOf}

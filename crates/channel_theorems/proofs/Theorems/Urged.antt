@@ -1,8 +1,8 @@
 -- One call that does not answer a priority request: each accepted report costs one attempt of the budget, but for one of an ordinary
 -- operation that was at work when the request was accepted. Assumes nothing.
-use mathlib.Core.Path.{_≡_, refl, ap, sym, _∙_}
+use mathlib.Core.Path.{_≡_, refl, ap, _∙_}
 use mathlib.Core.Logic.{_≢_}
-use mathlib.Core.Bool.{Bool, true, false, not, cond, _&&_, _||_, and-false}
+use mathlib.Core.Bool.{Bool, true, false, not, cond, and-false}
 use mathlib.Core.Option.{none, some}
 use Prim.Native.Nat.{ℕ, _+_, _≤_, _<_}
 use native.Mathlib.Decide.{ℕ-discrete}
@@ -14,7 +14,7 @@ use Rattle.channel.specs.declared.Turn.{Turn}
 use Rattle.channel.specs.declared.Turn.the-variants.{Idle, Waiting, Displaced, Working}
 use Rattle.channel.specs.declared.Channel.{Channel}
 use Rattle.channel_outcomes.specs.Rules.{mostReports}
-use Rattle.channel.specs.Units.{size, declaredAt, turnAt, withTurn, withMarks, isWorking}
+use Rattle.channel.specs.Units.{size, declaredAt, turnAt, withTurn, isWorking}
 use Rattle.channel_turns.specs.Scans.{nextUnit, priorityIn}
 use Rattle.channel_turns.specs.Turns.{holdsPriority, goesOn, markAfter, urgentAfter}
 use Rattle.channel_turns.specs.Starts.{startOf, newRequest}
@@ -24,7 +24,7 @@ use Rattle.channel_theorems.proofs.Theorems.Starts.{turn-wants, turn-wo
 use Rattle.channel_theorems.proofs.Theorems.Calls.{endedAt, Incomplete, onward, aside, Took, refuses, asks, repeats, ends, freezes, thaws, not-here}
 use Rattle.channel_theorems.proofs.Theorems.Sound.{limit-most, Again, verdict-again, Works, works, OneWorks, Sound}
 use Rattle.channel_theorems.proofs.Theorems.Race.{Race, race-start, race-set, race-marks, race-ended, also, also-same, also-other}
-use Rattle.channel_theorems.proofs.Theorems.Budget.{left, own, budget, budget-at, budget-start, urgent-asked, urgent-again, urgent-ended, urgent-past}
+use Rattle.channel_theorems.proofs.Theorems.Budget.{left, budget, budget-at, budget-start, urgent-asked, urgent-again, urgent-ended, urgent-past}
 use Rattle.channel_theorems.proofs.Theorems.Raced.{budget-marks}
 
 -- ---- while a priority request waits no ordinary operation begins, so the one at work, if any, is the last
