@@ -57,7 +57,7 @@ fn played(
 }
 
 // The end of the input: the last line, if one has begun.
-fn last(t: Talk, area: &mut [u64], room: &[u8], words: &mut [u64], out: &mut [u8]) -> Standing {
+fn last(t: Talk, area: &mut [u64], room: &mut [u8], words: &mut [u64], out: &mut [u8]) -> Standing {
     let r = talk_end(t, area, room, words, out);
     written(&out[..], r.length);
     let talk = r.talk;
@@ -80,7 +80,7 @@ fn once(
     }
     let n = io::count(got, input);
     if n == 0 {
-        return last(t, area, &room[..], words, out);
+        return last(t, area, room, words, out);
     }
     played(t, area, room, words, &input[..n], out)
 }

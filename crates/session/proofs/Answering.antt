@@ -84,7 +84,7 @@ module _ (line : Line) (room l : List ℕ) (size : length room ≡ longest) (h :
 
   module _ (s : State) (area words out : List ℕ) (good : sound s ≡ true) (counts : Counts s) (roomy : mostWords ≤ length words) (space : mostText ≤ length out) where
     abbrev after : After
-    after = afterHeld s area line room words out
+    after = afterHeld false s area line room words out
 
     abbrev reply : Reply
     reply = answerTo s area l

@@ -7,3 +7,4 @@ pub mod Answering
 pub mod Playing
 pub mod Counting
 pub mod Sessions
+pub mod Onwards

@@ -130,15 +130,15 @@ module _ (bytes : List ℕ) (p : Player) (l : List ℕ) (R : Ready p l) (on : is
   fit : end + length (textOf reply) ≤ length out
   fit = omega (arith, text-longest (p .state) (p .area) line (R .counts), left)
 
-  ended-goes : step .ended ≡ true → Goes bytes p l (answeredTurn p step filled)
+  ended-goes : step .ended ≡ true → Goes bytes p l (answeredTurn false p step filled)
   unfolding answeredTurn
   ended-goes e =
       let D = step-ended (p .line) (p .room) l xs (p .at) (R .held) e in
       let A = answered in
-      let text : take (end + afterHeld (p .state) (p .area) (step .line) filled (p .words) (drop end out) .length) (take end out ++ afterHeld (p .state) (p .area) (step .line) filled (p .words) (drop end out) .out) ≡ take end out ++ textOf reply =
+      let text : take (end + afterHeld false (p .state) (p .area) (step .line) filled (p .words) (drop end out) .length) (take end out ++ afterHeld false (p .state) (p .area) (step .line) filled (p .words) (drop end out) .out) ≡ take end out ++ textOf reply =
       ap₂ (λ (n : ℕ) (zs : List ℕ). take (end + n) (take end out ++ zs)) (A .long) (A .text) ∙ written-after end (textOf reply) out fit in
       let rest : drop (step .at) bytes ≡ drop (feedAt xs + 1) xs = ap (λ (k : ℕ). drop k bytes) (D .place) ∙ sym (drop-drop (feedAt xs + 1) (p .at) bytes) in
-      let long : length (take end out ++ afterHeld (p .state) (p .area) (step .line) filled (p .words) (drop end out) .out) ≡ length out =
+      let long : length (take end out ++ afterHeld false (p .state) (p .area) (step .line) filled (p .words) (drop end out) .out) ≡ length out =
       length-append (take end out) _ ∙ omega (arith, length-take-le end out (R .within), ap length (A .text), length-paste 0 (textOf reply) (drop end out) (omega (arith, fit, length-drop end out)), length-drop end out, R .within) in
       record {
         next = [];
@@ -158,7 +158,7 @@ module _ (bytes : List ℕ) (p : Player) (l : List ℕ) (R : Ready p l) (on : is
             ∙ ap (withText (take end out)) (lines-cons (p .state) (p .area) line (linesFrom [] (drop (feedAt xs + 1) xs ++ later)))
             ∙ with-more (take end out) (textOf reply) (playLines (reply .state) (reply .area) (linesFrom [] (drop (feedAt xs + 1) xs ++ later)))
             ∙ ap₂ (λ (t : List ℕ) (ys : List ℕ). withText t (playLines (reply .state) (reply .area) (linesFrom [] (ys ++ later)))) (sym text) (sym rest)
-            ∙ ap₂ (λ (s : State) (a : List ℕ). withText (take (end + afterHeld (p .state) (p .area) (step .line) filled (p .words) (drop end out) .length) (take end out ++ afterHeld (p .state) (p .area) (step .line) filled (p .words) (drop end out) .out))
+            ∙ ap₂ (λ (s : State) (a : List ℕ). withText (take (end + afterHeld false (p .state) (p .area) (step .line) filled (p .words) (drop end out) .length) (take end out ++ afterHeld false (p .state) (p .area) (step .line) filled (p .words) (drop end out) .out))
             (playLines s a (linesFrom [] (drop (step .at) bytes ++ later)))) (sym (A .state)) (sym (A .area'));
       }
 
@@ -187,10 +187,10 @@ module _ (bytes : List ℕ) (p : Player) (l : List ℕ) (R : Ready p l) (on : is
             (from-open l xs later line (D .lines) (D .begun) ∙ ap (λ (ys : List ℕ). linesFrom line (ys ++ later)) (sym rest));
       }
 
-  pub turn-goes : Goes bytes p l (turnOf bytes p)
+  pub turn-goes : Goes bytes p l (turnOf false bytes p)
   unfolding turnOf
   turn-goes =
-      by-test (λ b. step .ended ≡ b → Goes bytes p l (cond b (answeredTurn p step filled) (openTurn p step filled))) (step .ended)
+      by-test (λ b. step .ended ≡ b → Goes bytes p l (cond b (answeredTurn false p step filled) (openTurn p step filled))) (step .ended)
       (λ q e. ended-goes e) (λ q e. open-goes e) refl
 
 -- ---- turn after turn
@@ -208,26 +208,26 @@ goes-then bytes p l q r G H =
       same = λ later. G .same later ∙ H .same later;
     }
 
-turns-go : (n : ℕ) (bytes : List ℕ) (p : Player) (l : List ℕ) → Ready p l → Goes bytes p l (playTurns n bytes p)
+turns-go : (n : ℕ) (bytes : List ℕ) (p : Player) (l : List ℕ) → Ready p l → Goes bytes p l (playTurns false n bytes p)
 unfolding playTurns
 turns-go zero bytes p l R = goes-self bytes p l R
 turns-go (suc n) bytes p l R =
-    by-test (λ b. isDone bytes p ≡ b → Goes bytes p l (cond b p (playTurns n bytes (turnOf bytes p)))) (isDone bytes p)
+    by-test (λ b. isDone bytes p ≡ b → Goes bytes p l (cond b p (playTurns false n bytes (turnOf false bytes p)))) (isDone bytes p)
     (λ q e. goes-self bytes p l R)
-    (λ q e. let G = turn-goes bytes p l R e in goes-then bytes p l (turnOf bytes p) _ G (turns-go n bytes (turnOf bytes p) (G .next) (G .ready)))
+    (λ q e. let G = turn-goes bytes p l R e in goes-then bytes p l (turnOf false bytes p) _ G (turns-go n bytes (turnOf false bytes p) (G .next) (G .ready)))
     refl
 
 -- a part: what is left of it after a call, and that a call goes on
-pub part-goes-on : (bytes : List ℕ) (p : Player) (l : List ℕ) → Ready p l → Goes bytes p l (playPart bytes p)
+pub part-goes-on : (bytes : List ℕ) (p : Player) (l : List ℕ) → Ready p l → Goes bytes p l (playPart false bytes p)
 unfolding playPart
 part-goes-on bytes p l R = turns-go (suc (length bytes - p .at)) bytes p l R
 
-pub part-moves : (bytes : List ℕ) (p : Player) (l : List ℕ) → Ready p l → isDone bytes p ≡ false → p .at < playPart bytes p .at
+pub part-moves : (bytes : List ℕ) (p : Player) (l : List ℕ) → Ready p l → isDone bytes p ≡ false → p .at < playPart false bytes p .at
 unfolding playPart playTurns
 part-moves bytes p l R e =
     let G = turn-goes bytes p l R e in
-    let H = turns-go (length bytes - p .at) bytes (turnOf bytes p) (G .next) (G .ready) in
-    subst (λ (q : Player). p .at < q .at) (sym (cond-false _ _ e)) (omega (arith, turn-further bytes p e, H .further))
+    let H = turns-go (length bytes - p .at) bytes (turnOf false bytes p) (G .next) (G .ready) in
+    subst (λ (q : Player). p .at < q .at) (sym (cond-false _ _ e)) (omega (arith, turn-further false bytes p e, H .further))
 
 -- ---- its end
 
@@ -247,10 +247,10 @@ module _ (p : Player) where
       let A = held-answered (p .line) (p .room) (c ∷ l) (R .room) (R .held) (p .state) (p .area) (p .words) (p .out) (R .good) (R .counts) (R .words) (R .space) in
       let text = textOf (answerTo (p .state) (p .area) (c ∷ l)) in
       let fit : 0 + length (textOf (answerTo (p .state) (p .area) (c ∷ l))) ≤ length (p .out) = omega (arith, text-longest (p .state) (p .area) (c ∷ l) (R .counts), R .space) in
-      let all : take (afterHeld (p .state) (p .area) (p .line) (p .room) (p .words) (p .out) .length) (afterHeld (p .state) (p .area) (p .line) (p .room) (p .words) (p .out) .out) ≡ textOf (answerTo (p .state) (p .area) (c ∷ l)) ++ [] =
+      let all : take (afterHeld false (p .state) (p .area) (p .line) (p .room) (p .words) (p .out) .length) (afterHeld false (p .state) (p .area) (p .line) (p .room) (p .words) (p .out) .out) ≡ textOf (answerTo (p .state) (p .area) (c ∷ l)) ++ [] =
       ap₂ (λ (n : ℕ) (zs : List ℕ). take n zs) (A .long) (A .text)
       ∙ front-text (textOf (answerTo (p .state) (p .area) (c ∷ l))) (p .out) fit
       ∙ sym (append-nil (textOf (answerTo (p .state) (p .area) (c ∷ l)))) in
       ap (λ (x : After). record { state = x .state; area = x .area; text = take (x .length) (x .out) }) (cond-true _ _ (begun-some (p .line) (p .room) c l (R .held)))
-      ∙ ap₂ (λ (s : State) (a : List ℕ). record { state = s; area = a; text = take (afterHeld (p .state) (p .area) (p .line) (p .room) (p .words) (p .out) .length) (afterHeld (p .state) (p .area) (p .line) (p .room) (p .words) (p .out) .out) }) (A .state) (A .area')
+      ∙ ap₂ (λ (s : State) (a : List ℕ). record { state = s; area = a; text = take (afterHeld false (p .state) (p .area) (p .line) (p .room) (p .words) (p .out) .length) (afterHeld false (p .state) (p .area) (p .line) (p .room) (p .words) (p .out) .out) }) (A .state) (A .area')
       ∙ ap (λ (t : List ℕ). record { state = answerTo (p .state) (p .area) (c ∷ l) .state; area = answerTo (p .state) (p .area) (c ∷ l) .area; text = t }) all

@@ -74,7 +74,7 @@ module _ (d : Desk) (bytes : List ℕ) (at : ℕ) (out l later : List ℕ) where
   before = playerAt d at out
 
   abbrev reached : Player
-  reached = playPart bytes before
+  reached = playPart false bytes before
 
   -- a call, and then the rest
   call-tells : (G : Goes bytes before l reached) (r : Said) → Tells (playedCall reached .desk) (G .next) (drop (reached .at) bytes) later r
@@ -110,14 +110,14 @@ part-tells (suc calls) d bytes at out l later S h k =
     (sym (part-on d (S .on) out (sits-roomy d l out S h) bytes at))
     (call-tells d bytes at out l later G _
     (by-test
-    (λ b. leb (length bytes) (playPart bytes (playerAt d at out) .at) ≡ b → Tells (playedCall (playPart bytes (playerAt d at out)) .desk) (G .next) (drop (playPart bytes (playerAt d at out) .at) bytes) later
-    (cond b (record { text = []; desk = playedCall (playPart bytes (playerAt d at out)) .desk }) (sayPart calls (playedCall (playPart bytes (playerAt d at out)) .desk) bytes (playPart bytes (playerAt d at out) .at) (playPart bytes (playerAt d at out) .out))))
-    (leb (length bytes) (playPart bytes (playerAt d at out) .at))
-    (λ z e. tells-none _ (G .next) _ later (ready-sits _ (G .next) (G .ready)) (drop-of-length-le bytes (leb-true (length bytes) (playPart bytes (playerAt d at out) .at) e)))
+    (λ b. leb (length bytes) (playPart false bytes (playerAt d at out) .at) ≡ b → Tells (playedCall (playPart false bytes (playerAt d at out)) .desk) (G .next) (drop (playPart false bytes (playerAt d at out) .at) bytes) later
+    (cond b (record { text = []; desk = playedCall (playPart false bytes (playerAt d at out)) .desk }) (sayPart calls (playedCall (playPart false bytes (playerAt d at out)) .desk) bytes (playPart false bytes (playerAt d at out) .at) (playPart false bytes (playerAt d at out) .out))))
+    (leb (length bytes) (playPart false bytes (playerAt d at out) .at))
+    (λ z e. tells-none _ (G .next) _ later (ready-sits _ (G .next) (G .ready)) (drop-of-length-le bytes (leb-true (length bytes) (playPart false bytes (playerAt d at out) .at) e)))
     (λ z e.
-    let more : playPart bytes (playerAt d at out) .at < length bytes = leb-false (length bytes) (playPart bytes (playerAt d at out) .at) e in
+    let more : playPart false bytes (playerAt d at out) .at < length bytes = leb-false (length bytes) (playPart false bytes (playerAt d at out) .at) e in
     let moves = call-moves d bytes at out l later R more (G .further) in
-    part-tells calls (playedCall (playPart bytes (playerAt d at out)) .desk) bytes (playPart bytes (playerAt d at out) .at) (playPart bytes (playerAt d at out) .out) (G .next) later
+    part-tells calls (playedCall (playPart false bytes (playerAt d at out)) .desk) bytes (playPart false bytes (playerAt d at out) .at) (playPart false bytes (playerAt d at out) .out) (G .next) later
     (ready-sits _ (G .next) (G .ready)) (G .ready .space) (omega (arith, more, moves, k)))
     refl))
 

@@ -1,73 +1,30 @@
 -- One line more, as the code goes, comes to its definition. Assumes nothing.
 use mathlib.Core.Path.{_≡_, refl, sym, ap, ap₂, _∙_, subst}
 use mathlib.Core.Bool.{Bool, true, false, cond}
-use mathlib.Core.List.{List, [], _++_, append-nil}
+use mathlib.Core.List.{List, _++_}
 use Prim.Native.Nat.{ℕ, zero, suc, _+_, _-_, _≤_, _<_}
 use native.Mathlib.Omega.{arith}
-use borrow.Author.Tests.{le-leb, lt-leb, leb-true, leb-false, lt-ltb, le-ltb, ltb-false}
+use borrow.Author.Tests.{le-leb, lt-leb, leb-false, lt-ltb, le-ltb, ltb-false}
 use lib.Dec.{leb, ltb}
-use lib.ListN.{length, take, drop, length-append, length-take, length-drop, drop-of-length-le}
-use lib.Seq.{length-take-le}
-use Rattle.area.specs.Parts.{paste, pastedIn}
-use Rattle.area.proofs.Pastes.{part-all, paste-fitting, paste-misfit, length-paste}
+use lib.ListN.{length, take, drop, length-drop}
+use Rattle.area.specs.Parts.{partOf, paste, pastedIn}
 use Rattle.area.proofs.Marks.{cond-true, cond-false}
 use Rattle.area.proofs.Walks.{by-test, or-left, or-first, or-second, or-neither}
+use Rattle.session_frame.specs.Answers.{answerText}
 use Rattle.session_frame.specs.Writes.{placeAfter}
+use Rattle.session_frame.specs.declared.Frame.{Frame}
+use Rattle.session_frame.specs.Frames.{frameOf}
 use Rattle.session_line.specs.declared.Line.{Line}
 use Rattle.session_line.specs.declared.Step.{Step}
 use Rattle.session_line.specs.Lines.{feedAt}
 use Rattle.session_line.specs.Machine.{noLine, stepOf, roomOf}
-use Rattle.session_frame.specs.Frames.{frameOf}
 use Rattle.state.specs.declared.State.{State}
-use Rattle.session_reply.specs.Replies.{Reply, givenWords, textOf}
-use Rattle.session_reply.specs.Turns.{answerOn}
-use Rattle.session.specs.Rooms.{mostText, lacksRooms, After, afterLine}
-use Rattle.session.proofs.Written.{IsAfter}
+use Rattle.session_reply.specs.Turns.{Turned, turnedOn, areaOn}
+use Rattle.session_reply.proofs.Stores.{Counts}
+use Rattle.session.specs.Rooms.{mostWords, mostText, lacksRooms, givenIn}
+use Rattle.session.proofs.Written.{IsAfter, written-line}
 use Rattle.session.specs.declared.Played.{Played}
 use Rattle.session.specs.Player.{Player, playerWith, heldText, afterHeld, answeredTurn, openTurn, turnOf, isDone, playTurns, playPart, playedOf}
-
--- ---- what an answer leaves of its room
-
-pub record Within (x : After) (out : List ℕ) : Type 0 where
-  pub long : length (x .out) ≡ length out
-  pub short : x .length ≤ length out
-
-place-within : (t xs : List ℕ) → (length (pastedIn 0 t xs) ≡ length xs) × (placeAfter 0 t xs ≤ length xs)
-unfolding placeAfter
-place-within t xs =
-    by-test (λ b. leb (0 + length t) (length xs) ≡ b → (length (pastedIn 0 t xs) ≡ length xs) × (cond b (0 + length t) 0 ≤ length xs)) (leb (0 + length t) (length xs))
-    (λ q e.
-    let fit : 0 + length t ≤ length xs = leb-true (0 + length t) (length xs) e in
-    (ap length (paste-fitting 0 t xs fit) ∙ length-paste 0 t xs fit, fit))
-    (λ q e. (ap length (paste-misfit 0 t xs (leb-false (0 + length t) (length xs) e)), omega arith))
-    refl
-
-after-within : (r : Reply) (s : State) (area line words out : List ℕ) → Within (afterLine r s area line words out) out
-unfolding afterLine
-after-within r s area line words out = go (lacksRooms words out) (place-within (textOf r) out)
-  where
-    go : (b : Bool) → (length (pastedIn 0 (textOf r) out) ≡ length out) × (placeAfter 0 (textOf r) out ≤ length out)
-        → Within (cond b (record { state = s; length = 0; area = area; words = words; out = out }) (record {
-          state = r .state;
-          length = placeAfter 0 (textOf r) out;
-          area = r .area;
-          words = paste 0 (givenWords (frameOf line) line) words;
-          out = pastedIn 0 (textOf r) out;
-        })) out
-    go true w = record { long = refl; short = omega arith }
-    go false w = record { long = w .0; short = w .1 }
-
-pub held-within : (s : State) (area : List ℕ) (line : Line) (room words out : List ℕ) → Within (afterHeld s area line room words out) out
-unfolding afterHeld
-held-within s area line room words out = after-within (answerOn false s area (heldText line room)) s area (heldText line room) words out
-
--- the length of what is written stays within the output
-pub sum-within : (s : State) (area : List ℕ) (line : Line) (room words out : List ℕ) (end : ℕ) → end ≤ length out → (t : State) (n : ℕ) (xs ws zs : List ℕ)
-    → IsAfter (afterHeld s area line room words (take (length out - end) (drop end out))) t n xs ws zs → end + n ≤ length out
-unfolding IsAfter
-sum-within s area line room words out end fit t n xs ws zs w =
-    let h = held-within s area line room words (take (length out - end) (drop end out)) in
-    omega (arith, h .short, w .1 .0, length-take (length out - end) (drop end out), length-drop end out)
 
 -- ---- the five parts of a player that the code gives back
 
@@ -83,47 +40,52 @@ player-is x y e = (
 
 -- ---- one line more
 
-module _ (s : State) (area : List ℕ) (line : Line) (room words bytes : List ℕ) (at : ℕ) (out : List ℕ) (end : ℕ) (step : Step) (filled : List ℕ)
+module _ (unsound : Bool) (s : State) (area : List ℕ) (line : Line) (room words bytes : List ℕ) (at : ℕ) (out : List ℕ) (end : ℕ) (step : Step) (filled : List ℕ)
     (stepped : step ≡ stepOf line (drop at bytes) at room) (made : filled ≡ roomOf line (drop at bytes) room) where
   abbrev before : Player
   before = playerWith s area line room words at out end
 
-  pub turn-open : step .ended ≡ false
-      → IsPlayer (turnOf bytes before) (record { state = s; line = step .line; at = step .at; length = end }) area filled words out
+  pub turn-open : step .ended ≡ false → playerWith s area (step .line) filled words (step .at) out end ≡ turnOf unsound bytes before
   unfolding turnOf openTurn
-  turn-open e =
-      let x : Player = playerWith s area (step .line) filled words (step .at) out end in
-      player-is (turnOf bytes before) x
-      (ap₂ (openTurn before) stepped made ∙ sym (cond-false _ _ (ap (λ (z : Step). z .ended) (sym stepped) ∙ e)))
+  turn-open e = ap₂ (openTurn before) stepped made ∙ sym (cond-false _ _ (ap (λ (z : Step). z .ended) (sym stepped) ∙ e))
 
-  pub turn-ended : step .ended ≡ true → end ≤ length out → (t : State) (n : ℕ) (after given sub : List ℕ)
-      → IsAfter (afterHeld s area (step .line) filled words (take (length out - end) (drop end out))) t n after given sub
-      → (none : Line) → none ≡ noLine
-      → IsPlayer (turnOf bytes before) (record { state = t; line = none; at = step .at; length = end + n }) after filled given
-      (take end out ++ (sub ++ drop (length out - end) (drop end out)))
-  unfolding turnOf answeredTurn IsAfter
-  turn-ended e fit t n after given sub w none z =
-      let rest : take (length out - end) (drop end out) ≡ drop end out = part-all end (length out - end) out (omega arith) in
-      let x = afterHeld s area (step .line) filled words (drop end out) in
-      let same : afterHeld s area (step .line) filled words (take (length out - end) (drop end out)) ≡ afterHeld s area (step .line) filled words (drop end out) =
-      ap (afterHeld s area (step .line) filled words) rest in
-      let none-left : length (drop end out) ≤ length out - end = omega (arith, length-drop end out) in
-      let past : drop (length out - end) (drop end out) ≡ [] = drop-of-length-le (drop end out) none-left in
-      let tail : take end out ++ (sub ++ drop (length out - end) (drop end out)) ≡ take end out ++ x .out =
-      ap (λ (l : List ℕ). take end out ++ l) (ap (λ (l : List ℕ). sub ++ l) past ∙ append-nil sub ∙ w .1 .1 .1 .1 ∙ ap (λ (y : After). y .out) same) in
-      let mine : Player = record { state = t; area = after; line = none; room = filled; words = given; at = step .at; out = take end out ++ (sub ++ drop (length out - end) (drop end out)); length = end + n } in
-      player-is (turnOf bytes before) mine
-      (rw (w .0 ∙ ap (λ (y : After). y .state) same, w .1 .0 ∙ ap (λ (y : After). y .length) same, w .1 .1 .0 ∙ ap (λ (y : After). y .area) same, w .1 .1 .1 .0 ∙ ap (λ (y : After). y .words) same, tail, z)
-      (ap₂ (answeredTurn before) stepped made ∙ sym (cond-true _ _ (ap (λ (q : Step). q .ended) (sym stepped) ∙ e))))
+  -- the line has ended: what the code makes of its frame and its words
+  module _ (ended : step .ended ≡ true) (roomy : mostWords ≤ length words) (space : mostText ≤ length out - end) (f : Frame) (n : ℕ) (given : List ℕ)
+      (framed : f ≡ frameOf (heldText (step .line) filled)) (counted : n ≡ length (givenIn f (heldText (step .line) filled) (length words)))
+      (gave : given ≡ paste 0 (givenIn f (heldText (step .line) filled) (length words)) words) (none : Line) (new : none ≡ noLine) where
+    rooms : lacksRooms words (drop end out) ≡ false
+    rooms = or-neither _ _ (le-ltb (length words) mostWords roomy) (le-ltb (length (drop end out)) mostText (omega (arith, length-drop end out)))
+
+    turn-by : (t : State) (k : ℕ) (after sub : List ℕ) → IsAfter (afterHeld unsound s area (step .line) filled words (drop end out)) t k after given sub
+        → playerWith t after none filled given (step .at) (take end out ++ sub) (end + k) ≡ turnOf unsound bytes before
+    unfolding turnOf answeredTurn IsAfter
+    turn-by t k after sub w =
+        rw (w .0, w .1 .0, w .1 .1 .0, w .1 .1 .1 .0, w .1 .1 .1 .1, new)
+        (ap₂ (answeredTurn unsound before) stepped made ∙ sym (cond-true _ _ (ap (λ (q : Step). q .ended) (sym stepped) ∙ ended)))
+
+    pub turn-ended : (x : Turned) → x ≡ turnedOn unsound s area f (take n given) → (after : List ℕ) → after ≡ areaOn unsound s area f (take n given)
+        → (end' : ℕ) (out' : List ℕ) → end' ≡ end + placeAfter 0 (answerText (x .answer) (partOf (x .start) (x .count) after)) (drop end out)
+        → out' ≡ take end out ++ pastedIn 0 (answerText (x .answer) (partOf (x .start) (x .count) after)) (drop end out)
+        → playerWith (x .state) after none filled given (step .at) out' end' ≡ turnOf unsound bytes before
+    unfolding afterHeld
+    turn-ended x ex after moved end' out' ee eo =
+        ap₂ (λ (o : List ℕ) (k : ℕ). playerWith (x .state) after none filled given (step .at) o k) eo ee
+        ∙ turn-by (x .state) (placeAfter 0 (answerText (x .answer) (partOf (x .start) (x .count) after)) (drop end out)) after
+        (pastedIn 0 (answerText (x .answer) (partOf (x .start) (x .count) after)) (drop end out))
+        (written-line unsound s area (heldText (step .line) filled) words (drop end out) rooms f framed n counted given gave x ex after moved
+        (partOf (x .start) (x .count) after) refl _ _ refl refl)
 
 -- ---- turn after turn
 
-module _ (bytes : List ℕ) (p : Player) where
-  turn-place : turnOf bytes p .at ≡ stepOf (p .line) (drop (p .at) bytes) (p .at) (p .room) .at
+pub not-done : (bytes : List ℕ) (p : Player) → isDone bytes p ≡ false → p .at < length bytes
+not-done bytes p e = leb-false (length bytes) (p .at) (or-left _ _ e)
+
+module _ (unsound : Bool) (bytes : List ℕ) (p : Player) where
+  turn-place : turnOf unsound bytes p .at ≡ stepOf (p .line) (drop (p .at) bytes) (p .at) (p .room) .at
   unfolding turnOf answeredTurn openTurn
   turn-place = go (stepOf (p .line) (drop (p .at) bytes) (p .at) (p .room) .ended)
     where
-      go : (b : Bool) → (cond b (answeredTurn p (stepOf (p .line) (drop (p .at) bytes) (p .at) (p .room)) (roomOf (p .line) (drop (p .at) bytes) (p .room)))
+      go : (b : Bool) → (cond b (answeredTurn unsound p (stepOf (p .line) (drop (p .at) bytes) (p .at) (p .room)) (roomOf (p .line) (drop (p .at) bytes) (p .room)))
           (openTurn p (stepOf (p .line) (drop (p .at) bytes) (p .at) (p .room)) (roomOf (p .line) (drop (p .at) bytes) (p .room)))) .at
           ≡ stepOf (p .line) (drop (p .at) bytes) (p .at) (p .room) .at
       go true = refl
@@ -138,81 +100,63 @@ module _ (bytes : List ℕ) (p : Player) where
       go true e = omega arith
       go false e = omega (arith, ltb-false (feedAt (drop (p .at) bytes)) (length (drop (p .at) bytes)) e, length-drop (p .at) bytes)
 
-  pub not-done : isDone bytes p ≡ false → p .at < length bytes
-  not-done e = leb-false (length bytes) (p .at) (or-left _ _ e)
-
   -- a turn goes on in the part
-  pub turn-further : isDone bytes p ≡ false → p .at < turnOf bytes p .at
-  turn-further e = omega (arith, turn-place, step-further (not-done e))
+  pub turn-further : isDone bytes p ≡ false → p .at < turnOf unsound bytes p .at
+  turn-further e = omega (arith, turn-place, step-further (not-done bytes p e))
 
 -- turns that are enough give the same as more
-more-turns : (n m : ℕ) (bytes : List ℕ) (p : Player) → length bytes - p .at < n → length bytes - p .at < m → playTurns n bytes p ≡ playTurns m bytes p
+more-turns : (unsound : Bool) (n m : ℕ) (bytes : List ℕ) (p : Player) → length bytes - p .at < n → length bytes - p .at < m
+    → playTurns unsound n bytes p ≡ playTurns unsound m bytes p
 unfolding playTurns
-more-turns zero m bytes p h k = absurd (omega arith)
-more-turns (suc n) zero bytes p h k = absurd (omega arith)
-more-turns (suc n) (suc m) bytes p h k =
-    by-test (λ b. isDone bytes p ≡ b → cond b p (playTurns n bytes (turnOf bytes p)) ≡ cond b p (playTurns m bytes (turnOf bytes p))) (isDone bytes p)
+more-turns unsound zero m bytes p h k = absurd (omega arith)
+more-turns unsound (suc n) zero bytes p h k = absurd (omega arith)
+more-turns unsound (suc n) (suc m) bytes p h k =
+    by-test (λ b. isDone bytes p ≡ b → cond b p (playTurns unsound n bytes (turnOf unsound bytes p)) ≡ cond b p (playTurns unsound m bytes (turnOf unsound bytes p))) (isDone bytes p)
     (λ q e. refl)
-    (λ q e. more-turns n m bytes (turnOf bytes p) (omega (arith, turn-further bytes p e, not-done bytes p e)) (omega (arith, turn-further bytes p e, not-done bytes p e)))
+    (λ q e. more-turns unsound n m bytes (turnOf unsound bytes p) (omega (arith, turn-further unsound bytes p e, not-done bytes p e))
+    (omega (arith, turn-further unsound bytes p e, not-done bytes p e)))
     refl
 
-module _ (bytes : List ℕ) (p : Player) where
-  pub part-stops : isDone bytes p ≡ true → playPart bytes p ≡ p
+module _ (unsound : Bool) (bytes : List ℕ) (p : Player) where
+  pub part-stops : isDone bytes p ≡ true → playPart unsound bytes p ≡ p
   unfolding playPart playTurns
   part-stops e = cond-true _ _ e
 
-  pub part-goes : isDone bytes p ≡ false → playPart bytes p ≡ playPart bytes (turnOf bytes p)
+  pub part-goes : isDone bytes p ≡ false → playPart unsound bytes p ≡ playPart unsound bytes (turnOf unsound bytes p)
   unfolding playPart playTurns
   part-goes e =
       cond-false _ _ e
-      ∙ more-turns (length bytes - p .at) (suc (length bytes - turnOf bytes p .at)) bytes (turnOf bytes p)
-      (omega (arith, turn-further bytes p e, not-done bytes p e)) (omega arith)
+      ∙ more-turns unsound (length bytes - p .at) (suc (length bytes - turnOf unsound bytes p .at)) bytes (turnOf unsound bytes p)
+      (omega (arith, turn-further unsound bytes p e, not-done bytes p e)) (omega arith)
 
 -- ---- the loop: what is left gives the part
 
-abbrev pub playerOf : Played → List ℕ → List ℕ → List ℕ → List ℕ → Player
-playerOf p area room words out = record { state = p .state; area = area; line = p .line; room = room; words = words; at = p .at; out = out; length = p .length }
+-- q comes after p: what is left then gives the same, it has its sixteen files and five channels, its rooms take what they should
+pub record Onward (unsound : Bool) (bytes : List ℕ) (x p q : Player) : Type 0 where
+  pub within : q .length ≤ length (q .out)
+  pub roomy : mostWords ≤ length (q .words)
+  pub same : playPart unsound bytes q ≡ x
+  pub further : p .at < q .at
+  pub counts : Counts (q .state)
 
-module _ (x : Player) (bytes : List ℕ) (p : Played) (area room words out : List ℕ) (left : playPart bytes (playerOf p area room words out) ≡ x) where
-  stopped : isDone bytes (playerOf p area room words out) ≡ true → IsPlayer x p area room words out
-  stopped e = player-is x (playerOf p area room words out) (sym (part-stops bytes (playerOf p area room words out) e) ∙ left)
+module _ (unsound : Bool) (bytes : List ℕ) (x p : Player) (left : playPart unsound bytes p ≡ x) where
+  stopped : isDone bytes p ≡ true → IsPlayer x (playedOf p) (p .area) (p .room) (p .words) (p .out)
+  stopped e = player-is x p (sym (part-stops unsound bytes p e) ∙ left)
 
-  pub used-up : length bytes ≤ p .at → IsPlayer x p area room words out
+  pub used-up : length bytes ≤ p .at → IsPlayer x (playedOf p) (p .area) (p .room) (p .words) (p .out)
   used-up h = stopped (or-first _ _ (le-leb (length bytes) (p .at) h))
 
-  pub full-up : length out - p .length < mostText → IsPlayer x p area room words out
-  full-up h = stopped (or-second (leb (length bytes) (p .at)) _ (lt-ltb (length out - p .length) mostText h))
+  pub full-up : length (p .out) - p .length < mostText → IsPlayer x (playedOf p) (p .area) (p .room) (p .words) (p .out)
+  full-up h = stopped (or-second (leb (length bytes) (p .at)) _ (lt-ltb (length (p .out) - p .length) mostText h))
 
-  module _ (more : p .at < length bytes) (space : mostText ≤ length out - p .length) where
-    going : isDone bytes (playerOf p area room words out) ≡ false
-    going = or-neither _ _ (lt-leb (length bytes) (p .at) more) (le-ltb (length out - p .length) mostText space)
-
-    pub goes-on : (q : Played) (area' room' words' out' : List ℕ) → IsPlayer (turnOf bytes (playerOf p area room words out)) q area' room' words' out'
-        → (playPart bytes (playerOf q area' room' words' out') ≡ x) × (p .at < q .at)
-    unfolding IsPlayer
-    goes-on q area' room' words' out' w =
-        let y = turnOf bytes (playerOf p area room words out) in
-        let same : playerOf q area' room' words' out' ≡ turnOf bytes (playerOf p area room words out) = rw (w .0, w .1 .0, w .1 .1 .0, w .1 .1 .1 .0, w .1 .1 .1 .1) in (
-          ap (playPart bytes) same ∙ sym (part-goes bytes (playerOf p area room words out) going) ∙ left,
-          subst (λ (n : ℕ). p .at < n) (ap (λ (z : Player). z .at) (sym same)) (turn-further bytes (playerOf p area room words out) going),
-        )
-
--- a turn leaves the written length within the output
-pub turn-length : (bytes : List ℕ) (p : Player) → p .length ≤ length (p .out) → turnOf bytes p .length ≤ length (turnOf bytes p .out)
-unfolding turnOf answeredTurn openTurn
-turn-length bytes p h = go (stepOf (p .line) (drop (p .at) bytes) (p .at) (p .room) .ended)
-    (held-within (p .state) (p .area) (stepOf (p .line) (drop (p .at) bytes) (p .at) (p .room) .line) (roomOf (p .line) (drop (p .at) bytes) (p .room)) (p .words) (drop (p .length) (p .out)))
-  where
-    go : (b : Bool) → Within (afterHeld (p .state) (p .area) (stepOf (p .line) (drop (p .at) bytes) (p .at) (p .room) .line) (roomOf (p .line) (drop (p .at) bytes) (p .room)) (p .words) (drop (p .length) (p .out))) (drop (p .length) (p .out))
-        → (cond b (answeredTurn p (stepOf (p .line) (drop (p .at) bytes) (p .at) (p .room)) (roomOf (p .line) (drop (p .at) bytes) (p .room)))
-        (openTurn p (stepOf (p .line) (drop (p .at) bytes) (p .at) (p .room)) (roomOf (p .line) (drop (p .at) bytes) (p .room)))) .length
-        ≤ length ((cond b (answeredTurn p (stepOf (p .line) (drop (p .at) bytes) (p .at) (p .room)) (roomOf (p .line) (drop (p .at) bytes) (p .room)))
-        (openTurn p (stepOf (p .line) (drop (p .at) bytes) (p .at) (p .room)) (roomOf (p .line) (drop (p .at) bytes) (p .room)))) .out)
-    go true w =
-        let x = afterHeld (p .state) (p .area) (stepOf (p .line) (drop (p .at) bytes) (p .at) (p .room) .line) (roomOf (p .line) (drop (p .at) bytes) (p .room)) (p .words) (drop (p .length) (p .out)) in
-        omega (arith, w .long, w .short, length-append (take (p .length) (p .out)) (x .out), length-take-le (p .length) (p .out) h, length-drop (p .length) (p .out))
-    go false w = h
-
-pub played-within : (x : Player) (q : Played) (area room words out : List ℕ) → IsPlayer x q area room words out → x .length ≤ length (x .out) → q .length ≤ length out
-unfolding IsPlayer
-played-within x q area room words out w h = omega (arith, ap (λ (z : Played). z .length) (w .0), ap length (w .1 .1 .1 .1))
+  pub onward : p .at < length bytes → mostText ≤ length (p .out) - p .length → (q : Player) → q ≡ turnOf unsound bytes p → Counts (q .state)
+      → q .length ≤ length (q .out) → mostWords ≤ length (q .words) → Onward unsound bytes x p q
+  onward more space q e k h h₂ =
+      let going : isDone bytes p ≡ false = or-neither _ _ (lt-leb (length bytes) (p .at) more) (le-ltb (length (p .out) - p .length) mostText space) in
+      record {
+        same = ap (playPart unsound bytes) e ∙ sym (part-goes unsound bytes p going) ∙ left;
+        further = subst (λ (n : ℕ). p .at < n) (ap (λ (z : Player). z .at) (sym e)) (turn-further unsound bytes p going);
+        counts = k;
+        within = h;
+        roomy = h₂;
+      }

@@ -1,16 +1,17 @@
 -- What a line's code does with its rooms comes to its definition. Assumes nothing.
 use mathlib.Core.Path.{_≡_, refl, sym, ap, ap₂, _∙_, subst}
-use mathlib.Core.Bool.{Bool, true, false}
-use mathlib.Core.List.{List}
-use Prim.Native.Nat.{ℕ, _≤_}
+use mathlib.Core.Bool.{Bool, true, false, cond}
+use mathlib.Core.List.{List, _++_, append-nil}
+use Prim.Native.Nat.{ℕ, _+_, _-_, _≤_}
 use native.Mathlib.Omega.{arith}
-use borrow.Author.Tests.{ltb-false}
-use lib.ListN.{length, take, drop, length-take}
+use borrow.Author.Tests.{ltb-false, leb-true, leb-false}
+use lib.Dec.{leb}
+use lib.ListN.{length, take, drop, length-take, length-drop, drop-of-length-le}
 use lib.Seq.{take-all}
 use Rattle.area.specs.Parts.{partOf, paste, pastedIn}
-use Rattle.area.proofs.Pastes.{paste-part, length-paste}
+use Rattle.area.proofs.Pastes.{part-all, paste-part, paste-fitting, paste-misfit, length-paste}
 use Rattle.area.proofs.Marks.{cond-true, cond-false}
-use Rattle.area.proofs.Walks.{or-left}
+use Rattle.area.proofs.Walks.{by-test, or-left}
 use Rattle.session_frame.specs.Digits.{bytesOf}
 use Rattle.session_frame.specs.Fields.{wordsOf}
 use Rattle.session_frame.specs.Writes.{placeAfter}
@@ -18,11 +19,11 @@ use Rattle.session_frame.specs.declared.Frame.{Frame}
 use Rattle.session_frame.specs.declared.Frame.the-variants.{Malformed, Fresh, Open, Close, Ask, Report, Get, Put, Seal, Skip, Freeze, Thaw}
 use Rattle.session_frame.specs.Frames.{frameOf, wordsFrom}
 use Rattle.session_frame.proofs.Laws.Given.{All, report-words, put-words}
+use Rattle.session_frame.specs.declared.Answer.{Answer}
 use Rattle.session_frame.specs.Answers.{answerText}
 use Rattle.state.specs.declared.State.{State}
-use Rattle.session_reply.specs.declared.Turned.{Turned}
 use Rattle.session_reply.specs.Replies.{Reply, givenWords, textOf}
-use Rattle.session_reply.specs.Turns.{turnedOn, areaOn, replyOn, answerOn}
+use Rattle.session_reply.specs.Turns.{Turned, turnedOn, areaOn, replyOn, answerOn}
 use Rattle.session.specs.Rooms.{mostWords, lacksRooms, givenIn, After, afterLine}
 
 -- ---- the words of a line
@@ -72,6 +73,59 @@ module _ (ys xs room : List ℕ) (n : ℕ) (fit : length ys ≤ length xs) (long
 
   pub room-front : take n room ≡ ys
   room-front = ap₂ (λ (k : ℕ) (zs : List ℕ). take k zs) long made ∙ paste-part 0 ys xs (omega arith)
+
+-- ---- the frame and the words of the line in the room
+
+pub framed-as : (line room words text : List ℕ) (f : Frame) (n : ℕ) (given : List ℕ) → text ≡ line → f ≡ frameOf text → n ≡ length (givenIn f text (length words))
+    → given ≡ paste 0 (givenIn f text (length words)) words
+    → ((f ≡ frameOf line) × (n ≤ length words)) × ((n ≡ length (givenIn f line (length words))) × (given ≡ paste 0 (givenIn f line (length words)) words))
+framed-as line room words text f n given et ef en eg = (
+  (ef ∙ ap frameOf et, omega (arith, en, given-within f text (length words))),
+  (
+    en ∙ ap (λ (l : List ℕ). length (givenIn f l (length words))) et,
+    eg ∙ ap (λ (l : List ℕ). paste 0 (givenIn f l (length words)) words) et,
+  ),
+)
+
+pub front-fits : (line words : List ℕ) (f : Frame) (n : ℕ) (given : List ℕ) → n ≡ length (givenIn f line (length words)) → given ≡ paste 0 (givenIn f line (length words)) words
+    → (n ≤ length given) × (length given ≡ length words)
+front-fits line words f n given en eg =
+    let fit = given-within f line (length words) in
+    let same = room-length (givenIn f line (length words)) words given n fit en eg in
+    (omega (arith, en, fit, same), same)
+
+-- ---- an answer after what is written
+
+pub pasted-length : (t xs : List ℕ) → length (pastedIn 0 t xs) ≡ length xs
+pasted-length t xs =
+    by-test (λ b. leb (0 + length t) (length xs) ≡ b → length (pastedIn 0 t xs) ≡ length xs) (leb (0 + length t) (length xs))
+    (λ q e. let fit : 0 + length t ≤ length xs = leb-true (0 + length t) (length xs) e in ap length (paste-fitting 0 t xs fit) ∙ length-paste 0 t xs fit)
+    (λ q e. ap length (paste-misfit 0 t xs (leb-false (0 + length t) (length xs) e)))
+    refl
+
+place-within : (t xs : List ℕ) → placeAfter 0 t xs ≤ length xs
+unfolding placeAfter
+place-within t xs =
+    by-test (λ b. leb (0 + length t) (length xs) ≡ b → cond b (0 + length t) 0 ≤ length xs) (leb (0 + length t) (length xs))
+    (λ q e. leb-true (0 + length t) (length xs) e) (λ q e. omega arith) refl
+
+module _ (out t shown : List ℕ) (a : Answer) (end n : ℕ) (fit : end ≤ length out) (is : t ≡ answerText a shown)
+    (long : n ≡ placeAfter 0 t (take (length out - end) (drop end out))) where
+  rest : take (length out - end) (drop end out) ≡ drop end out
+  rest = part-all end (length out - end) out (omega arith)
+
+  pub place-short : end + n ≤ length out
+  place-short = omega (arith, long, place-within t (take (length out - end) (drop end out)), length-take (length out - end) (drop end out), length-drop end out)
+
+  pub place-at : end + n ≡ end + placeAfter 0 (answerText a shown) (drop end out)
+  place-at = ap (λ (k : ℕ). end + k) (long ∙ ap₂ (placeAfter 0) is rest)
+
+  pub text-at : (sub : List ℕ) → sub ≡ pastedIn 0 t (take (length out - end) (drop end out))
+      → take end out ++ (sub ++ drop (length out - end) (drop end out)) ≡ take end out ++ pastedIn 0 (answerText a shown) (drop end out)
+  text-at sub e =
+      let none-left : length (drop end out) ≤ length out - end = omega (arith, length-drop end out) in
+      ap (λ (l : List ℕ). take end out ++ l)
+      (ap (λ (l : List ℕ). sub ++ l) (drop-of-length-le (drop end out) none-left) ∙ append-nil sub ∙ e ∙ ap₂ (pastedIn 0) is rest)
 
 -- ---- without the rooms nothing is done
 

@@ -35,17 +35,17 @@ playerWith s area line room words at out written =
 unfoldable pub heldText : Line → List ℕ → List ℕ
 heldText line room = cond (line .overlong) [] (take (line .filled) room)
 
--- the line in the room, answered at the front of out
-unfoldable pub afterHeld : State → List ℕ → Line → List ℕ → List ℕ → List ℕ → After
-afterHeld s area line room words out =
-    afterLine (answerOn false s area (heldText line room)) s area (heldText line room) words out
+-- the line in the room, answered at the front of out; `unsound` stands for the judgement of the state
+unfoldable pub afterHeld : Bool → State → List ℕ → Line → List ℕ → List ℕ → List ℕ → After
+afterHeld unsound s area line room words out =
+    afterLine (answerOn unsound s area (heldText line room)) s area (heldText line room) words out
 
 -- ---- one line more
 
 -- the next line of a part has ended: its answer goes after what is written
-unfoldable pub answeredTurn : Player → Step → List ℕ → Player
-answeredTurn p step room =
-    let x = afterHeld (p .state) (p .area) (step .line) room (p .words) (drop (p .length) (p .out)) in
+unfoldable pub answeredTurn : Bool → Player → Step → List ℕ → Player
+answeredTurn unsound p step room =
+    let x = afterHeld unsound (p .state) (p .area) (step .line) room (p .words) (drop (p .length) (p .out)) in
     record {
       state = x .state;
       area = x .area;
@@ -71,11 +71,11 @@ openTurn p step room =
       length = p .length;
     }
 
-unfoldable pub turnOf : List ℕ → Player → Player
-turnOf bytes p =
+unfoldable pub turnOf : Bool → List ℕ → Player → Player
+turnOf unsound bytes p =
     let step = stepOf (p .line) (drop (p .at) bytes) (p .at) (p .room) in
     let room = roomOf (p .line) (drop (p .at) bytes) (p .room) in
-    cond (step .ended) (answeredTurn p step room) (openTurn p step room)
+    cond (step .ended) (answeredTurn unsound p step room) (openTurn p step room)
 
 -- ---- a part
 
@@ -83,13 +83,13 @@ turnOf bytes p =
 abbrev pub isDone : List ℕ → Player → Bool
 isDone bytes p = leb (length bytes) (p .at) || ltb (length (p .out) - p .length) mostText
 
-unfoldable pub playTurns : ℕ → List ℕ → Player → Player
-playTurns zero bytes p = p
-playTurns (suc turns) bytes p = cond (isDone bytes p) p (playTurns turns bytes (turnOf bytes p))
+unfoldable pub playTurns : Bool → ℕ → List ℕ → Player → Player
+playTurns unsound zero bytes p = p
+playTurns unsound (suc turns) bytes p = cond (isDone bytes p) p (playTurns unsound turns bytes (turnOf unsound bytes p))
 
 -- one turn more than bytes are left is always enough
-unfoldable pub playPart : List ℕ → Player → Player
-playPart bytes p = playTurns (suc (length bytes - p .at)) bytes p
+unfoldable pub playPart : Bool → List ℕ → Player → Player
+playPart unsound bytes p = playTurns unsound (suc (length bytes - p .at)) bytes p
 
 abbrev pub playedOf : Player → Played
 playedOf p = record { state = p .state; line = p .line; at = p .at; length = p .length }
@@ -98,4 +98,4 @@ playedOf p = record { state = p .state; line = p .line; at = p .at; length = p .
 
 unfoldable pub endOf : State → List ℕ → Line → List ℕ → List ℕ → List ℕ → After
 endOf s area line room words out =
-    cond (hasBegun line) (afterHeld s area line room words out) (record { state = s; length = 0; area = area; words = words; out = out })
+    cond (hasBegun line) (afterHeld false s area line room words out) (record { state = s; length = 0; area = area; words = words; out = out })

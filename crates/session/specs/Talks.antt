@@ -78,7 +78,7 @@ playedCall p =
 unfoldable pub partCall : Desk → List ℕ → ℕ → List ℕ → Call
 partCall d bytes at out =
     cond (d .talk .ended) (refusedCall afterTheEnd d at out)
-    (cond (lacksRoom d out) (refusedCall tooShort d at out) (playedCall (playPart bytes (playerAt d at out))))
+    (cond (lacksRoom d out) (refusedCall tooShort d at out) (playedCall (playPart false bytes (playerAt d at out))))
 
 unfoldable pub endedCall : List ℕ → After → Call
 endedCall room x =

@@ -4,6 +4,7 @@ mod play;
 mod slow;
 
 pub use play::answer_line;
+use session_frame::Frame;
 use session_line::Line;
 pub use slow::new_talk;
 pub use slow::talk_end;
@@ -19,6 +20,12 @@ pub const ANSWER: usize = 10249;
 pub struct Answered {
     pub state: State,
     pub length: usize,
+}
+
+// The frame of a line, and how many words came with it.
+struct Framed {
+    frame: Frame,
+    count: usize,
 }
 
 // The player after some of a part: the state, the line that has begun, the place in the part, and how much of the output is written.

@@ -77,7 +77,7 @@ pub fn talk_part(
     }
     let s = t.state;
     let line = t.line;
-    let p = play_part(s, area, line, room, words, bytes, at, out);
+    let p = play_part(false, s, area, line, room, words, bytes, at, out);
     let state = p.state;
     let more = p.line;
     let talk = Talk {
@@ -95,9 +95,16 @@ pub fn talk_part(
 
 // Ends the session: what has begun is the last line, and its answer goes to the front of `out`; nothing is written if none has. The rooms are those
 // of `talk_part`. Refused, and nothing changes: 17 a second time, 1 with a shorter room.
-pub fn talk_end(t: Talk, area: &mut [u64], room: &[u8], words: &mut [u64], out: &mut [u8]) -> Heard
+pub fn talk_end(
+    t: Talk,
+    area: &mut [u64],
+    room: &mut [u8],
+    words: &mut [u64],
+    out: &mut [u8],
+) -> Heard
     ensures { λ r. ⌜ r ≡ heardOf (endCall (deskWith t (now (area .entry)) (now (room .entry)) (now (words .entry))) (now (out .entry))) ⌝ }
     ensures { λ _. ⌜ now (area .exit) ≡ endCall (deskWith t (now (area .entry)) (now (room .entry)) (now (words .entry))) (now (out .entry)) .desk .area ⌝ }
+    ensures { λ _. ⌜ now (room .exit) ≡ endCall (deskWith t (now (area .entry)) (now (room .entry)) (now (words .entry))) (now (out .entry)) .desk .room ⌝ }
     ensures { λ _. ⌜ now (words .exit) ≡ endCall (deskWith t (now (area .entry)) (now (room .entry)) (now (words .entry))) (now (out .entry)) .desk .words ⌝ }
     ensures { λ _. ⌜ now (out .exit) ≡ endCall (deskWith t (now (area .entry)) (now (room .entry)) (now (words .entry))) (now (out .entry)) .out ⌝ }
 {

@@ -59,8 +59,8 @@ use Rattle.call_record.specs.Seal.{sealOn}
 use Rattle.pack_record.specs.Seals.{sealChange, sealBy, sealByArea}
 use Rattle.file_input.specs.Histories.{shown}
 use Rattle.session_reply.specs.Replies.{answerOr, quietly, masksOf, gotAnswer, givenWords, replyTo, answerTo}
-use Rattle.session_reply.specs.Changes.{openChangeOn, closeChangeOn, askChangeOn, skipChangeOn, reportChangeOn, reportAreaOn, getChangeOn, putChangeOn, putAreaOn, sealChangeOn, sealAreaOn}
-use Rattle.session_reply.specs.Turns.{stateNumber, wholeOf, changeOf, areaOf, turnedFrom, areaFrom, replyOn, answerOn}
+use Rattle.session_reply.specs.Changes.{openTold, closeTold, askChangeOn, skipTold, reportChangeOn, reportAreaOn, getTold, putTold, putAreaOn, sealTold, sealAreaOn}
+use Rattle.session_reply.specs.Turns.{judged, wholeOf, recordOf, recordArea, bindingOf, requestOf, requestArea, recordTurn, bindingTurn, requestTurn, wholeTurn, turnedOn, requestAreaOn, areaOn, replyOn, answerOn}
 
 -- ---- what is stored where nothing changed
 
@@ -78,12 +78,11 @@ same-both : (s : State) (i j : ℕ) → withFile (withChannel s j (channelAt s j
 same-both s i j = ap (λ (t : State). withFile t i (fileAt s i)) (same-channel s j) ∙ same-file s i
 
 -- a call that changes its file if it is not refused
-stored-file : (s : State) (i j n : ℕ) (g : File) → ((n ≡ 0 → ⊥) → g ≡ fileAt s i)
-    → withFile (withChannel s j (channelAt s j)) i g ≡ cond (eqb n 0) (withFile s i g) s
-stored-file s i j n g alone =
-    by-test (λ t. eqb n 0 ≡ t → withFile (withChannel s j (channelAt s j)) i g ≡ cond (eqb n 0) (withFile s i g) s) (eqb n 0)
-    (λ q e. ap (λ (t : State). withFile t i g) (same-channel s j) ∙ sym (cond-true _ _ e))
-    (λ q e. ap (withFile (withChannel s j (channelAt s j)) i) (alone (eqb-false n 0 e)) ∙ same-both s i j ∙ sym (cond-false _ _ e))
+stored-file : (s : State) (i n : ℕ) (g : File) → ((n ≡ 0 → ⊥) → g ≡ fileAt s i) → withFile s i g ≡ cond (eqb n 0) (withFile s i g) s
+stored-file s i n g alone =
+    by-test (λ t. eqb n 0 ≡ t → withFile s i g ≡ cond (eqb n 0) (withFile s i g) s) (eqb n 0)
+    (λ q e. sym (cond-true _ _ e))
+    (λ q e. ap (withFile s i) (alone (eqb-false n 0 e)) ∙ same-file s i ∙ sym (cond-false _ _ e))
     refl
 
 -- a call that changes its file and its channel if it is not refused
@@ -141,9 +140,9 @@ report-alone wrong f c u outcome w frozen area words h =
 
 -- ---- the calls that judge the state alone
 
-state-chosen : (b : Bool) (x y : State) → cond b y x ≡ cond (eqb (stateNumber b) 0) x y
-state-chosen true x y = refl
-state-chosen false x y = refl
+judged-quietly : (b : Bool) (s t : State) (area : List ℕ) → quietly (judged b s t .refusal) (judged b s t .state) area ≡ quietly (cond b 1 0) (cond (eqb (cond b 1 0) 0) t s) area
+judged-quietly true s t area = refl
+judged-quietly false s t area = refl
 
 -- ---- every frame
 
@@ -152,45 +151,42 @@ module _ (s : State) (area words : List ℕ) where
   Right frame = replyOn (not (sound s)) s area words frame ≡ replyTo s area words frame
 
   malformed-right : Right Malformed
-  unfolding Right replyOn turnedFrom areaFrom wholeOf changeOf areaOf replyTo
-  malformed-right = ap (λ (u : State). quietly 1 u area) (same-both s fileCount (fileAt s fileCount .channel))
+  unfolding Right replyOn turnedOn areaOn requestTurn requestAreaOn wholeTurn bindingTurn recordTurn wholeOf recordOf recordArea bindingOf requestOf requestArea replyTo
+  malformed-right = ap (λ (u : State). quietly 1 u area) (same-file s fileCount)
 
   fresh-right : (q : FreshFrame) → Right (Fresh q)
-  unfolding Right replyOn turnedFrom areaFrom wholeOf changeOf areaOf replyTo freshBy
-  fresh-right q =
-      let n = freshRefusal (not (sound s)) (q .m) (q .w) (masksOf (q .masks)) (length area) in
-      let t = cond (eqb (freshRefusal (not (sound s)) (q .m) (q .w) (masksOf (q .masks)) (length area)) 0) (freshState (q .m) (q .w) (masksOf (q .masks))) s in
-      ap (λ (u : State). quietly (freshRefusal (not (sound s)) (q .m) (q .w) (masksOf (q .masks)) (length area)) u area) (same-both t fileCount (fileAt t fileCount .channel))
+  unfolding Right replyOn turnedOn areaOn requestTurn requestAreaOn wholeTurn bindingTurn recordTurn wholeOf recordOf recordArea bindingOf requestOf requestArea replyTo freshBy
+  fresh-right q = refl
 
   open-right : (q : OpenFrame) → Right (Open q)
-  unfolding Right replyOn turnedFrom areaFrom wholeOf changeOf areaOf replyTo openBy openChangeOn openOn
+  unfolding Right replyOn turnedOn areaOn requestTurn requestAreaOn wholeTurn bindingTurn recordTurn wholeOf recordOf recordArea bindingOf requestOf requestArea replyTo openBy openTold openOn
   open-right q =
       let x = openChange s (q .file) (q .channel) (q .unit) (q .flags) (q .size) (q .rlen) in
       ap (λ (y : FileChange). record {
-        state = withFile (withChannel s (q .channel) (channelAt s (q .channel))) (q .file) (y .file);
+        state = withFile s (q .file) (y .file);
         area = area;
         answer = answerOr (y .refusal) answer.Done;
         words = [];
       })
       (by-mask s (q .file) (q .channel) (q .unit) (q .flags) (isBound (s .files) (q .channel) (q .unit)) (fileAt s (q .file)) (channelAt s (q .channel)) (s .w)
       (wishOf (q .channel) (q .unit) (q .flags) (q .size) (q .rlen)))
-      ∙ ap (λ (u : State). quietly (x .refusal) u area) (stored-file s (q .file) (q .channel) (x .refusal) (x .file) (refused-file (x .refusal) (fileAt s (q .file)) _))
+      ∙ ap (λ (u : State). quietly (x .refusal) u area) (stored-file s (q .file) (x .refusal) (x .file) (refused-file (x .refusal) (fileAt s (q .file)) _))
 
   close-right : (file : ℕ) → Right (Close file)
-  unfolding Right replyOn turnedFrom areaFrom wholeOf changeOf areaOf replyTo closeBy closeChangeOn closeOn
+  unfolding Right replyOn turnedOn areaOn requestTurn requestAreaOn wholeTurn bindingTurn recordTurn wholeOf recordOf recordArea bindingOf requestOf requestArea replyTo closeBy closeTold closeOn
   close-right file =
       let x = closeChange s file in
-      ap (λ (u : State). quietly (x .refusal) u area) (stored-file s file (fileAt s file .channel) (x .refusal) (x .file) (refused-file (x .refusal) (fileAt s file) _))
+      ap (λ (u : State). quietly (x .refusal) u area) (stored-file s file (x .refusal) (x .file) (refused-file (x .refusal) (fileAt s file) _))
 
   ask-right : (q : AskFrame) → Right (Ask q)
-  unfolding Right replyOn turnedFrom areaFrom wholeOf changeOf areaOf replyTo askBy askChangeOn
+  unfolding Right replyOn turnedOn areaOn requestTurn requestAreaOn wholeTurn bindingTurn recordTurn wholeOf recordOf recordArea bindingOf requestOf requestArea replyTo askBy askChangeOn
   ask-right q =
       let x = askChange s (q .file) (q .op) (q .priority) in
       ap (λ (u : State). record { state = u; area = area; answer = answerOr (x .refusal) (answer.Asked (x .working)); words = [] })
       (stored-both s (q .file) (fileAt s (q .file) .channel) (x .refusal) (x .file) (x .channel) (ask-alone _ _ _ _ _ _))
 
   report-right : (q : ReportFrame) → Right (Report q)
-  unfolding Right replyOn turnedFrom areaFrom wholeOf changeOf areaOf replyTo reportBy reportByArea reportChangeOn reportAreaOn
+  unfolding Right replyOn turnedOn areaOn requestTurn requestAreaOn wholeTurn bindingTurn recordTurn wholeOf recordOf recordArea bindingOf requestOf requestArea replyTo reportBy reportByArea reportChangeOn reportAreaOn
   report-right q =
       let x = reportChange s area (q .channel) (q .unit) (q .outcome) words in
       ap (λ (u : State). record {
@@ -201,46 +197,40 @@ module _ (s : State) (area words : List ℕ) where
       }) (stored-both s (fileOf s (q .channel) (q .unit)) (q .channel) (x .refusal) (x .file) (x .channel) (report-alone _ _ _ _ _ _ _ _ _))
 
   get-right : (file : ℕ) → Right (Get file)
-  unfolding Right replyOn turnedFrom areaFrom wholeOf changeOf areaOf replyTo getBy getWords getChangeOn getOn
+  unfolding Right replyOn turnedOn areaOn requestTurn requestAreaOn wholeTurn bindingTurn recordTurn wholeOf recordOf recordArea bindingOf requestOf requestArea replyTo getBy getWords getTold getOn
   get-right file =
       let x = getChange s area file in
       ap (λ (u : State). record { state = u; area = area; answer = answerOr (x .refusal) (gotAnswer (x .got)); words = shown area (x .got) })
-      (stored-file s file (fileAt s file .channel) (x .refusal) (x .file) (refused-file (x .refusal) (fileAt s file) _))
+      (stored-file s file (x .refusal) (x .file) (refused-file (x .refusal) (fileAt s file) _))
 
   put-right : (q : PutFrame) → Right (Put q)
-  unfolding Right replyOn turnedFrom areaFrom wholeOf changeOf areaOf replyTo putBy putByArea putChangeOn putAreaOn putOn
+  unfolding Right replyOn turnedOn areaOn requestTurn requestAreaOn wholeTurn bindingTurn recordTurn wholeOf recordOf recordArea bindingOf requestOf requestArea replyTo putBy putByArea putTold putAreaOn putOn
   put-right q =
       let x = putChange s area (q .file) words in
       ap (λ (u : State). quietly (x .refusal) u (putByArea s area (q .file) words))
-      (stored-file s (q .file) (fileAt s (q .file) .channel) (x .refusal) (x .file) (refused-file (x .refusal) (fileAt s (q .file)) _))
+      (stored-file s (q .file) (x .refusal) (x .file) (refused-file (x .refusal) (fileAt s (q .file)) _))
 
   seal-right : (file : ℕ) → Right (Seal file)
-  unfolding Right replyOn turnedFrom areaFrom wholeOf changeOf areaOf replyTo sealBy sealByArea sealChangeOn sealAreaOn sealOn
+  unfolding Right replyOn turnedOn areaOn requestTurn requestAreaOn wholeTurn bindingTurn recordTurn wholeOf recordOf recordArea bindingOf requestOf requestArea replyTo sealBy sealByArea sealTold sealAreaOn sealOn
   seal-right file =
       let x = sealChange s area file in
       ap (λ (u : State). quietly (x .refusal) u (sealByArea s area file))
-      (stored-file s file (fileAt s file .channel) (x .refusal) (x .file) (refused-file (x .refusal) (fileAt s file) _))
+      (stored-file s file (x .refusal) (x .file) (refused-file (x .refusal) (fileAt s file) _))
 
   skip-right : (file : ℕ) → Right (Skip file)
-  unfolding Right replyOn turnedFrom areaFrom wholeOf changeOf areaOf replyTo skipBy skipChangeOn skipOn
+  unfolding Right replyOn turnedOn areaOn requestTurn requestAreaOn wholeTurn bindingTurn recordTurn wholeOf recordOf recordArea bindingOf requestOf requestArea replyTo skipBy skipTold skipOn
   skip-right file =
       let x = skipChange s file in
       ap (λ (u : State). quietly (x .refusal) u area)
-      (stored-file s file (fileAt s file .channel) (x .refusal) (x .file) (refused-file (x .refusal) (fileAt s file) _))
+      (stored-file s file (x .refusal) (x .file) (refused-file (x .refusal) (fileAt s file) _))
 
   freeze-right : Right Freeze
-  unfolding Right replyOn turnedFrom areaFrom wholeOf changeOf areaOf replyTo freezeBy lowest stateRows
-  freeze-right =
-      let t = cond (not (sound s)) s (frozenState s) in
-      ap (λ (u : State). quietly (stateNumber (not (sound s))) u area)
-      (same-both t fileCount (fileAt t fileCount .channel) ∙ state-chosen (not (sound s)) (frozenState s) s)
+  unfolding Right replyOn turnedOn areaOn wholeTurn wholeOf replyTo freezeBy lowest stateRows
+  freeze-right = judged-quietly (not (sound s)) s (frozenState s) area
 
   thaw-right : Right Thaw
-  unfolding Right replyOn turnedFrom areaFrom wholeOf changeOf areaOf replyTo thawBy lowest stateRows
-  thaw-right =
-      let t = cond (not (sound s)) s (thawedState s) in
-      ap (λ (u : State). quietly (stateNumber (not (sound s))) u area)
-      (same-both t fileCount (fileAt t fileCount .channel) ∙ state-chosen (not (sound s)) (thawedState s) s)
+  unfolding Right replyOn turnedOn areaOn wholeTurn wholeOf replyTo thawBy lowest stateRows
+  thaw-right = judged-quietly (not (sound s)) s (thawedState s) area
 
   pub turned-right : (frame : Frame) → replyOn (not (sound s)) s area words frame ≡ replyTo s area words frame
   unfolding Right

@@ -1,12 +1,12 @@
 -- What each call's code makes of its inner form comes to its definition. Assumes nothing.
-use mathlib.Core.Path.{_≡_, sym, ap, _∙_}
-use mathlib.Core.Bool.{Bool, _||_}
+use mathlib.Core.Path.{_≡_, sym, ap, ap₂, _∙_}
+use mathlib.Core.Bool.{Bool, cond, _||_}
 use mathlib.Core.List.{List}
 use Prim.Native.Nat.{ℕ, _*_}
-use borrow.Author.Tests.{eq-eqb, ne-eqb}
-use lib.Dec.{leb, ltb}
+use borrow.Author.Tests.{ne-eqb}
+use lib.Dec.{leb, ltb, eqb}
 use lib.ListN.{length}
-use Rattle.area.proofs.Marks.{cond-true, cond-false}
+use Rattle.area.proofs.Marks.{cond-false}
 use Rattle.session_frame.specs.declared.Answer.{Answer}
 use Rattle.session_frame.specs.declared.Answer.the-variants as answer
 use Rattle.channel.specs.declared.Channel.{Channel}
@@ -17,6 +17,7 @@ use Rattle.pool.specs.Free.{fileCount}
 use Rattle.pool.specs.Masks.{freeIn}
 use Rattle.pool.specs.Serving.{isBound}
 use Rattle.state.specs.declared.State.{State}
+use Rattle.state.specs.declared.Called.{Called}
 use Rattle.state.specs.Places.{channelCount}
 use Rattle.file.specs.declared.FileChange.{FileChange}
 use Rattle.pool.specs.declared.FreeBuffers.{FreeBuffers}
@@ -36,22 +37,25 @@ use Rattle.session_frame.specs.declared.OpenFrame.{OpenFrame}
 use Rattle.session_frame.specs.declared.AskFrame.{AskFrame}
 use Rattle.session_frame.specs.declared.ReportFrame.{ReportFrame}
 use Rattle.session_frame.specs.declared.Frame.the-variants.{Fresh}
+use Rattle.session_frame.specs.declared.Frame.{Frame}
+use Rattle.session_reply.specs.declared.Told.{Told}
 use Rattle.session_reply.specs.declared.Change.{Change}
 use Rattle.session_reply.specs.Replies.{answerOr, gotAnswer, masksOf}
-use Rattle.session_reply.specs.Changes.{quietChange, openWrong, openChangeOn, askChangeOn, reportChangeOn, reportAreaOn, getChangeOn, putChangeOn, putAreaOn, sealChangeOn, sealAreaOn}
-use Rattle.session_reply.specs.Turns.{wholeOf}
+use Rattle.session_reply.specs.Changes.{quietTold, openWrong, openTold, askChangeOn, reportChangeOn, reportAreaOn, getTold, putTold, putAreaOn, sealTold, sealAreaOn}
+use Rattle.session_reply.specs.Places.{channelNumber, fileOr, fileKept, channelOr, channelKept, channelFor}
+use Rattle.session_reply.specs.Turns.{wholeOf, recordOf, recordArea, bindingOf, requestOf, requestArea, toldAt, recordAt, bindingAt, changeAt, requestAt}
 
 pub opened-as : (unsound : Bool) (w mask : ℕ) (files : List File) (f : File) (c : Channel) (q : OpenFrame)
-    (bound : Bool) (free : FreeBuffers) (wish : Wish) (x : FileChange) (r : Change)
+    (bound : Bool) (free : FreeBuffers) (wish : Wish) (x : FileChange) (r : Told)
     → bound ≡ isBound files (q .channel) (q .unit) → free ≡ freeIn mask → wish ≡ wishOf (q .channel) (q .unit) (q .flags) (q .size) (q .rlen)
-    → x ≡ openOn (openWrong unsound (q .file) (q .channel) (q .unit) (q .flags)) bound f c free w wish → r ≡ quietChange (x .refusal) (x .file) c
-    → r ≡ openChangeOn unsound w mask files f c q
-unfolding openChangeOn
+    → x ≡ openOn (openWrong unsound (q .file) (q .channel) (q .unit) (q .flags)) bound f c free w wish → r ≡ quietTold (x .refusal) (x .file)
+    → r ≡ openTold unsound w mask files f c q
+unfolding openTold
 opened-as unsound w mask files f c q bound free wish x r eb ef eq ex er =
     let e : x ≡ openOn (openWrong unsound (q .file) (q .channel) (q .unit) (q .flags)) (isBound files (q .channel) (q .unit)) f c (freeIn mask) w
     (wishOf (q .channel) (q .unit) (q .flags) (q .size) (q .rlen)) =
     ex ∙ rw (eb, ef, eq) in
-    er ∙ ap (λ (y : FileChange). quietChange (y .refusal) (y .file) c) e
+    er ∙ ap (λ (y : FileChange). quietTold (y .refusal) (y .file)) e
 
 pub asked-as : (unsound frozen : Bool) (f : File) (c : Channel) (q : AskFrame) (x : AskChange) (a : Answer)
     → x ≡ askOn (unsound || leb fileCount (q .file)) f c (q .op) (q .priority) frozen → a ≡ answerOr (x .refusal) (answer.Asked (x .working))
@@ -85,24 +89,24 @@ unfolding reportAreaOn
 reported-area unsound m w f c q area words short after es e =
     e ∙ ap (λ (t : Bool). reportOnArea (unsound || (t || leb channelCount (q .channel))) f c (q .unit) (q .outcome) w area words) es
 
-module _ (unsound : Bool) (m w : ℕ) (f : File) (c : Channel) (file : ℕ) (area : List ℕ) where
+module _ (unsound : Bool) (m w : ℕ) (f : File) (file : ℕ) (area : List ℕ) where
   pub got-as : (short : Bool) (x : GetChange) (told a : Answer) (start count : ℕ) → short ≡ ltb (length area) (m * w)
       → x ≡ getOn (leb fileCount file || (short || unsound)) f w area → told ≡ gotAnswer (x .got) → a ≡ answerOr (x .refusal) told
       → start ≡ gotStart (x .got) → count ≡ gotWords (x .got)
-      → record { answer = a; start = start; count = count; file = x .file; channel = c } ≡ getChangeOn unsound m w f c file area
-  unfolding getChangeOn
+      → record { answer = a; start = start; count = count; file = x .file } ≡ getTold unsound m w f file area
+  unfolding getTold
   got-as short x told a start count es ex et ea e1 e2 =
       rw (ea, et, e1, e2)
-      (ap (λ (y : GetChange). record { answer = answerOr (y .refusal) (gotAnswer (y .got)); start = gotStart (y .got); count = gotWords (y .got); file = y .file; channel = c })
+      (ap (λ (y : GetChange). record { answer = answerOr (y .refusal) (gotAnswer (y .got)); start = gotStart (y .got); count = gotWords (y .got); file = y .file })
       (ex ∙ ap (λ (t : Bool). getOn (leb fileCount file || (t || unsound)) f w area) es))
 
-module _ (unsound : Bool) (m w : ℕ) (f : File) (c : Channel) (file : ℕ) (area words : List ℕ) where
-  pub filled-as : (short : Bool) (x : FileChange) (r : Change) → short ≡ ltb (length area) (m * w)
-      → x ≡ putOn (leb fileCount file || (short || unsound)) f w area words → r ≡ quietChange (x .refusal) (x .file) c
-      → r ≡ putChangeOn unsound m w f c file area words
-  unfolding putChangeOn
+module _ (unsound : Bool) (m w : ℕ) (f : File) (file : ℕ) (area words : List ℕ) where
+  pub filled-as : (short : Bool) (x : FileChange) (r : Told) → short ≡ ltb (length area) (m * w)
+      → x ≡ putOn (leb fileCount file || (short || unsound)) f w area words → r ≡ quietTold (x .refusal) (x .file)
+      → r ≡ putTold unsound m w f file area words
+  unfolding putTold
   filled-as short x r es ex er =
-      er ∙ ap (λ (y : FileChange). quietChange (y .refusal) (y .file) c)
+      er ∙ ap (λ (y : FileChange). quietTold (y .refusal) (y .file))
       (ex ∙ ap (λ (t : Bool). putOn (leb fileCount file || (t || unsound)) f w area words) es)
 
 pub filled-area : (unsound : Bool) (m w : ℕ) (f : File) (file : ℕ) (area words : List ℕ) (short : Bool) (after : List ℕ)
@@ -112,13 +116,13 @@ unfolding putAreaOn
 filled-area unsound m w f file area words short after es e =
     e ∙ ap (λ (t : Bool). putOnArea (leb fileCount file || (t || unsound)) f w area words) es
 
-module _ (unsound : Bool) (m w : ℕ) (f : File) (c : Channel) (file : ℕ) (area : List ℕ) where
-  pub sealed-as : (short : Bool) (x : FileChange) (r : Change) → short ≡ ltb (length area) (m * w)
-      → x ≡ sealOn (leb fileCount file || (short || unsound)) f w area → r ≡ quietChange (x .refusal) (x .file) c
-      → r ≡ sealChangeOn unsound m w f c file area
-  unfolding sealChangeOn
+module _ (unsound : Bool) (m w : ℕ) (f : File) (file : ℕ) (area : List ℕ) where
+  pub sealed-as : (short : Bool) (x : FileChange) (r : Told) → short ≡ ltb (length area) (m * w)
+      → x ≡ sealOn (leb fileCount file || (short || unsound)) f w area → r ≡ quietTold (x .refusal) (x .file)
+      → r ≡ sealTold unsound m w f file area
+  unfolding sealTold
   sealed-as short x r es ex er =
-      er ∙ ap (λ (y : FileChange). quietChange (y .refusal) (y .file) c)
+      er ∙ ap (λ (y : FileChange). quietTold (y .refusal) (y .file))
       (ex ∙ ap (λ (t : Bool). sealOn (leb fileCount file || (t || unsound)) f w area) es)
 
 pub sealed-area : (unsound : Bool) (m w : ℕ) (f : File) (file : ℕ) (area : List ℕ) (short : Bool) (after : List ℕ)
@@ -134,10 +138,60 @@ module _ (unsound : Bool) (s : State) (n : ℕ) (q : FreshFrame) (k : Masks) (no
   number-is : no ≡ freshRefusal unsound (q .m) (q .w) (masksOf (q .masks)) n
   number-is = en ∙ ap (λ (x : Masks). freshRefusal unsound (q .m) (q .w) x n) ek
 
-  pub fresh-refused : (no ≡ 0 → ⊥) → s ≡ wholeOf unsound s n (Fresh q)
+  pub fresh-refused : (no ≡ 0 → ⊥) → _≡_ {A = Called} (record { refusal = no; state = s }) (wholeOf unsound s n (Fresh q))
   unfolding wholeOf
-  fresh-refused h = sym (cond-false _ _ (ne-eqb _ 0 (λ z. h (number-is ∙ z))))
+  fresh-refused h =
+      ap (λ (t : State). record { refusal = no; state = t }) (sym (cond-false _ _ (ne-eqb no 0 h)))
+      ∙ ap (λ (k : ℕ). record { refusal = k; state = cond (eqb k 0) (freshState (q .m) (q .w) (masksOf (q .masks))) s }) number-is
 
-  pub fresh-taken : no ≡ 0 → (t : State) → t ≡ freshState (q .m) (q .w) k → t ≡ wholeOf unsound s n (Fresh q)
+  pub fresh-taken : no ≡ 0 → (t : State) → t ≡ freshState (q .m) (q .w) k → _≡_ {A = Called} (record { refusal = 0; state = t }) (wholeOf unsound s n (Fresh q))
   unfolding wholeOf
-  fresh-taken z t e = e ∙ ap (λ (x : Masks). freshState (q .m) (q .w) x) ek ∙ sym (cond-true _ _ (eq-eqb _ 0 (sym number-is ∙ z)))
+  fresh-taken z t e =
+      ap (λ (u : State). record { refusal = 0; state = u }) (e ∙ ap (λ (x : Masks). freshState (q .m) (q .w) x) ek)
+      ∙ ap (λ (k : ℕ). record { refusal = k; state = cond (eqb k 0) (freshState (q .m) (q .w) (masksOf (q .masks))) s }) (sym z ∙ number-is)
+
+-- ---- a call where its file and its channel stand
+
+module _ (frame : Frame) (i : ℕ) (old f : File) (ef : f ≡ fileOr i old) where
+  channel-for : (j : ℕ) → j ≡ channelNumber frame (f .channel) → j ≡ channelFor frame i old
+  unfolding channelFor
+  channel-for j e = e ∙ ap (λ (g : File). channelNumber frame (g .channel)) ef
+
+  told-kept : (x y : Told) (file : File) → x ≡ y → file ≡ fileKept i (x .file) old
+      → _≡_ {A = Told} (record { answer = x .answer; start = x .start; count = x .count; file = file }) (toldAt i old y)
+  unfolding toldAt
+  told-kept x y file e e₂ = ap (λ (g : File). record { answer = x .answer; start = x .start; count = x .count; file = g }) e₂ ∙ ap (toldAt i old) e
+
+  module _ (unsound : Bool) (m w : ℕ) (area words : List ℕ) where
+    pub record-as : (x : Told) (file : File) → x ≡ recordOf unsound m w frame f area words → file ≡ fileKept i (x .file) old
+        → _≡_ {A = Told} (record { answer = x .answer; start = x .start; count = x .count; file = file }) (recordAt unsound m w frame i old area words)
+    unfolding recordAt
+    record-as x file ex e = told-kept x _ file (ex ∙ ap (λ (g : File). recordOf unsound m w frame g area words) ef) e
+
+    pub record-area : (after : List ℕ) → after ≡ recordArea unsound m w frame f area words → after ≡ recordArea unsound m w frame (fileOr i old) area words
+    record-area after e = e ∙ ap (λ (g : File). recordArea unsound m w frame g area words) ef
+
+  module _ (j : ℕ) (was c : Channel) (ej : j ≡ channelNumber frame (f .channel)) (ec : c ≡ channelOr j was) where
+    channel-there : c ≡ channelOr (channelFor frame i old) was
+    channel-there = ec ∙ ap (λ (n : ℕ). channelOr n was) (channel-for j ej)
+
+    pub binding-as : (unsound : Bool) (w free : ℕ) (files : List File) (x : Told) (file : File) → x ≡ bindingOf unsound w free files frame f c → file ≡ fileKept i (x .file) old
+        → _≡_ {A = Told} (record { answer = x .answer; start = x .start; count = x .count; file = file }) (bindingAt unsound w free files frame i old was)
+    unfolding bindingAt
+    binding-as unsound w free files x file ex e =
+        told-kept x _ file (ex ∙ ap₂ (λ (g : File) (d : Channel). bindingOf unsound w free files frame g d) ef channel-there) e
+
+    module _ (unsound : Bool) (m w : ℕ) (frozen : Bool) (area words : List ℕ) where
+      pub request-as : (x : Change) (file : File) (channel : Channel) → x ≡ requestOf unsound m w frozen frame f c area words → file ≡ fileKept i (x .file) old
+          → channel ≡ channelKept j (x .channel) was
+          → _≡_ {A = Change} (record { answer = x .answer; start = x .start; count = x .count; file = file; channel = channel })
+          (requestAt unsound m w frozen frame i old was area words)
+      unfolding requestAt changeAt
+      request-as x file channel ex e e₂ =
+          ap₂ (λ (g : File) (d : Channel). record { answer = x .answer; start = x .start; count = x .count; file = g; channel = d }) e
+          (e₂ ∙ ap (λ (n : ℕ). channelKept n (x .channel) was) (channel-for j ej))
+          ∙ ap (changeAt i old (channelFor frame i old) was) (ex ∙ ap₂ (λ (g : File) (d : Channel). requestOf unsound m w frozen frame g d area words) ef channel-there)
+
+      pub request-area : (after : List ℕ) → after ≡ requestArea unsound m w frame f c area words
+          → after ≡ requestArea unsound m w frame (fileOr i old) (channelOr (channelFor frame i old) was) area words
+      request-area after e = e ∙ ap₂ (λ (g : File) (d : Channel). requestArea unsound m w frame g d area words) ef channel-there

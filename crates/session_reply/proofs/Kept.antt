@@ -1,12 +1,13 @@
 -- What every line keeps: a sound state, the counts of its files and channels, and the length of the area. Assumes nothing.
 use mathlib.Core.Path.{_≡_, refl, ap, _∙_, subst}
-use mathlib.Core.Bool.{Bool, true, false, not}
+use mathlib.Core.Bool.{Bool, true, false, not, cond}
 use mathlib.Core.List.{List}
 use Prim.Native.Nat.{ℕ}
 use borrow.Author.Tests.{eqb-true}
 use lib.Dec.{eqb}
 use lib.ListN.{length, length-set}
 use Rattle.area.proofs.Marks.{cond-false}
+use Rattle.channel.specs.declared.Channel.{Channel}
 use Rattle.file.specs.declared.File.{File}
 use Rattle.session_frame.specs.declared.Frame.{Frame}
 use Rattle.session_frame.specs.declared.Frame.the-variants.{Malformed, Fresh, Open, Close, Ask, Report, Get, Put, Seal, Skip, Freeze, Thaw}
@@ -27,7 +28,8 @@ use Rattle.pack_record.proofs.SkipTheorems.{skip-kept}
 use Rattle.pack_record.proofs.PutTheorems.{put-kept, put-area-frame}
 use Rattle.pack_record.proofs.SealTheorems.{seal-kept, seal-area-frame}
 use Rattle.session_reply.specs.Replies.{Reply, masksOf, givenWords, replyTo, answerTo}
-use Rattle.session_reply.specs.Turns.{wholeOf, turnedFrom, replyOn}
+use Rattle.session_reply.specs.Places.{groupOf}
+use Rattle.session_reply.specs.Turns.{recordTurn, bindingTurn, requestTurn, wholeTurn, Turned, turnedOn, replyOn}
 use Rattle.session_reply.proofs.Stores.{Counts, whole-counts}
 use Rattle.session_reply.proofs.Agrees.{turned-right}
 
@@ -62,13 +64,28 @@ answer-kept s area line k h = reply-kept s area (givenWords (frameOf line) line)
 
 -- ---- it keeps its sixteen files and five channels
 
-stored-counts : (s : State) (i j : ℕ) (f : File) (c : _) → Counts s → Counts (withFile (withChannel s j c) i f)
-unfolding withFile withChannel
-stored-counts s i j f c k = record { files = length-set (s .files) i f ∙ k .files; channels = length-set (s .channels) j c ∙ k .channels }
+file-counts : (s : State) (i : ℕ) (f : File) → Counts s → Counts (withFile s i f)
+unfolding withFile
+file-counts s i f k = record { files = length-set (s .files) i f ∙ k .files; channels = k .channels }
+
+channel-counts : (s : State) (j : ℕ) (c : Channel) → Counts s → Counts (withChannel s j c)
+unfolding withChannel
+channel-counts s j c k = record { files = k .files; channels = length-set (s .channels) j c ∙ k .channels }
+
+counts-turned : (b : Bool) (x y : Turned) → Counts (x .state) → Counts (y .state) → Counts (cond b x y .state)
+counts-turned true x y p q = p
+counts-turned false x y p q = q
+
+pub turned-counts : (unsound : Bool) (s : State) (area words : List ℕ) (frame : Frame) → Counts s → Counts (turnedOn unsound s area frame words .state)
+unfolding turnedOn requestTurn wholeTurn bindingTurn recordTurn
+turned-counts unsound s area words frame k =
+    counts-turned (eqb (groupOf frame) 1) _ _ (file-counts _ _ _ (channel-counts s _ _ k))
+    (counts-turned (eqb (groupOf frame) 3) _ _ (whole-counts unsound s (length area) frame k)
+    (counts-turned (eqb (groupOf frame) 2) _ _ (file-counts s _ _ k) (file-counts s _ _ k)))
 
 on-counts : (unsound : Bool) (s : State) (area words : List ℕ) (frame : Frame) → Counts s → Counts (replyOn unsound s area words frame .state)
-unfolding replyOn turnedFrom
-on-counts unsound s area words frame k = stored-counts (wholeOf unsound s (length area) frame) _ _ _ _ (whole-counts unsound s (length area) frame k)
+unfolding replyOn
+on-counts unsound s area words frame k = turned-counts unsound s area words frame k
 
 pub answer-counts : (s : State) (area line : List ℕ) → Counts s → Counts (answerTo s area line .state)
 unfolding answerTo

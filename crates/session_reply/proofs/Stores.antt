@@ -25,14 +25,17 @@ use Rattle.state.specs.Stores.{withFile, withChannel}
 use Rattle.state.proofs.Lookups.{any-default}
 use Rattle.pack_start.specs.Fresh.{freshRefusal, freshState}
 use Rattle.pack_start.specs.Freeze.{frozenState, thawedState}
+use Rattle.session_reply.specs.declared.Told.{Told}
 use Rattle.session_reply.specs.declared.Change.{Change}
 use Rattle.session_reply.specs.Replies.{masksOf}
-use Rattle.session_reply.specs.Turns.{isWhole, wholeOf, fileNumber, channelNumber, changeOf, areaOf, turnedFrom, areaFrom}
+use Rattle.session_reply.specs.Places.{groupOf, namedFile, fileNumber, channelNumber, placeOf, fileOr, fileKept, channelOr, channelKept, channelFor}
+use Rattle.session_reply.specs.Turns.{judged, wholeOf, recordOf, recordArea, bindingOf, requestOf, requestArea, toldAt, recordAt, bindingAt, changeAt, requestAt, Turned, turnedIs, recordTurn, bindingTurn, requestTurn, requestAreaOn}
 
 -- ---- a place of a list, whatever its number
 
-module _ {A : Type 0} (xs : List A) (n i k : ℕ) (d old : A) (long : length xs ≡ n) (place : k ≡ cond (ltb i n) i 0) (read : old ≡ getD xs k d) where
+module _ {A : Type 0} (xs : List A) (n i k : ℕ) (d old : A) (long : length xs ≡ n) (place : k ≡ placeOf i n) (read : old ≡ getD xs k d) where
   at-place : ltb i n ≡ true → old ≡ getD xs i d
+  unfolding placeOf
   at-place e = read ∙ ap (λ (j : ℕ). getD xs j d) (place ∙ cond-true _ _ e)
 
   pub place-read : (none f : A) → f ≡ cond (ltb i n) old none → f ≡ getD xs i none
@@ -45,6 +48,7 @@ module _ {A : Type 0} (xs : List A) (n i k : ℕ) (d old : A) (long : length xs 
       refl
 
   pub place-stored : (new kept : A) → kept ≡ cond (ltb i n) new old → set xs k kept ≡ set xs i new
+  unfolding placeOf
   place-stored new kept e =
       by-test (λ t. ltb i n ≡ t → set xs k kept ≡ set xs i new) (ltb i n)
       (λ q t. ap₂ (set xs) (place ∙ cond-true _ _ t) (e ∙ cond-true _ _ t))
@@ -62,11 +66,15 @@ counts-if : (t : Bool) (s u : State) → Counts s → Counts u → Counts (cond 
 counts-if true s u p q = p
 counts-if false s u p q = q
 
-pub whole-counts : (unsound : Bool) (s : State) (n : ℕ) (frame : Frame) → Counts s → Counts (wholeOf unsound s n frame)
+counts-judged : (t : Bool) (s u : State) → Counts s → Counts u → Counts (judged t s u .state)
+counts-judged true s u p q = p
+counts-judged false s u p q = q
+
+pub whole-counts : (unsound : Bool) (s : State) (n : ℕ) (frame : Frame) → Counts s → Counts (wholeOf unsound s n frame .state)
 unfolding wholeOf freshState frozenState thawedState
 whole-counts unsound s n (Fresh q) k = counts-if (eqb (freshRefusal unsound (q .m) (q .w) (masksOf (q .masks)) n) 0) _ s (record { files = refl; channels = refl }) k
-whole-counts unsound s n Freeze k = counts-if unsound s _ k (record { files = k .files; channels = k .channels })
-whole-counts unsound s n Thaw k = counts-if unsound s _ k (record { files = k .files; channels = length-map (s .channels) thawOf ∙ k .channels })
+whole-counts unsound s n Freeze k = counts-judged unsound s _ k (record { files = k .files; channels = k .channels })
+whole-counts unsound s n Thaw k = counts-judged unsound s _ k (record { files = k .files; channels = length-map (s .channels) thawOf ∙ k .channels })
 whole-counts unsound s n Malformed k = k
 whole-counts unsound s n (Open q) k = k
 whole-counts unsound s n (Close file) k = k
@@ -77,85 +85,130 @@ whole-counts unsound s n (Put q) k = k
 whole-counts unsound s n (Seal file) k = k
 whole-counts unsound s n (Skip file) k = k
 
--- a frame that does not concern the whole leaves it
-pub not-whole : (unsound : Bool) (s : State) (n : ℕ) (frame : Frame) → isWhole frame ≡ false → wholeOf unsound s n frame ≡ s
-unfolding wholeOf
-not-whole unsound s n (Fresh q) e = absurd (let z : _≡_ {A = ℕ} 0 1 = cc in omega arith)
-not-whole unsound s n Freeze e = absurd (let z : _≡_ {A = ℕ} 0 1 = cc in omega arith)
-not-whole unsound s n Thaw e = absurd (let z : _≡_ {A = ℕ} 0 1 = cc in omega arith)
-not-whole unsound s n Malformed e = refl
-not-whole unsound s n (Open q) e = refl
-not-whole unsound s n (Close file) e = refl
-not-whole unsound s n (Ask q) e = refl
-not-whole unsound s n (Report q) e = refl
-not-whole unsound s n (Get file) e = refl
-not-whole unsound s n (Put q) e = refl
-not-whole unsound s n (Seal file) e = refl
-not-whole unsound s n (Skip file) e = refl
+-- ---- the file i of a state t, read at its place k
 
--- ---- the frame
-
-module _ (unsound : Bool) (t : State) (area words after : List ℕ) (frame : Frame) (counts : Counts t) (i k j l : ℕ) (d₁ old f : File) (d₂ was c : Channel)
-    (number : i ≡ fileNumber frame (t .files)) (place : k ≡ cond (ltb i fileCount) i 0) (read : old ≡ getD (t .files) k d₁)
-    (or : f ≡ cond (ltb i fileCount) old closedFile)
-    (number₂ : j ≡ channelNumber frame (f .channel)) (place₂ : l ≡ cond (ltb j channelCount) j 0) (read₂ : was ≡ getD (t .channels) l d₂)
-    (or₂ : c ≡ cond (ltb j channelCount) was noChannel) where
-  file-is : f ≡ fileAt t (fileNumber frame (t .files))
-  file-is = place-read (t .files) fileCount i k d₁ old (counts .files) place read closedFile f or ∙ ap (fileAt t) number
-
-  number-is : j ≡ channelNumber frame (fileAt t (fileNumber frame (t .files)) .channel)
-  number-is = number₂ ∙ ap (λ (g : File). channelNumber frame (g .channel)) file-is
-
-  channel-is : c ≡ channelAt t (channelNumber frame (fileAt t (fileNumber frame (t .files)) .channel))
-  channel-is = place-read (t .channels) channelCount j l d₂ was (counts .channels) place₂ read₂ noChannel c or₂ ∙ ap (channelAt t) number-is
+module _ (t : State) (counts : Counts t) (i k : ℕ) (d₁ old : File) (place : k ≡ placeOf i fileCount) (read : old ≡ getD (t .files) k d₁) where
+  pub file-is : fileOr i old ≡ fileAt t i
+  unfolding fileOr
+  file-is = place-read (t .files) fileCount i k d₁ old (counts .files) place read closedFile (fileOr i old) refl
 
   -- the free buffers follow the file: past the last nothing changes
-  mask-is : (g new : File) → new ≡ cond (ltb i fileCount) g old
-      → freeAfter (t .free) old new ≡ freeAfter (t .free) (fileAt t i) (getD (set (t .files) i g) i closedFile)
-  mask-is g new e =
-      by-test (λ b. ltb i fileCount ≡ b → freeAfter (t .free) old new ≡ freeAfter (t .free) (fileAt t i) (getD (set (t .files) i g) i closedFile)) (ltb i fileCount)
+  mask-is : (g : File) → freeAfter (t .free) old (fileKept i g old) ≡ freeAfter (t .free) (fileAt t i) (getD (set (t .files) i g) i closedFile)
+  unfolding fileKept placeOf
+  mask-is g =
+      by-test (λ b. ltb i fileCount ≡ b → freeAfter (t .free) old (fileKept i g old) ≡ freeAfter (t .free) (fileAt t i) (getD (set (t .files) i g) i closedFile)) (ltb i fileCount)
       (λ q b. let h : i < length (t .files) = omega (arith, ltb-true i fileCount b, counts .files) in
       ap₂ (freeAfter (t .free)) (read ∙ ap (λ (x : ℕ). getD (t .files) x d₁) (place ∙ cond-true _ _ b) ∙ any-default (t .files) i d₁ closedFile h)
-      (e ∙ cond-true _ _ b ∙ sym (getD-set-same (t .files) i g closedFile h)))
+      (cond-true _ _ b ∙ sym (getD-set-same (t .files) i g closedFile h)))
       (λ q b. let h : length (t .files) ≤ i = omega (arith, ltb-false i fileCount b, counts .files) in
-      ap (freeAfter (t .free) old) (e ∙ cond-false _ _ b) ∙ sym (after-same (t .free) old old refl)
+      ap (freeAfter (t .free) old) (cond-false _ _ b) ∙ sym (after-same (t .free) old old refl)
       ∙ after-same (t .free) (fileAt t i) (fileAt t i) refl
       ∙ ap (λ (fs : List File). freeAfter (t .free) (fileAt t i) (getD fs i closedFile)) (sym (set-out (t .files) i g h)))
       refl
 
-  stored : (g new : File) (h kept : Channel) (mask : ℕ) → new ≡ cond (ltb i fileCount) g old → kept ≡ cond (ltb j channelCount) h was → mask ≡ freeAfter (t .free) old new
+  -- the state with another file stored there
+  pub file-stored : (cs : List Channel) (g new : File) (mask : ℕ) → new ≡ fileKept i g old → mask ≡ freeAfter (t .free) old new
+      → _≡_ {A = State} (record { m = t .m; w = t .w; frozen = t .frozen; channels = cs; files = set (t .files) k new; free = mask })
+      (withFile (record { m = t .m; w = t .w; frozen = t .frozen; channels = cs; files = t .files; free = t .free }) i g)
+  unfolding withFile fileKept
+  file-stored cs g new mask e e₃ =
+      ap₂ (λ (fs : List File) (n : ℕ). record { m = t .m; w = t .w; frozen = t .frozen; channels = cs; files = fs; free = n })
+      (place-stored (t .files) fileCount i k d₁ old (counts .files) place read g new e)
+      (e₃ ∙ ap (freeAfter (t .free) old) e ∙ mask-is g)
+
+  -- ---- the channel that a frame concerns, read at its place l
+
+  module _ (frame : Frame) (l : ℕ) (d₂ was : Channel) (place₂ : l ≡ placeOf (channelFor frame i old) channelCount) (read₂ : was ≡ getD (t .channels) l d₂) where
+    number-is : channelFor frame i old ≡ channelNumber frame (fileAt t i .channel)
+    unfolding channelFor
+    number-is = ap (λ (g : File). channelNumber frame (g .channel)) file-is
+
+    pub channel-is : channelOr (channelFor frame i old) was ≡ channelAt t (channelNumber frame (fileAt t i .channel))
+    unfolding channelOr
+    channel-is =
+        place-read (t .channels) channelCount (channelFor frame i old) l d₂ was (counts .channels) place₂ read₂ noChannel (channelOr (channelFor frame i old) was) refl
+        ∙ ap (channelAt t) number-is
+
+    pub channel-stored : (c kept : Channel) → kept ≡ channelKept (channelFor frame i old) c was
+        → set (t .channels) l kept ≡ set (t .channels) (channelNumber frame (fileAt t i .channel)) c
+    unfolding channelKept
+    channel-stored c kept e =
+        place-stored (t .channels) channelCount (channelFor frame i old) l d₂ was (counts .channels) place₂ read₂ c kept e
+        ∙ ap (λ (x : ℕ). set (t .channels) x c) number-is
+
+-- ---- the three groups of frames that concern a file
+
+module _ (unsound : Bool) (t : State) (area words : List ℕ) (frame : Frame) (counts : Counts t) (i k : ℕ) (d₁ old : File) (number : i ≡ namedFile frame)
+    (place : k ≡ placeOf i fileCount) (read : old ≡ getD (t .files) k d₁) where
+  file-named : fileOr i old ≡ fileAt t (namedFile frame)
+  file-named = file-is t counts i k d₁ old place read ∙ ap (fileAt t) number
+
+  told-as : (x y : Told) (mask : ℕ) → x ≡ toldAt i old y → mask ≡ freeAfter (t .free) old (x .file)
+      → turnedIs (x .answer) (x .start) (x .count) (record { m = t .m; w = t .w; frozen = t .frozen; channels = t .channels; files = set (t .files) k (x .file); free = mask })
+      ≡ turnedIs (y .answer) (y .start) (y .count) (withFile t (namedFile frame) (y .file))
+  unfolding toldAt
+  told-as x y mask e e₃ =
+      ap (turnedIs (x .answer) (x .start) (x .count))
+      (file-stored t counts i k d₁ old place read (t .channels) (y .file) (x .file) mask (ap (λ (z : Told). z .file) e) e₃ ∙ ap (λ (n : ℕ). withFile t n (y .file)) number)
+      ∙ ap (λ (z : Told). turnedIs (z .answer) (z .start) (z .count) (withFile t (namedFile frame) (y .file))) e
+
+  pub record-turned : (x : Told) (mask : ℕ) → x ≡ recordAt unsound (t .m) (t .w) frame i old area words → mask ≡ freeAfter (t .free) old (x .file)
+      → turnedIs (x .answer) (x .start) (x .count) (record { m = t .m; w = t .w; frozen = t .frozen; channels = t .channels; files = set (t .files) k (x .file); free = mask })
+      ≡ recordTurn unsound t area frame words
+  unfolding recordAt recordTurn
+  record-turned x mask e e₃ =
+      told-as x (recordOf unsound (t .m) (t .w) frame (fileOr i old) area words) mask e e₃
+      ∙ ap (λ (f : File). let y = recordOf unsound (t .m) (t .w) frame f area words in turnedIs (y .answer) (y .start) (y .count) (withFile t (namedFile frame) (y .file))) file-named
+
+  pub record-moved : (after : List ℕ) → after ≡ recordArea unsound (t .m) (t .w) frame (fileOr i old) area words
+      → after ≡ recordArea unsound (t .m) (t .w) frame (fileAt t (namedFile frame)) area words
+  record-moved after e = e ∙ ap (λ (f : File). recordArea unsound (t .m) (t .w) frame f area words) file-named
+
+  pub binding-turned : (l : ℕ) (d₂ was : Channel) → l ≡ placeOf (channelFor frame i old) channelCount → was ≡ getD (t .channels) l d₂
+      → (x : Told) (mask : ℕ) → x ≡ bindingAt unsound (t .w) (t .free) (t .files) frame i old was → mask ≡ freeAfter (t .free) old (x .file)
+      → turnedIs (x .answer) (x .start) (x .count) (record { m = t .m; w = t .w; frozen = t .frozen; channels = t .channels; files = set (t .files) k (x .file); free = mask })
+      ≡ bindingTurn unsound t frame
+  unfolding bindingAt bindingTurn
+  binding-turned l d₂ was place₂ read₂ x mask e e₃ =
+      told-as x (bindingOf unsound (t .w) (t .free) (t .files) frame (fileOr i old) (channelOr (channelFor frame i old) was)) mask e e₃
+      ∙ ap₂ (λ (f : File) (c : Channel). let y = bindingOf unsound (t .w) (t .free) (t .files) frame f c in turnedIs (y .answer) (y .start) (y .count) (withFile t (namedFile frame) (y .file)))
+      file-named (channel-is t counts i k d₁ old place read frame l d₂ was place₂ read₂ ∙ ap (λ (n : ℕ). channelAt t (channelNumber frame (fileAt t n .channel))) number)
+
+module _ (unsound : Bool) (t : State) (area words : List ℕ) (frame : Frame) (counts : Counts t) (i k : ℕ) (d₁ old : File) (number : i ≡ fileNumber frame (t .files))
+    (place : k ≡ placeOf i fileCount) (read : old ≡ getD (t .files) k d₁) (l : ℕ) (d₂ was : Channel)
+    (place₂ : l ≡ placeOf (channelFor frame i old) channelCount) (read₂ : was ≡ getD (t .channels) l d₂) where
+  abbrev own : ℕ
+  own = channelNumber frame (fileAt t (fileNumber frame (t .files)) .channel)
+
+  file-concerned : fileOr i old ≡ fileAt t (fileNumber frame (t .files))
+  file-concerned = file-is t counts i k d₁ old place read ∙ ap (fileAt t) number
+
+  channel-concerned : channelOr (channelFor frame i old) was ≡ channelAt t own
+  channel-concerned = channel-is t counts i k d₁ old place read frame l d₂ was place₂ read₂ ∙ ap (λ (n : ℕ). channelAt t (channelNumber frame (fileAt t n .channel))) number
+
+  both-stored : (y : Change) (new : File) (kept : Channel) (mask : ℕ) → new ≡ fileKept i (y .file) old → kept ≡ channelKept (channelFor frame i old) (y .channel) was
+      → mask ≡ freeAfter (t .free) old new
       → _≡_ {A = State} (record { m = t .m; w = t .w; frozen = t .frozen; channels = set (t .channels) l kept; files = set (t .files) k new; free = mask })
-      (withFile (withChannel t (channelNumber frame (fileAt t (fileNumber frame (t .files)) .channel)) h) (fileNumber frame (t .files)) g)
-  unfolding withFile withChannel
-  stored g new h kept mask e e₂ e₃ =
-      ap₂ (λ (cs : List Channel) (fs : List File). record { m = t .m; w = t .w; frozen = t .frozen; channels = cs; files = fs; free = mask })
-      (place-stored (t .channels) channelCount j l d₂ was (counts .channels) place₂ read₂ h kept e₂ ∙ ap (λ (x : ℕ). set (t .channels) x h) number-is)
-      (place-stored (t .files) fileCount i k d₁ old (counts .files) place read g new e ∙ ap (λ (x : ℕ). set (t .files) x g) number)
-      ∙ ap (λ (n : ℕ). record {
-        m = t .m;
-        w = t .w;
-        frozen = t .frozen;
-        channels = set (t .channels) (channelNumber frame (fileAt t (fileNumber frame (t .files)) .channel)) h;
-        files = set (t .files) (fileNumber frame (t .files)) g;
-        free = n;
-      }) (e₃ ∙ mask-is g new e ∙ ap (λ (x : ℕ). freeAfter (t .free) (fileAt t x) (getD (set (t .files) x g) x closedFile)) number)
+      (withFile (withChannel t own (y .channel)) (fileNumber frame (t .files)) (y .file))
+  unfolding withChannel
+  both-stored y new kept mask e e₂ e₃ =
+      file-stored t counts i k d₁ old place read (set (t .channels) l kept) (y .file) new mask e e₃
+      ∙ ap₂ (λ (cs : List Channel) (n : ℕ). withFile (record { m = t .m; w = t .w; frozen = t .frozen; channels = cs; files = t .files; free = t .free }) n (y .file))
+      (channel-stored t counts i k d₁ old place read frame l d₂ was place₂ read₂ (y .channel) kept e₂ ∙ ap (λ (n : ℕ). set (t .channels) (channelNumber frame (fileAt t n .channel)) (y .channel)) number) number
 
-  pub turned-as : (x : Change) (new : File) (kept : Channel) (mask : ℕ) → x ≡ changeOf unsound (t .m) (t .w) (t .frozen) (t .free) (t .files) frame f c area words
-      → new ≡ cond (ltb i fileCount) (x .file) old → kept ≡ cond (ltb j channelCount) (x .channel) was → mask ≡ freeAfter (t .free) old new
-      → record {
-        answer = x .answer;
-        start = x .start;
-        count = x .count;
-        state = record { m = t .m; w = t .w; frozen = t .frozen; channels = set (t .channels) l kept; files = set (t .files) k new; free = mask };
-      } ≡ turnedFrom unsound t area frame words
-  unfolding turnedFrom
-  turned-as x new kept mask ex e e₂ e₃ =
-      let i' = fileNumber frame (t .files) in
-      let j' = channelNumber frame (fileAt t (fileNumber frame (t .files)) .channel) in
-      ap (λ (u : State). record { answer = x .answer; start = x .start; count = x .count; state = u }) (stored (x .file) new (x .channel) kept mask e e₂ e₃)
-      ∙ ap (λ (y : Change). record { answer = y .answer; start = y .start; count = y .count; state = withFile (withChannel t j' (y .channel)) i' (y .file) })
-      (ex ∙ ap₂ (λ (g : File) (b : Channel). changeOf unsound (t .m) (t .w) (t .frozen) (t .free) (t .files) frame g b area words) file-is channel-is)
+  pub request-turned : (x : Change) (mask : ℕ) → x ≡ requestAt unsound (t .m) (t .w) (t .frozen) frame i old was area words → mask ≡ freeAfter (t .free) old (x .file)
+      → turnedIs (x .answer) (x .start) (x .count)
+      (record { m = t .m; w = t .w; frozen = t .frozen; channels = set (t .channels) l (x .channel); files = set (t .files) k (x .file); free = mask })
+      ≡ requestTurn unsound t area frame words
+  unfolding requestAt requestTurn changeAt
+  request-turned x mask e e₃ =
+      let y = requestOf unsound (t .m) (t .w) (t .frozen) frame (fileOr i old) (channelOr (channelFor frame i old) was) area words in
+      ap (turnedIs (x .answer) (x .start) (x .count)) (both-stored y (x .file) (x .channel) mask (ap (λ (z : Change). z .file) e) (ap (λ (z : Change). z .channel) e) e₃)
+      ∙ ap (λ (z : Change). turnedIs (z .answer) (z .start) (z .count) (withFile (withChannel t own (y .channel)) (fileNumber frame (t .files)) (y .file))) e
+      ∙ ap₂ (λ (f : File) (c : Channel). let y = requestOf unsound (t .m) (t .w) (t .frozen) frame f c area words in
+      turnedIs (y .answer) (y .start) (y .count) (withFile (withChannel t own (y .channel)) (fileNumber frame (t .files)) (y .file))) file-concerned channel-concerned
 
-  pub area-as : after ≡ areaOf unsound (t .m) (t .w) frame f c area words → after ≡ areaFrom unsound t area frame words
-  unfolding areaFrom
-  area-as e = e ∙ ap₂ (λ (g : File) (b : Channel). areaOf unsound (t .m) (t .w) frame g b area words) file-is channel-is
+  pub request-moved : (after : List ℕ) → after ≡ requestArea unsound (t .m) (t .w) frame (fileOr i old) (channelOr (channelFor frame i old) was) area words
+      → after ≡ requestAreaOn unsound t area frame words
+  unfolding requestAreaOn
+  request-moved after e = e ∙ ap₂ (λ (f : File) (c : Channel). requestArea unsound (t .m) (t .w) frame f c area words) file-concerned channel-concerned

@@ -26,10 +26,11 @@ use Rattle.call_record.specs.Skip.{skipOn}
 use Rattle.call_record.specs.Put.{putOn, putOnArea}
 use Rattle.call_record.specs.Seal.{sealOn, sealOnArea}
 use Rattle.session_reply.specs.declared.Change.{Change}
+use Rattle.session_reply.specs.declared.Told.{Told}
 use Rattle.session_reply.specs.Replies.{answerOr, gotAnswer}
 
-abbrev pub quietChange : ℕ → File → Channel → Change
-quietChange n f c = record { answer = answerOr n answer.Done; start = 0; count = 0; file = f; channel = c }
+abbrev pub quietTold : ℕ → File → Told
+quietTold n f = record { answer = answerOr n answer.Done; start = 0; count = 0; file = f }
 
 -- ---- row 1, with `unsound` for "a state passed back is unsound"
 
@@ -45,24 +46,24 @@ reportWrongBy unsound m w n channel = unsound || (ltb n (m * w) || leb channelCo
 
 -- ---- the calls that move no words
 
-unfoldable pub openChangeOn : Bool → ℕ → ℕ → List File → File → Channel → OpenFrame → Change
-openChangeOn unsound w free files f c q =
+unfoldable pub openTold : Bool → ℕ → ℕ → List File → File → Channel → OpenFrame → Told
+openTold unsound w free files f c q =
     let x =
     openOn (openWrong unsound (q .file) (q .channel) (q .unit) (q .flags)) (isBound files (q .channel) (q .unit)) f c (freeIn free) w
     (wishOf (q .channel) (q .unit) (q .flags) (q .size) (q .rlen))
     in
-    quietChange (x .refusal) (x .file) c
+    quietTold (x .refusal) (x .file)
 
-unfoldable pub closeChangeOn : Bool → File → Channel → ℕ → Change
-closeChangeOn unsound f c file = let x = closeOn (leb fileCount file || unsound) f c in quietChange (x .refusal) (x .file) c
+unfoldable pub closeTold : Bool → File → Channel → ℕ → Told
+closeTold unsound f c file = let x = closeOn (leb fileCount file || unsound) f c in quietTold (x .refusal) (x .file)
 
 unfoldable pub askChangeOn : Bool → Bool → File → Channel → AskFrame → Change
 askChangeOn unsound frozen f c q =
     let x = askOn (unsound || leb fileCount (q .file)) f c (q .op) (q .priority) frozen in
     record { answer = answerOr (x .refusal) (answer.Asked (x .working)); start = 0; count = 0; file = x .file; channel = x .channel }
 
-unfoldable pub skipChangeOn : Bool → File → Channel → ℕ → Change
-skipChangeOn unsound f c file = let x = skipOn (leb fileCount file || unsound) f in quietChange (x .refusal) (x .file) c
+unfoldable pub skipTold : Bool → File → ℕ → Told
+skipTold unsound f file = let x = skipOn (leb fileCount file || unsound) f in quietTold (x .refusal) (x .file)
 
 -- ---- the calls that move or show words
 
@@ -81,27 +82,26 @@ unfoldable pub reportAreaOn : Bool → ℕ → ℕ → File → Channel → Repo
 reportAreaOn unsound m w f c q area words =
     reportOnArea (reportWrongBy unsound m w (length area) (q .channel)) f c (q .unit) (q .outcome) w area words
 
-unfoldable pub getChangeOn : Bool → ℕ → ℕ → File → Channel → ℕ → List ℕ → Change
-getChangeOn unsound m w f c file area =
+unfoldable pub getTold : Bool → ℕ → ℕ → File → ℕ → List ℕ → Told
+getTold unsound m w f file area =
     let x = getOn (movesWrong unsound m w (length area) file) f w area in
     record {
       answer = answerOr (x .refusal) (gotAnswer (x .got));
       start = gotStart (x .got);
       count = gotWords (x .got);
       file = x .file;
-      channel = c;
     }
 
-unfoldable pub putChangeOn : Bool → ℕ → ℕ → File → Channel → ℕ → List ℕ → List ℕ → Change
-putChangeOn unsound m w f c file area words =
-    let x = putOn (movesWrong unsound m w (length area) file) f w area words in quietChange (x .refusal) (x .file) c
+unfoldable pub putTold : Bool → ℕ → ℕ → File → ℕ → List ℕ → List ℕ → Told
+putTold unsound m w f file area words =
+    let x = putOn (movesWrong unsound m w (length area) file) f w area words in quietTold (x .refusal) (x .file)
 
 unfoldable pub putAreaOn : Bool → ℕ → ℕ → File → ℕ → List ℕ → List ℕ → List ℕ
 putAreaOn unsound m w f file area words = putOnArea (movesWrong unsound m w (length area) file) f w area words
 
-unfoldable pub sealChangeOn : Bool → ℕ → ℕ → File → Channel → ℕ → List ℕ → Change
-sealChangeOn unsound m w f c file area =
-    let x = sealOn (movesWrong unsound m w (length area) file) f w area in quietChange (x .refusal) (x .file) c
+unfoldable pub sealTold : Bool → ℕ → ℕ → File → ℕ → List ℕ → Told
+sealTold unsound m w f file area =
+    let x = sealOn (movesWrong unsound m w (length area) file) f w area in quietTold (x .refusal) (x .file)
 
 unfoldable pub sealAreaOn : Bool → ℕ → ℕ → File → ℕ → List ℕ → List ℕ
 sealAreaOn unsound m w f file area = sealOnArea (movesWrong unsound m w (length area) file) f w area

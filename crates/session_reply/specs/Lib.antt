@@ -1,3 +1,4 @@
 pub mod Changes
+pub mod Places
 pub mod Replies
 pub mod Turns

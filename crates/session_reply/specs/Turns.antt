@@ -1,145 +1,205 @@
--- A frame against a state and an area as the code goes: the whole state, then the one file and the one channel. Law `turned-right` says that
--- this is `replyTo` where `unsound` is the judgement of the state. Assumes nothing.
+-- A frame against a state and an area as the code goes, by its group: on one file, on a file and a channel, or on the whole state. Law `turned-right`
+-- says that this is `replyTo` where `unsound` is the judgement of the state. Assumes nothing.
 use Prim.Native.Nat.{ℕ}
-use mathlib.Core.Bool.{Bool, true, false, cond}
+use mathlib.Core.Bool.{Bool, cond}
 use mathlib.Core.List.{List}
 use lib.Dec.{eqb}
 use lib.ListN.{length}
 use Rattle.area.specs.Parts.{partOf}
+use Rattle.session_frame.specs.declared.Answer.{Answer}
+use Rattle.session_frame.specs.declared.Answer.the-variants as answer
 use Rattle.session_frame.specs.declared.Frame.{Frame}
 use Rattle.session_frame.specs.declared.Frame.the-variants.{Malformed, Fresh, Open, Close, Ask, Report, Get, Put, Seal, Skip, Freeze, Thaw}
 use Rattle.session_frame.specs.Frames.{frameOf}
 use Rattle.channel.specs.declared.Channel.{Channel}
 use Rattle.file.specs.declared.File.{File}
-use Rattle.pool.specs.Free.{fileCount}
-use Rattle.pool.specs.Serving.{fileServing}
 use Rattle.state.specs.declared.State.{State}
+use Rattle.state.specs.declared.Called.{Called}
 use Rattle.state.specs.Places.{fileAt, channelAt}
 use Rattle.state.specs.Stores.{withFile, withChannel}
 use Rattle.pack_start.specs.Fresh.{freshRefusal, freshState}
 use Rattle.pack_start.specs.Freeze.{frozenState, thawedState}
+use Rattle.session_reply.specs.declared.Told.{Told}
 use Rattle.session_reply.specs.declared.Change.{Change}
-use Rattle.session_reply.specs.declared.Turned.{Turned}
-use Rattle.session_reply.specs.Replies.{Reply, masksOf, givenWords}
-use Rattle.session_reply.specs.Changes.{quietChange, openChangeOn, closeChangeOn, askChangeOn, skipChangeOn, reportChangeOn, reportAreaOn, getChangeOn, putChangeOn, putAreaOn, sealChangeOn, sealAreaOn}
+use Rattle.session_reply.specs.Replies.{Reply, answerOr, masksOf, givenWords}
+use Rattle.session_reply.specs.Changes.{quietTold, openTold, closeTold, askChangeOn, skipTold, reportChangeOn, reportAreaOn, getTold, putTold, putAreaOn, sealTold, sealAreaOn}
+use Rattle.session_reply.specs.Places.{groupOf, namedFile, fileNumber, channelNumber, fileOr, fileKept, channelOr, channelKept, channelFor}
 
 -- ---- the whole state: fresh start, freeze, thaw
 
-abbrev pub isWhole : Frame → Bool
-isWhole (Fresh q) = true
-isWhole Freeze = true
-isWhole Thaw = true
-isWhole Malformed = false
-isWhole (Open q) = false
-isWhole (Close file) = false
-isWhole (Ask q) = false
-isWhole (Report q) = false
-isWhole (Get file) = false
-isWhole (Put q) = false
-isWhole (Seal file) = false
-isWhole (Skip file) = false
+abbrev pub wrongly : State → Called
+wrongly s = record { refusal = 1; state = s }
 
-abbrev pub stateNumber : Bool → ℕ
-stateNumber unsound = cond unsound 1 0
+abbrev pub judged : Bool → State → State → Called
+judged unsound s t = cond unsound (wrongly s) (record { refusal = 0; state = t })
 
-unfoldable pub wholeOf : Bool → State → ℕ → Frame → State
-wholeOf unsound s n (Fresh q) = cond (eqb (freshRefusal unsound (q .m) (q .w) (masksOf (q .masks)) n) 0) (freshState (q .m) (q .w) (masksOf (q .masks))) s
-wholeOf unsound s n Freeze = cond unsound s (frozenState s)
-wholeOf unsound s n Thaw = cond unsound s (thawedState s)
-wholeOf unsound s n Malformed = s
-wholeOf unsound s n (Open q) = s
-wholeOf unsound s n (Close file) = s
-wholeOf unsound s n (Ask q) = s
-wholeOf unsound s n (Report q) = s
-wholeOf unsound s n (Get file) = s
-wholeOf unsound s n (Put q) = s
-wholeOf unsound s n (Seal file) = s
-wholeOf unsound s n (Skip file) = s
+unfoldable pub wholeOf : Bool → State → ℕ → Frame → Called
+wholeOf unsound s n (Fresh q) =
+    let no = freshRefusal unsound (q .m) (q .w) (masksOf (q .masks)) n in
+    record { refusal = no; state = cond (eqb no 0) (freshState (q .m) (q .w) (masksOf (q .masks))) s }
+wholeOf unsound s n Freeze = judged unsound s (frozenState s)
+wholeOf unsound s n Thaw = judged unsound s (thawedState s)
+wholeOf unsound s n Malformed = wrongly s
+wholeOf unsound s n (Open q) = wrongly s
+wholeOf unsound s n (Close file) = wrongly s
+wholeOf unsound s n (Ask q) = wrongly s
+wholeOf unsound s n (Report q) = wrongly s
+wholeOf unsound s n (Get file) = wrongly s
+wholeOf unsound s n (Put q) = wrongly s
+wholeOf unsound s n (Seal file) = wrongly s
+wholeOf unsound s n (Skip file) = wrongly s
 
--- ---- the file and the channel that a frame concerns
+-- ---- one file: get, put, seal, skip; "1 | .. or a frame is malformed"
 
--- past the last file for a frame that concerns none
-abbrev pub fileNumber : Frame → List File → ℕ
-fileNumber (Open q) files = q .file
-fileNumber (Close file) files = file
-fileNumber (Ask q) files = q .file
-fileNumber (Report q) files = fileServing files (q .channel) (q .unit)
-fileNumber (Get file) files = file
-fileNumber (Put q) files = q .file
-fileNumber (Seal file) files = file
-fileNumber (Skip file) files = file
-fileNumber Malformed files = fileCount
-fileNumber (Fresh q) files = fileCount
-fileNumber Freeze files = fileCount
-fileNumber Thaw files = fileCount
+unfoldable pub recordOf : Bool → ℕ → ℕ → Frame → File → List ℕ → List ℕ → Told
+recordOf unsound m w (Get file) f area words = getTold unsound m w f file area
+recordOf unsound m w (Put q) f area words = putTold unsound m w f (q .file) area words
+recordOf unsound m w (Seal file) f area words = sealTold unsound m w f file area
+recordOf unsound m w (Skip file) f area words = skipTold unsound f file
+recordOf unsound m w Malformed f area words = quietTold 1 f
+recordOf unsound m w (Fresh q) f area words = quietTold 1 f
+recordOf unsound m w (Open q) f area words = quietTold 1 f
+recordOf unsound m w (Close file) f area words = quietTold 1 f
+recordOf unsound m w (Ask q) f area words = quietTold 1 f
+recordOf unsound m w (Report q) f area words = quietTold 1 f
+recordOf unsound m w Freeze f area words = quietTold 1 f
+recordOf unsound m w Thaw f area words = quietTold 1 f
 
--- the frame's own channel, or that of its file
-abbrev pub channelNumber : Frame → ℕ → ℕ
-channelNumber (Open q) own = q .channel
-channelNumber (Report q) own = q .channel
-channelNumber Malformed own = own
-channelNumber (Fresh q) own = own
-channelNumber (Close file) own = own
-channelNumber (Ask q) own = own
-channelNumber (Get file) own = own
-channelNumber (Put q) own = own
-channelNumber (Seal file) own = own
-channelNumber (Skip file) own = own
-channelNumber Freeze own = own
-channelNumber Thaw own = own
+unfoldable pub recordArea : Bool → ℕ → ℕ → Frame → File → List ℕ → List ℕ → List ℕ
+recordArea unsound m w (Put q) f area words = putAreaOn unsound m w f (q .file) area words
+recordArea unsound m w (Seal file) f area words = sealAreaOn unsound m w f file area
+recordArea unsound m w Malformed f area words = area
+recordArea unsound m w (Fresh q) f area words = area
+recordArea unsound m w (Open q) f area words = area
+recordArea unsound m w (Close file) f area words = area
+recordArea unsound m w (Ask q) f area words = area
+recordArea unsound m w (Report q) f area words = area
+recordArea unsound m w (Get file) f area words = area
+recordArea unsound m w (Skip file) f area words = area
+recordArea unsound m w Freeze f area words = area
+recordArea unsound m w Thaw f area words = area
 
--- ---- the call
+-- ---- open and close
 
-unfoldable pub changeOf : Bool → ℕ → ℕ → Bool → ℕ → List File → Frame → File → Channel → List ℕ → List ℕ → Change
-changeOf unsound m w frozen free files Malformed f c area words = quietChange 1 f c
-changeOf unsound m w frozen free files (Fresh q) f c area words = quietChange (freshRefusal unsound (q .m) (q .w) (masksOf (q .masks)) (length area)) f c
-changeOf unsound m w frozen free files (Open q) f c area words =
-    openChangeOn unsound w free files f c q
-changeOf unsound m w frozen free files (Close file) f c area words = closeChangeOn unsound f c file
-changeOf unsound m w frozen free files (Ask q) f c area words = askChangeOn unsound frozen f c q
-changeOf unsound m w frozen free files (Report q) f c area words =
-    reportChangeOn unsound m w frozen f c q area words
-changeOf unsound m w frozen free files (Get file) f c area words = getChangeOn unsound m w f c file area
-changeOf unsound m w frozen free files (Put q) f c area words = putChangeOn unsound m w f c (q .file) area words
-changeOf unsound m w frozen free files (Seal file) f c area words = sealChangeOn unsound m w f c file area
-changeOf unsound m w frozen free files (Skip file) f c area words = skipChangeOn unsound f c file
-changeOf unsound m w frozen free files Freeze f c area words = quietChange (stateNumber unsound) f c
-changeOf unsound m w frozen free files Thaw f c area words = quietChange (stateNumber unsound) f c
+unfoldable pub bindingOf : Bool → ℕ → ℕ → List File → Frame → File → Channel → Told
+bindingOf unsound w free files (Open q) f c = openTold unsound w free files f c q
+bindingOf unsound w free files (Close file) f c = closeTold unsound f c file
+bindingOf unsound w free files Malformed f c = quietTold 1 f
+bindingOf unsound w free files (Fresh q) f c = quietTold 1 f
+bindingOf unsound w free files (Ask q) f c = quietTold 1 f
+bindingOf unsound w free files (Report q) f c = quietTold 1 f
+bindingOf unsound w free files (Get file) f c = quietTold 1 f
+bindingOf unsound w free files (Put q) f c = quietTold 1 f
+bindingOf unsound w free files (Seal file) f c = quietTold 1 f
+bindingOf unsound w free files (Skip file) f c = quietTold 1 f
+bindingOf unsound w free files Freeze f c = quietTold 1 f
+bindingOf unsound w free files Thaw f c = quietTold 1 f
 
-unfoldable pub areaOf : Bool → ℕ → ℕ → Frame → File → Channel → List ℕ → List ℕ → List ℕ
-areaOf unsound m w (Report q) f c area words = reportAreaOn unsound m w f c q area words
-areaOf unsound m w (Put q) f c area words = putAreaOn unsound m w f (q .file) area words
-areaOf unsound m w (Seal file) f c area words = sealAreaOn unsound m w f file area
-areaOf unsound m w Malformed f c area words = area
-areaOf unsound m w (Fresh q) f c area words = area
-areaOf unsound m w (Open q) f c area words = area
-areaOf unsound m w (Close file) f c area words = area
-areaOf unsound m w (Ask q) f c area words = area
-areaOf unsound m w (Get file) f c area words = area
-areaOf unsound m w (Skip file) f c area words = area
-areaOf unsound m w Freeze f c area words = area
-areaOf unsound m w Thaw f c area words = area
+-- ---- ask and report
 
--- ---- the frame, from the state t that the whole-state calls leave
+abbrev pub unaskedChange : File → Channel → Change
+unaskedChange f c = record { answer = answer.Refused 1; start = 0; count = 0; file = f; channel = c }
 
-unfoldable pub turnedFrom : Bool → State → List ℕ → Frame → List ℕ → Turned
-turnedFrom unsound t area frame words =
-    let i = fileNumber frame (t .files) in
-    let f = fileAt t i in
+unfoldable pub requestOf : Bool → ℕ → ℕ → Bool → Frame → File → Channel → List ℕ → List ℕ → Change
+requestOf unsound m w frozen (Ask q) f c area words = askChangeOn unsound frozen f c q
+requestOf unsound m w frozen (Report q) f c area words = reportChangeOn unsound m w frozen f c q area words
+requestOf unsound m w frozen Malformed f c area words = unaskedChange f c
+requestOf unsound m w frozen (Fresh q) f c area words = unaskedChange f c
+requestOf unsound m w frozen (Open q) f c area words = unaskedChange f c
+requestOf unsound m w frozen (Close file) f c area words = unaskedChange f c
+requestOf unsound m w frozen (Get file) f c area words = unaskedChange f c
+requestOf unsound m w frozen (Put q) f c area words = unaskedChange f c
+requestOf unsound m w frozen (Seal file) f c area words = unaskedChange f c
+requestOf unsound m w frozen (Skip file) f c area words = unaskedChange f c
+requestOf unsound m w frozen Freeze f c area words = unaskedChange f c
+requestOf unsound m w frozen Thaw f c area words = unaskedChange f c
+
+unfoldable pub requestArea : Bool → ℕ → ℕ → Frame → File → Channel → List ℕ → List ℕ → List ℕ
+requestArea unsound m w (Report q) f c area words = reportAreaOn unsound m w f c q area words
+requestArea unsound m w Malformed f c area words = area
+requestArea unsound m w (Fresh q) f c area words = area
+requestArea unsound m w (Open q) f c area words = area
+requestArea unsound m w (Close file) f c area words = area
+requestArea unsound m w (Ask q) f c area words = area
+requestArea unsound m w (Get file) f c area words = area
+requestArea unsound m w (Put q) f c area words = area
+requestArea unsound m w (Seal file) f c area words = area
+requestArea unsound m w (Skip file) f c area words = area
+requestArea unsound m w Freeze f c area words = area
+requestArea unsound m w Thaw f c area words = area
+
+-- ---- the same where `old` and `was` stand at the places of the file i and of the channel: what stands there after it
+
+unfoldable pub toldAt : ℕ → File → Told → Told
+toldAt i old x = record { answer = x .answer; start = x .start; count = x .count; file = fileKept i (x .file) old }
+
+unfoldable pub recordAt : Bool → ℕ → ℕ → Frame → ℕ → File → List ℕ → List ℕ → Told
+recordAt unsound m w frame i old area words = toldAt i old (recordOf unsound m w frame (fileOr i old) area words)
+
+unfoldable pub bindingAt : Bool → ℕ → ℕ → List File → Frame → ℕ → File → Channel → Told
+bindingAt unsound w free files frame i old was =
+    toldAt i old (bindingOf unsound w free files frame (fileOr i old) (channelOr (channelFor frame i old) was))
+
+unfoldable pub changeAt : ℕ → File → ℕ → Channel → Change → Change
+changeAt i old j was x =
+    record { answer = x .answer; start = x .start; count = x .count; file = fileKept i (x .file) old; channel = channelKept j (x .channel) was }
+
+unfoldable pub requestAt : Bool → ℕ → ℕ → Bool → Frame → ℕ → File → Channel → List ℕ → List ℕ → Change
+requestAt unsound m w frozen frame i old was area words =
+    let j = channelFor frame i old in
+    changeAt i old j was (requestOf unsound m w frozen frame (fileOr i old) (channelOr j was) area words)
+
+-- ---- the state after a frame, its answer, and the part of the area that it shows
+
+pub record Turned : Type 0 where
+  pub answer : Answer
+  pub start : ℕ
+  pub count : ℕ
+  pub state : State
+
+abbrev pub turnedIs : Answer → ℕ → ℕ → State → Turned
+turnedIs a start count s = record { answer = a; start = start; count = count; state = s }
+
+unfoldable pub recordTurn : Bool → State → List ℕ → Frame → List ℕ → Turned
+recordTurn unsound s area frame words =
+    let i = namedFile frame in
+    let x = recordOf unsound (s .m) (s .w) frame (fileAt s i) area words in
+    turnedIs (x .answer) (x .start) (x .count) (withFile s i (x .file))
+
+unfoldable pub bindingTurn : Bool → State → Frame → Turned
+bindingTurn unsound s frame =
+    let i = namedFile frame in
+    let f = fileAt s i in
+    let x = bindingOf unsound (s .w) (s .free) (s .files) frame f (channelAt s (channelNumber frame (f .channel))) in
+    turnedIs (x .answer) (x .start) (x .count) (withFile s i (x .file))
+
+unfoldable pub requestTurn : Bool → State → List ℕ → Frame → List ℕ → Turned
+requestTurn unsound s area frame words =
+    let i = fileNumber frame (s .files) in
+    let f = fileAt s i in
     let j = channelNumber frame (f .channel) in
-    let x = changeOf unsound (t .m) (t .w) (t .frozen) (t .free) (t .files) frame f (channelAt t j) area words in
-    record { answer = x .answer; start = x .start; count = x .count; state = withFile (withChannel t j (x .channel)) i (x .file) }
+    let x = requestOf unsound (s .m) (s .w) (s .frozen) frame f (channelAt s j) area words in
+    turnedIs (x .answer) (x .start) (x .count) (withFile (withChannel s j (x .channel)) i (x .file))
 
-unfoldable pub areaFrom : Bool → State → List ℕ → Frame → List ℕ → List ℕ
-areaFrom unsound t area frame words =
-    let f = fileAt t (fileNumber frame (t .files)) in
-    areaOf unsound (t .m) (t .w) frame f (channelAt t (channelNumber frame (f .channel))) area words
+unfoldable pub wholeTurn : Bool → State → ℕ → Frame → Turned
+wholeTurn unsound s n frame = let x = wholeOf unsound s n frame in turnedIs (answerOr (x .refusal) answer.Done) 0 0 (x .state)
 
-abbrev pub turnedOn : Bool → State → List ℕ → Frame → List ℕ → Turned
-turnedOn unsound s area frame words = turnedFrom unsound (wholeOf unsound s (length area) frame) area frame words
+unfoldable pub turnedOn : Bool → State → List ℕ → Frame → List ℕ → Turned
+turnedOn unsound s area frame words =
+    cond (eqb (groupOf frame) 1) (requestTurn unsound s area frame words)
+    (cond (eqb (groupOf frame) 3) (wholeTurn unsound s (length area) frame)
+    (cond (eqb (groupOf frame) 2) (bindingTurn unsound s frame) (recordTurn unsound s area frame words)))
 
-abbrev pub areaOn : Bool → State → List ℕ → Frame → List ℕ → List ℕ
-areaOn unsound s area frame words = areaFrom unsound (wholeOf unsound s (length area) frame) area frame words
+unfoldable pub requestAreaOn : Bool → State → List ℕ → Frame → List ℕ → List ℕ
+requestAreaOn unsound s area frame words =
+    let f = fileAt s (fileNumber frame (s .files)) in
+    requestArea unsound (s .m) (s .w) frame f (channelAt s (channelNumber frame (f .channel))) area words
+
+unfoldable pub areaOn : Bool → State → List ℕ → Frame → List ℕ → List ℕ
+areaOn unsound s area frame words =
+    cond (eqb (groupOf frame) 1) (requestAreaOn unsound s area frame words)
+    (cond (eqb (groupOf frame) 3) area
+    (cond (eqb (groupOf frame) 2) area (recordArea unsound (s .m) (s .w) frame (fileAt s (namedFile frame)) area words)))
 
 -- the words that are shown are those of the area afterwards
 unfoldable pub replyOn : Bool → State → List ℕ → List ℕ → Frame → Reply

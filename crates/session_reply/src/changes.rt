@@ -1,6 +1,7 @@
-// The calls, each on the file and the channel that it concerns: those that move no words, and those that move words in the lent area or show them.
+// The calls, each on what it concerns, one file and for some a channel: those that move no words, and those that move words in the lent area or show them.
 // `unsound` is what is known of the state, m and w are its pool, `free` its free mask.
 use crate::Change;
+use crate::Told;
 use call_open::FLAGS;
 use call_open::close_on;
 use call_open::open_on;
@@ -27,12 +28,12 @@ use session_frame::ReportFrame;
 use state::CHANNELS;
 ghost use mathlib.Core.Path.{_≡_};
 ghost use Rattle.session_reply.specs.Replies.{answerOr, gotAnswer};
-ghost use Rattle.session_reply.specs.Changes.{quietChange, openChangeOn, closeChangeOn, askChangeOn, skipChangeOn, reportChangeOn, reportAreaOn, getChangeOn, putChangeOn, putAreaOn, sealChangeOn, sealAreaOn};
+ghost use Rattle.session_reply.specs.Changes.{quietTold, openTold, closeTold, askChangeOn, skipTold, reportChangeOn, reportAreaOn, getTold, putTold, putAreaOn, sealTold, sealAreaOn};
 ghost use Prim.Native.Nat.{_*_};
 ghost use lib.Dec.{ltb};
 
 // The answer of an accepted call, or its refusal.
-fn answer_or(refusal: u8, a: Answer) -> Answer
+pub fn answer_or(refusal: u8, a: Answer) -> Answer
     ensures { λ r. ⌜ r ≡ answerOr refusal a ⌝ }
 {
     if refusal == 0 {
@@ -42,16 +43,15 @@ fn answer_or(refusal: u8, a: Answer) -> Answer
 }
 
 // A call whose answer adds nothing.
-pub fn quiet(refusal: u8, f: File, c: Channel) -> Change
-    ensures { λ r. ⌜ r ≡ quietChange refusal f c ⌝ }
+pub fn quiet(refusal: u8, f: File) -> Told
+    ensures { λ r. ⌜ r ≡ quietTold refusal f ⌝ }
 {
     let answer = answer_or(refusal, Answer::Done);
-    Change {
+    Told {
         answer,
         start: 0,
         count: 0,
         file: f,
-        channel: c,
     }
 }
 
@@ -63,8 +63,8 @@ pub fn opened(
     f: File,
     c: Channel,
     q: OpenFrame,
-) -> Change
-    ensures { λ r. ⌜ r ≡ openChangeOn unsound w free files f c q ⌝ }
+) -> Told
+    ensures { λ r. ⌜ r ≡ openTold unsound w free files f c q ⌝ }
 {
     let i = q.file as usize;
     let j = q.channel as usize;
@@ -75,16 +75,16 @@ pub fn opened(
     let wish = wish_of(q.channel, q.unit, q.flags, q.size, q.rlen);
     let x = open_on(c1, bound, f, c, found, w, wish);
     let g = x.file;
-    quiet(x.refusal, g, c)
+    quiet(x.refusal, g)
 }
 
-pub fn closed(unsound: bool, f: File, c: Channel, file: u8) -> Change
-    ensures { λ r. ⌜ r ≡ closeChangeOn unsound f c file ⌝ }
+pub fn closed(unsound: bool, f: File, c: Channel, file: u8) -> Told
+    ensures { λ r. ⌜ r ≡ closeTold unsound f c file ⌝ }
 {
     let i = file as usize;
     let x = close_on((FILES <= i) | unsound, f, c);
     let g = x.file;
-    quiet(x.refusal, g, c)
+    quiet(x.refusal, g)
 }
 
 pub fn asked(unsound: bool, frozen: bool, f: File, c: Channel, q: AskFrame) -> Change
@@ -105,12 +105,12 @@ pub fn asked(unsound: bool, frozen: bool, f: File, c: Channel, q: AskFrame) -> C
     }
 }
 
-pub fn skipped(unsound: bool, f: File, c: Channel, file: u8) -> Change
-    ensures { λ r. ⌜ r ≡ skipChangeOn unsound f c file ⌝ }
+pub fn skipped(unsound: bool, f: File, file: u8) -> Told
+    ensures { λ r. ⌜ r ≡ skipTold unsound f file ⌝ }
 {
     let x = skip_on((FILES <= file as usize) | unsound, f);
     let g = x.file;
-    quiet(x.refusal, g, c)
+    quiet(x.refusal, g)
 }
 
 // Whether an area of n words is too short for the pool.
@@ -174,8 +174,8 @@ fn got_answer(g: Got) -> Answer
     }
 }
 
-pub fn got(unsound: bool, m: u8, w: u16, f: File, c: Channel, file: u8, area: &[u64]) -> Change
-    ensures { λ r. ⌜ r ≡ getChangeOn unsound m w f c file (now (area .entry)) ⌝ }
+pub fn got(unsound: bool, m: u8, w: u16, f: File, file: u8, area: &[u64]) -> Told
+    ensures { λ r. ⌜ r ≡ getTold unsound m w f file (now (area .entry)) ⌝ }
 {
     let short = is_short(m, w, area.len());
     let x = get_on((FILES <= file as usize) | (short | unsound), f, w, area);
@@ -185,12 +185,11 @@ pub fn got(unsound: bool, m: u8, w: u16, f: File, c: Channel, file: u8, area: &[
     let answer = answer_or(x.refusal, told);
     let start = got_start(found);
     let count = file_input::got_count(found);
-    Change {
+    Told {
         answer,
         start,
         count,
         file: g,
-        channel: c,
     }
 }
 
@@ -199,12 +198,11 @@ pub fn filled(
     m: u8,
     w: u16,
     f: File,
-    c: Channel,
     file: u8,
     area: &mut [u64],
     words: &[u64],
-) -> Change
-    ensures { λ r. ⌜ r ≡ putChangeOn unsound m w f c file (now (area .entry)) (now (words .entry)) ⌝ }
+) -> Told
+    ensures { λ r. ⌜ r ≡ putTold unsound m w f file (now (area .entry)) (now (words .entry)) ⌝ }
     ensures { λ _. ⌜ now (area .exit) ≡ putAreaOn unsound m w f file (now (area .entry)) (now (words .entry)) ⌝ }
 {
     let short = is_short(m, w, area.len());
@@ -216,23 +214,15 @@ pub fn filled(
         words,
     );
     let g = x.file;
-    quiet(x.refusal, g, c)
+    quiet(x.refusal, g)
 }
 
-pub fn sealed(
-    unsound: bool,
-    m: u8,
-    w: u16,
-    f: File,
-    c: Channel,
-    file: u8,
-    area: &mut [u64],
-) -> Change
-    ensures { λ r. ⌜ r ≡ sealChangeOn unsound m w f c file (now (area .entry)) ⌝ }
+pub fn sealed(unsound: bool, m: u8, w: u16, f: File, file: u8, area: &mut [u64]) -> Told
+    ensures { λ r. ⌜ r ≡ sealTold unsound m w f file (now (area .entry)) ⌝ }
     ensures { λ _. ⌜ now (area .exit) ≡ sealAreaOn unsound m w f file (now (area .entry)) ⌝ }
 {
     let short = is_short(m, w, area.len());
     let x = seal_on((FILES <= file as usize) | (short | unsound), f, w, area);
     let g = x.file;
-    quiet(x.refusal, g, c)
+    quiet(x.refusal, g)
 }

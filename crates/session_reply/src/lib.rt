@@ -1,27 +1,44 @@
-// What a frame comes to, against a state and a lent area: played by the pack's inner forms on the one file and the one channel that it concerns.
+// What a frame comes to, played by the pack's inner forms on what it concerns: one file; a file and a channel; or the whole state. Whoever holds the
+// state reads the one file and the one channel at their places, and stores there what comes back.
 // It knows nothing of lines: the frame is decoded before, and its answer written after.
 mod changes;
 mod turns;
 
+pub use changes::answer_or;
 use channel::Channel;
 use file::File;
 use session_frame::Answer;
-use state::State;
-pub use turns::reply_on;
+pub use turns::binding_on;
+pub use turns::channel_place;
+pub use turns::file_number;
+pub use turns::group_of;
+pub use turns::index_in;
+pub use turns::named_file;
+pub use turns::record_on;
+pub use turns::request_on;
+pub use turns::whole;
 
-// What a call on one file and one channel comes to: its answer, the part of the area that it shows, the file and the channel after it.
+// The groups of frames: ask and report concern a file and a channel, open and close a file and what a channel says of its unit, fresh start, freeze
+// and thaw the whole state; all others concern one file or none.
+pub const REQUEST: u8 = 1;
+
+pub const BINDING: u8 = 2;
+
+pub const WHOLE: u8 = 3;
+
+// What a call on one file comes to: its answer, the part of the area that it shows, and the file after it.
+pub struct Told {
+    pub answer: Answer,
+    pub start: usize,
+    pub count: usize,
+    pub file: File,
+}
+
+// The same of a call on a file and a channel.
 pub struct Change {
     pub answer: Answer,
     pub start: usize,
     pub count: usize,
     pub file: File,
     pub channel: Channel,
-}
-
-// What a frame comes to: its answer, the part of the area that it shows, and the state after it.
-pub struct Turned {
-    pub answer: Answer,
-    pub start: usize,
-    pub count: usize,
-    pub state: State,
 }

@@ -1,7 +1,9 @@
-// A frame against a state: the file and the channel that it concerns, read and stored where they lie, the frames that concern the whole state, and
-// the call that is made.
+// A frame: what it concerns, at which places of the state that lies, and the call that it makes.
+use crate::BINDING;
 use crate::Change;
-use crate::Turned;
+use crate::REQUEST;
+use crate::Told;
+use crate::WHOLE;
 use crate::changes::asked;
 use crate::changes::closed;
 use crate::changes::filled;
@@ -21,27 +23,27 @@ use pack_start::frozen_state;
 use pack_start::thawed_state;
 use pool::FILES;
 use pool::file_of;
-use pool::free_after;
+use session_frame::Answer;
 use session_frame::Frame;
 use session_frame::FreshFrame;
 use state::CHANNELS;
+use state::Called;
 use state::State;
 ghost use mathlib.Core.Path.{_≡_};
-ghost use mathlib.Core.Bool.{cond, false};
 ghost use Prim.Native.Nat.{_<_};
-ghost use lib.Dec.{ltb};
-ghost use Rattle.file.specs.Sizes.{closedFile};
-ghost use Rattle.pool.specs.Free.{fileCount};
-ghost use Rattle.state.specs.Places.{channelCount, noChannel};
-ghost use Rattle.session_reply.specs.Turns.{fileNumber, channelNumber, isWhole, stateNumber, wholeOf, changeOf, areaOf, turnedOn, areaOn};
-ghost use Rattle.pack_start.specs.Fresh.{freshRefusal};
+ghost use Rattle.state.specs.Places.{channelCount};
+ghost use Rattle.session_reply.specs.Places.{placeOf, fileOr, fileKept, channelOr, channelKept, groupOf, namedFile, fileNumber, channelNumber, channelFor};
+ghost use Rattle.session_reply.specs.Turns.{judged, wrongly, wholeOf, recordOf, recordArea, bindingOf, unaskedChange, requestOf, requestArea, recordAt, bindingAt, requestAt};
 ghost use Rattle.pack_start.specs.Freeze.{frozenState, thawedState};
 ghost use Rattle.session_reply.specs.Replies.{masksOf};
 
+// The number past the last file, as a frame would have it.
+const NONE: u8 = 16;
+
 // The place of a number below n, 0 for any other: an index that is in range whatever i is.
-fn index_in(i: usize, n: usize) -> usize
+pub fn index_in(i: usize, n: usize) -> usize
     requires { ⌜ 0 < n ⌝ }
-    ensures { λ r. ⌜ (r ≡ cond (ltb i n) i 0) × (r < n) ⌝ }
+    ensures { λ r. ⌜ (r ≡ placeOf i n) × (r < n) ⌝ }
 {
     if i < n {
         return i;
@@ -51,7 +53,7 @@ fn index_in(i: usize, n: usize) -> usize
 
 // The file i, which is f if there is one of that number.
 fn file_or(i: usize, f: File) -> File
-    ensures { λ r. ⌜ r ≡ cond (ltb i fileCount) f closedFile ⌝ }
+    ensures { λ r. ⌜ r ≡ fileOr i f ⌝ }
 {
     if i < FILES {
         return f;
@@ -61,7 +63,7 @@ fn file_or(i: usize, f: File) -> File
 
 // The channel j, which is c if there is one of that number.
 fn channel_or(j: usize, c: Channel) -> Channel
-    ensures { λ r. ⌜ r ≡ cond (ltb j channelCount) c noChannel ⌝ }
+    ensures { λ r. ⌜ r ≡ channelOr j c ⌝ }
 {
     if j < CHANNELS {
         return c;
@@ -71,7 +73,7 @@ fn channel_or(j: usize, c: Channel) -> Channel
 
 // What stands at the place of file i: the new one, or what stood there if there is no file i.
 fn file_kept(i: usize, new: File, old: File) -> File
-    ensures { λ r. ⌜ r ≡ cond (ltb i fileCount) new old ⌝ }
+    ensures { λ r. ⌜ r ≡ fileKept i new old ⌝ }
 {
     if i < FILES {
         return new;
@@ -81,7 +83,7 @@ fn file_kept(i: usize, new: File, old: File) -> File
 
 // The same of a channel.
 fn channel_kept(j: usize, new: Channel, old: Channel) -> Channel
-    ensures { λ r. ⌜ r ≡ cond (ltb j channelCount) new old ⌝ }
+    ensures { λ r. ⌜ r ≡ channelKept j new old ⌝ }
 {
     if j < CHANNELS {
         return new;
@@ -90,7 +92,7 @@ fn channel_kept(j: usize, new: Channel, old: Channel) -> Channel
 }
 
 // The number of the file that a frame concerns, past the last for none.
-fn file_number(f: Frame, files: [File; FILES]) -> usize
+pub fn file_number(f: Frame, files: [File; FILES]) -> usize
     ensures { λ r. ⌜ r ≡ fileNumber f files ⌝ }
 {
     match f {
@@ -129,23 +131,43 @@ fn channel_number(f: Frame, own: u8) -> usize
     }
 }
 
-// Whether a frame concerns the whole state.
-fn is_whole(f: Frame) -> bool
-    ensures { λ r. ⌜ r ≡ isWhole f ⌝ }
+// The group of a frame.
+pub fn group_of(f: Frame) -> u8
+    ensures { λ r. ⌜ r ≡ groupOf f ⌝ }
 {
     match f {
-        Frame::Malformed => false,
-        Frame::Fresh(_) => true,
-        Frame::Open(_) => false,
-        Frame::Close(_) => false,
-        Frame::Ask(_) => false,
-        Frame::Report(_) => false,
-        Frame::Get(_) => false,
-        Frame::Put(_) => false,
-        Frame::Seal(_) => false,
-        Frame::Skip(_) => false,
-        Frame::Freeze => true,
-        Frame::Thaw => true,
+        Frame::Malformed => 0,
+        Frame::Fresh(_) => WHOLE,
+        Frame::Open(_) => BINDING,
+        Frame::Close(_) => BINDING,
+        Frame::Ask(_) => REQUEST,
+        Frame::Report(_) => REQUEST,
+        Frame::Get(_) => 0,
+        Frame::Put(_) => 0,
+        Frame::Seal(_) => 0,
+        Frame::Skip(_) => 0,
+        Frame::Freeze => WHOLE,
+        Frame::Thaw => WHOLE,
+    }
+}
+
+// The number of the file that a frame names, past the last for none.
+pub fn named_file(f: Frame) -> u8
+    ensures { λ r. ⌜ r ≡ namedFile f ⌝ }
+{
+    match f {
+        Frame::Malformed => NONE,
+        Frame::Fresh(_) => NONE,
+        Frame::Open(q) => q.file,
+        Frame::Close(file) => file,
+        Frame::Ask(q) => q.file,
+        Frame::Report(_) => NONE,
+        Frame::Get(file) => file,
+        Frame::Put(q) => q.file,
+        Frame::Seal(file) => file,
+        Frame::Skip(file) => file,
+        Frame::Freeze => NONE,
+        Frame::Thaw => NONE,
     }
 }
 
@@ -162,154 +184,280 @@ fn masks_of(masks: session_frame::Masks) -> Masks
     }
 }
 
-// The refusal of a fresh start with an area of n words.
-fn fresh_number(unsound: bool, q: FreshFrame, n: usize) -> u8
-    ensures { λ r. ⌜ r ≡ freshRefusal unsound (q .m) (q .w) (masksOf (q .masks)) n ⌝ }
-{
-    let masks = q.masks;
-    let units = masks_of(masks);
-    fresh_refusal(unsound, q.m, q.w, units, n)
-}
-
-// The refusal of a call that judges the state alone.
-fn state_number(unsound: bool) -> u8
-    ensures { λ r. ⌜ r ≡ stateNumber unsound ⌝ }
-{
-    if unsound {
-        return 1;
-    }
-    0
-}
-
-// The state after a fresh start with an area of n words.
-fn fresh(unsound: bool, s: State, n: usize, q: FreshFrame) -> State
+// A fresh start with an area of n words.
+fn fresh(unsound: bool, s: State, n: usize, q: FreshFrame) -> Called
     ensures { λ r. ⌜ r ≡ wholeOf unsound s n (Frame.Fresh q) ⌝ }
 {
     let masks = q.masks;
     let units = masks_of(masks);
     let no = fresh_refusal(unsound, q.m, q.w, units, n);
     if no != 0 {
-        return s;
+        return Called {
+            refusal: no,
+            state: s,
+        };
     }
-    fresh_state(q.m, q.w, units)
+    let t = fresh_state(q.m, q.w, units);
+    Called {
+        refusal: 0,
+        state: t,
+    }
+}
+
+// A call that is refused because of what was passed.
+fn wrong(s: State) -> Called
+    ensures { λ r. ⌜ r ≡ wrongly s ⌝ }
+{
+    Called {
+        refusal: 1,
+        state: s,
+    }
 }
 
 // A freeze, unless the state is unsound.
-fn frozen(unsound: bool, s: State) -> State
-    ensures { λ r. ⌜ r ≡ cond unsound s (frozenState s) ⌝ }
+fn frozen(unsound: bool, s: State) -> Called
+    ensures { λ r. ⌜ r ≡ judged unsound s (frozenState s) ⌝ }
 {
     if unsound {
-        return s;
+        return wrong(s);
     }
-    frozen_state(s)
+    let t = frozen_state(s);
+    Called {
+        refusal: 0,
+        state: t,
+    }
 }
 
 // A thaw, unless the state is unsound.
-fn thawed(unsound: bool, s: State) -> State
-    ensures { λ r. ⌜ r ≡ cond unsound s (thawedState s) ⌝ }
+fn thawed(unsound: bool, s: State) -> Called
+    ensures { λ r. ⌜ r ≡ judged unsound s (thawedState s) ⌝ }
 {
     if unsound {
-        return s;
+        return wrong(s);
     }
-    thawed_state(s)
+    let t = thawed_state(s);
+    Called {
+        refusal: 0,
+        state: t,
+    }
 }
 
-// The state after a frame that concerns the whole of it, with an area of n words.
-fn whole(unsound: bool, s: State, n: usize, f: Frame) -> State
+// A frame that concerns the whole state, with an area of n words.
+pub fn whole(unsound: bool, s: State, n: usize, f: Frame) -> Called
     ensures { λ r. ⌜ r ≡ wholeOf unsound s n f ⌝ }
 {
     match f {
-        Frame::Malformed => s,
+        Frame::Malformed => wrong(s),
         Frame::Fresh(q) => fresh(unsound, s, n, q),
-        Frame::Open(_) => s,
-        Frame::Close(_) => s,
-        Frame::Ask(_) => s,
-        Frame::Report(_) => s,
-        Frame::Get(_) => s,
-        Frame::Put(_) => s,
-        Frame::Seal(_) => s,
-        Frame::Skip(_) => s,
+        Frame::Open(_) => wrong(s),
+        Frame::Close(_) => wrong(s),
+        Frame::Ask(_) => wrong(s),
+        Frame::Report(_) => wrong(s),
+        Frame::Get(_) => wrong(s),
+        Frame::Put(_) => wrong(s),
+        Frame::Seal(_) => wrong(s),
+        Frame::Skip(_) => wrong(s),
         Frame::Freeze => frozen(unsound, s),
         Frame::Thaw => thawed(unsound, s),
     }
 }
 
-// The call that a frame makes of the file f and the channel c.
-fn change_of(
+// The call of a frame that concerns one file; a frame that is none is refused.
+fn record_of(
+    unsound: bool,
+    m: u8,
+    w: u16,
+    frame: Frame,
+    f: File,
+    area: &mut [u64],
+    words: &[u64],
+) -> Told
+    ensures { λ r. ⌜ r ≡ recordOf unsound m w frame f (now (area .entry)) (now (words .entry)) ⌝ }
+    ensures { λ _. ⌜ now (area .exit) ≡ recordArea unsound m w frame f (now (area .entry)) (now (words .entry)) ⌝ }
+{
+    match frame {
+        Frame::Malformed => quiet(1, f),
+        Frame::Fresh(_) => quiet(1, f),
+        Frame::Open(_) => quiet(1, f),
+        Frame::Close(_) => quiet(1, f),
+        Frame::Ask(_) => quiet(1, f),
+        Frame::Report(_) => quiet(1, f),
+        Frame::Get(file) => got(unsound, m, w, f, file, &area[..]),
+        Frame::Put(q) => filled(unsound, m, w, f, q.file, area, words),
+        Frame::Seal(file) => sealed(unsound, m, w, f, file, area),
+        Frame::Skip(file) => skipped(unsound, f, file),
+        Frame::Freeze => quiet(1, f),
+        Frame::Thaw => quiet(1, f),
+    }
+}
+
+// Open or close; the files say whether a unit is bound.
+fn binding_of(
+    unsound: bool,
+    w: u16,
+    free: u32,
+    files: [File; FILES],
+    frame: Frame,
+    f: File,
+    c: Channel,
+) -> Told
+    ensures { λ r. ⌜ r ≡ bindingOf unsound w free files frame f c ⌝ }
+{
+    match frame {
+        Frame::Malformed => quiet(1, f),
+        Frame::Fresh(_) => quiet(1, f),
+        Frame::Open(q) => opened(unsound, w, free, files, f, c, q),
+        Frame::Close(file) => closed(unsound, f, c, file),
+        Frame::Ask(_) => quiet(1, f),
+        Frame::Report(_) => quiet(1, f),
+        Frame::Get(_) => quiet(1, f),
+        Frame::Put(_) => quiet(1, f),
+        Frame::Seal(_) => quiet(1, f),
+        Frame::Skip(_) => quiet(1, f),
+        Frame::Freeze => quiet(1, f),
+        Frame::Thaw => quiet(1, f),
+    }
+}
+
+// A request that is refused, with what was passed.
+fn unasked(f: File, c: Channel) -> Change
+    ensures { λ r. ⌜ r ≡ unaskedChange f c ⌝ }
+{
+    let answer = Answer::Refused(1);
+    Change {
+        answer,
+        start: 0,
+        count: 0,
+        file: f,
+        channel: c,
+    }
+}
+
+// Ask or report.
+fn request_of(
     unsound: bool,
     m: u8,
     w: u16,
     frozen: bool,
-    free: u32,
-    files: [File; FILES],
     frame: Frame,
     f: File,
     c: Channel,
     area: &mut [u64],
     words: &[u64],
 ) -> Change
-    ensures { λ r. ⌜ r ≡ changeOf unsound m w frozen free files frame f c (now (area .entry)) (now (words .entry)) ⌝ }
-    ensures { λ _. ⌜ now (area .exit) ≡ areaOf unsound m w frame f c (now (area .entry)) (now (words .entry)) ⌝ }
+    ensures { λ r. ⌜ r ≡ requestOf unsound m w frozen frame f c (now (area .entry)) (now (words .entry)) ⌝ }
+    ensures { λ _. ⌜ now (area .exit) ≡ requestArea unsound m w frame f c (now (area .entry)) (now (words .entry)) ⌝ }
 {
     match frame {
-        Frame::Malformed => quiet(1, f, c),
-        Frame::Fresh(q) => quiet(fresh_number(unsound, q, area.len()), f, c),
-        Frame::Open(q) => opened(unsound, w, free, files, f, c, q),
-        Frame::Close(file) => closed(unsound, f, c, file),
+        Frame::Malformed => unasked(f, c),
+        Frame::Fresh(_) => unasked(f, c),
+        Frame::Open(_) => unasked(f, c),
+        Frame::Close(_) => unasked(f, c),
         Frame::Ask(q) => asked(unsound, frozen, f, c, q),
         Frame::Report(q) => reported(unsound, m, w, frozen, f, c, q, area, words),
-        Frame::Get(file) => got(unsound, m, w, f, c, file, &area[..]),
-        Frame::Put(q) => filled(unsound, m, w, f, c, q.file, area, words),
-        Frame::Seal(file) => sealed(unsound, m, w, f, c, file, area),
-        Frame::Skip(file) => skipped(unsound, f, c, file),
-        Frame::Freeze => quiet(state_number(unsound), f, c),
-        Frame::Thaw => quiet(state_number(unsound), f, c),
+        Frame::Get(_) => unasked(f, c),
+        Frame::Put(_) => unasked(f, c),
+        Frame::Seal(_) => unasked(f, c),
+        Frame::Skip(_) => unasked(f, c),
+        Frame::Freeze => unasked(f, c),
+        Frame::Thaw => unasked(f, c),
     }
 }
 
-// A frame against the state and the area. The state is one local that is changed where it lies: no copy of it is made for each call.
-pub fn reply_on(unsound: bool, s: State, area: &mut [u64], frame: Frame, words: &[u64]) -> Turned
-    ensures { λ r. ⌜ r ≡ turnedOn unsound s (now (area .entry)) frame (now (words .entry)) ⌝ }
-    ensures { λ _. ⌜ now (area .exit) ≡ areaOn unsound s (now (area .entry)) frame (now (words .entry)) ⌝ }
+// The call of a frame that concerns one file, where `old` stands at the place of file i: what stands there after it.
+pub fn record_on(
+    unsound: bool,
+    m: u8,
+    w: u16,
+    frame: Frame,
+    i: usize,
+    old: File,
+    area: &mut [u64],
+    words: &[u64],
+) -> Told
+    ensures { λ r. ⌜ r ≡ recordAt unsound m w frame i old (now (area .entry)) (now (words .entry)) ⌝ }
+    ensures { λ _. ⌜ now (area .exit) ≡ recordArea unsound m w frame (fileOr i old) (now (area .entry)) (now (words .entry)) ⌝ }
 {
-    let mut t = s;
-    if is_whole(frame) {
-        t = whole(unsound, t, area.len(), frame);
-    }
-    let files = t.files;
-    let i = file_number(frame, files);
-    let k = index_in(i, FILES);
-    let old = t.files[k];
     let f = file_or(i, old);
-    let j = channel_number(frame, f.channel);
-    let l = index_in(j, CHANNELS);
-    let was = t.channels[l];
-    let c = channel_or(j, was);
-    let x = change_of(
-        unsound,
-        t.m,
-        t.w,
-        t.frozen,
-        t.free,
-        files,
-        frame,
-        f,
-        c,
-        area,
-        words,
-    );
+    let x = record_of(unsound, m, w, frame, f, area, words);
     let g = x.file;
-    let d = x.channel;
-    let a = x.answer;
-    let new = file_kept(i, g, old);
-    let free = free_after(t.free, old, new);
-    t.files[k] = new;
-    t.channels[l] = channel_kept(j, d, was);
-    t.free = free;
-    Turned {
-        answer: a,
+    let answer = x.answer;
+    let file = file_kept(i, g, old);
+    Told {
+        answer,
         start: x.start,
         count: x.count,
-        state: t,
+        file,
+    }
+}
+
+// The place of the channel that a frame concerns, where `old` stands at the place of its file i.
+pub fn channel_place(frame: Frame, i: usize, old: File) -> usize
+    ensures { λ r. ⌜ (r ≡ placeOf (channelFor frame i old) channelCount) × (r < channelCount) ⌝ }
+{
+    let f = file_or(i, old);
+    let j = channel_number(frame, f.channel);
+    index_in(j, CHANNELS)
+}
+
+// Open or close, where `old` and `was` stand at the places of the file i and of the channel.
+pub fn binding_on(
+    unsound: bool,
+    w: u16,
+    free: u32,
+    files: [File; FILES],
+    frame: Frame,
+    i: usize,
+    old: File,
+    was: Channel,
+) -> Told
+    ensures { λ r. ⌜ r ≡ bindingAt unsound w free files frame i old was ⌝ }
+{
+    let f = file_or(i, old);
+    let j = channel_number(frame, f.channel);
+    let c = channel_or(j, was);
+    let x = binding_of(unsound, w, free, files, frame, f, c);
+    let g = x.file;
+    let answer = x.answer;
+    let file = file_kept(i, g, old);
+    Told {
+        answer,
+        start: x.start,
+        count: x.count,
+        file,
+    }
+}
+
+// Ask or report, where `old` and `was` stand at the places of the file i and of the channel: what stands there after it.
+pub fn request_on(
+    unsound: bool,
+    m: u8,
+    w: u16,
+    frozen: bool,
+    frame: Frame,
+    i: usize,
+    old: File,
+    was: Channel,
+    area: &mut [u64],
+    words: &[u64],
+) -> Change
+    ensures { λ r. ⌜ r ≡ requestAt unsound m w frozen frame i old was (now (area .entry)) (now (words .entry)) ⌝ }
+    ensures { λ _. ⌜ now (area .exit) ≡ requestArea unsound m w frame (fileOr i old) (channelOr (channelFor frame i old) was) (now (area .entry)) (now (words .entry)) ⌝ }
+{
+    let f = file_or(i, old);
+    let j = channel_number(frame, f.channel);
+    let c = channel_or(j, was);
+    let x = request_of(unsound, m, w, frozen, frame, f, c, area, words);
+    let g = x.file;
+    let d = x.channel;
+    let answer = x.answer;
+    let file = file_kept(i, g, old);
+    let channel = channel_kept(j, d, was);
+    Change {
+        answer,
+        start: x.start,
+        count: x.count,
+        file,
+        channel,
     }
 }

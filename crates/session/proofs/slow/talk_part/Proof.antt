@@ -1,3 +1,4 @@
+use Rattle.session.proofs.Calling.{words-there}
 -- `session::slow::talk_part` meets its contract, by whether the input has ended and a room is too short. Assumes nothing.
 use mathlib.Core.Path.{sym, _∙_}
 use Rattle.session.specs.Talks.{deskWith}
@@ -27,7 +28,7 @@ returns-2 c = let a = c .before .before .before .before .before .before .before 
     part-short (deskWith (a .t) (a .area .now) (a .room .now) (a .words .now)) (c .before .before .before .if1 .left) (a .out .now) (sym (c .before .before .lacks-room .ensures) ∙ c .before .if2 .taken) (a .bytes .now) (a .at) _ (c .refused2 .ensures)
 
 play-part-requires : tie.Need-play-part-requires
-play-part-requires c κs = search needs
+play-part-requires c κs = words-there (deskWith (c .before .before .before .before .before .before .before .before .before .before .before .before .before .before .args .t) (c .before .before .before .before .before .before .before .before .before .before .before .before .before .before .args .area .now) (c .before .before .before .before .before .before .before .before .before .before .before .before .before .before .args .room .now) (c .before .before .before .before .before .before .before .before .before .before .before .before .before .before .args .words .now)) (c .before .before .before .before .before .before .before .before .if1 .left) (c .before .before .before .before .before .before .before .before .before .before .before .before .before .before .args .out .now) (sym (c .before .before .before .before .before .before .before .lacks-room .ensures) ∙ c .before .before .before .before .before .before .if2 .left)
 
 same-length : tie.Need-same-length
 same-length c = search needs

@@ -23,7 +23,7 @@ got-count-requires : tie.Need-got-count-requires
 got-count-requires c κs = search needs
 
 returns : tie.Need-returns
-returns c = got-as (c .before .before .before .before .before .before .before .before .args .unsound) (c .before .before .before .before .before .before .before .before .args .m) (c .before .before .before .before .before .before .before .before .args .w) (c .before .before .before .before .before .before .before .before .args .f) (c .before .before .before .before .before .before .before .before .args .c) (c .before .before .before .before .before .before .before .before .args .file) (c .before .before .before .before .before .before .before .before .args .area .now) _ _ _ _ _ _ (c .before .before .before .before .before .before .is-short .ensures) (c .before .before .before .before .before .get-on .ensures) (c .before .before .before .got-answer .ensures) (c .before .before .answer-or .ensures) (c .before .got-start .ensures) (c .got-count .ensures)
+returns c = got-as (c .before .before .before .before .before .before .before .before .args .unsound) (c .before .before .before .before .before .before .before .before .args .m) (c .before .before .before .before .before .before .before .before .args .w) (c .before .before .before .before .before .before .before .before .args .f) (c .before .before .before .before .before .before .before .before .args .file) (c .before .before .before .before .before .before .before .before .args .area .now) _ _ _ _ _ _ (c .before .before .before .before .before .before .is-short .ensures) (c .before .before .before .before .before .get-on .ensures) (c .before .before .before .got-answer .ensures) (c .before .before .answer-or .ensures) (c .before .got-start .ensures) (c .got-count .ensures)
 
 pub got-spec : {M : Type 1} → statement M
 got-spec =

@@ -9,7 +9,7 @@ answer-or-requires : tie.Need-answer-or-requires
 answer-or-requires c κs = search needs
 
 returns : tie.Need-returns
-returns c = ap (λ (x : Answer). record { answer = x; start = 0; count = 0; file = c .before .args .f; channel = c .before .args .c }) (c .answer-or .ensures)
+returns c = ap (λ (x : Answer). record { answer = x; start = 0; count = 0; file = c .before .args .f }) (c .answer-or .ensures)
 
 pub quiet-spec : {M : Type 1} → statement M
 quiet-spec = tie.close (tie.spec answer-or-requires returns)

@@ -1,7 +1,7 @@
 -- `session_reply::changes::skipped` meets its contract, by the inner form. Assumes nothing.
 use mathlib.Core.Path.{ap, _∙_}
 use Rattle.file.specs.declared.FileChange.{FileChange}
-use Rattle.session_reply.specs.Changes.{quietChange, skipChangeOn}
+use Rattle.session_reply.specs.Changes.{quietTold, skipTold}
 use borrow.Author.Needs.{needs}
 use Rattle.session_reply.proofs.changes.skipped.Statement.{statement}
 use Rattle.session_reply.proofs.changes.skipped.Tie as tie
@@ -13,8 +13,8 @@ quiet-requires : tie.Need-quiet-requires
 quiet-requires c κs = search needs
 
 returns : tie.Need-returns
-unfolding skipChangeOn
-returns c = c .quiet .ensures ∙ ap (λ (x : FileChange). quietChange (x .refusal) (x .file) (c .before .before .before .args .c)) (c .before .before .skip-on .ensures)
+unfolding skipTold
+returns c = c .quiet .ensures ∙ ap (λ (x : FileChange). quietTold (x .refusal) (x .file)) (c .before .before .skip-on .ensures)
 
 pub skipped-spec : {M : Type 1} → statement M
 skipped-spec = tie.close (tie.spec skip-on-requires quiet-requires returns)

@@ -1,18 +1,22 @@
--- `session_reply::turns::frozen` meets its contract. Assumes nothing.
-use mathlib.Core.Path.{sym, _∙_}
-use Rattle.area.proofs.Marks.{cond-false}
+-- `session_reply::turns::frozen` meets its contract, by whether the state is unsound. Assumes nothing.
+use mathlib.Core.Path.{sym, ap, _∙_}
+use Rattle.area.proofs.Marks.{cond-true, cond-false}
+use Rattle.state.specs.declared.State.{State}
 use borrow.Author.Needs.{needs}
 use Rattle.session_reply.proofs.turns.frozen.Statement.{statement}
 use Rattle.session_reply.proofs.turns.frozen.Tie as tie
 
+wrong-requires : tie.Need-wrong-requires
+wrong-requires c κs = search needs
+
 returns : tie.Need-returns
-returns c = search needs
+returns c = c .wrong .ensures ∙ sym (cond-true _ _ (c .before .if1 .taken))
 
 frozen-state-requires : tie.Need-frozen-state-requires
 frozen-state-requires c κs = search needs
 
 returns-2 : tie.Need-returns-2
-returns-2 c = c .frozen-state .ensures ∙ sym (cond-false _ _ (c .before .if1 .left))
+returns-2 c = ap (λ (t : State). record { refusal = 0; state = t }) (c .frozen-state .ensures) ∙ sym (cond-false _ _ (c .before .if1 .left))
 
 pub frozen-spec : {M : Type 1} → statement M
-frozen-spec = tie.close (tie.spec returns frozen-state-requires returns-2)
+frozen-spec = tie.close (tie.spec wrong-requires returns frozen-state-requires returns-2)
