@@ -8,8 +8,9 @@ use Rattle.area.specs.Lists.{allOf}
 use Rattle.area.specs.Parts.{isWord}
 use Rattle.area.specs.Refusals.{lowest}
 use Rattle.block.specs.declared.blocks.Judged.{Judged}
-use Rattle.word.specs.Sums.{logicalSum, firstHalf, folded}
-use Rattle.word.specs.CheckWords.{address, blockNumbers, chosen, checkWord, extra}
+use Rattle.word.specs.Sums.{logicalSum}
+use Rattle.word.specs.CheckWords.{blockNumbers, checkWord, extra}
+use Rattle.word.specs.Checks.{checkOf, unchecked}
 
 -- a block number is 0 to 32,767
 abbrev pub isNumber : ℕ → Bool
@@ -50,17 +51,16 @@ judgeRefusal block sequence check number =
     (13, ltb (length block) (1 + extra sequence check)) ∷
     [])
 
--- "On reading, only the chosen fields are compared. Error 1 is sequence, 2 check sum, 3 both."
-unfoldable pub errorOf : Bool → Bool → ℕ → ℕ → ℕ → ℕ
-errorOf sequence check sum number word =
-    chosen sequence (cond (eqb (address word) number) 0 1) + chosen check (cond (eqb (firstHalf word) (folded sum)) 0 2)
+-- a refusal finds nothing
+abbrev pub refusedBlock : ℕ → Judged
+refusedBlock n = record { refusal = n; found = unchecked }
 
--- the answer; a refusal tells no error
+-- the answer: what the check finds by the word after the data words, which is zero where no check word is chosen
 unfoldable pub judgedBlock : List ℕ → Bool → Bool → ℕ → Judged
 judgedBlock block sequence check number =
     let n = dataWords block sequence check in
     let refusal = judgeRefusal block sequence check number in
     record {
       refusal = refusal;
-      error = cond (eqb refusal 0) (errorOf sequence check (logicalSum (take n block)) number (getD block n 0)) 0;
+      found = cond (eqb refusal 0) (checkOf sequence check (logicalSum (take n block)) number (getD block n 0)) unchecked;
     }

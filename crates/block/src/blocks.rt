@@ -1,24 +1,22 @@
 // Blocks on a slice: sealed with their check word, and judged by it as delivered.
 ghost use mathlib.Core.Path.{_≡_};
-ghost use mathlib.Core.Bool.{cond};
 ghost use Prim.Native.Nat.{_-_, _≤_};
-ghost use lib.Dec.{eqb};
 ghost use lib.ListN.{take, getD};
 ghost use Rattle.word.specs.Sums.{logicalSum};
 ghost use Rattle.word.specs.CheckWords.{chosen, checkWord, extra};
-ghost use Rattle.block.specs.Blocks.{blockSealRefusal, sealedBlock, errorOf, judgedBlock};
+ghost use Rattle.block.specs.Blocks.{blockSealRefusal, sealedBlock, refusedBlock, judgedBlock};
+use word::Checked;
 use word::LAST_NUMBER;
+use word::check_of;
 use word::check_word;
 use word::extra;
-use word::folded;
 use word::logical_sum;
-use word::number_field;
-use word::sum_field;
+use word::not_checked;
 
-// What judging a delivered block tells: the refusal, or 0 and then the error: 0 none, 1 sequence, 2 check sum, 3 both.
+// What judging a delivered block tells: the refusal, or 0 and then what its check found.
 pub struct Judged {
     pub refusal: u8,
-    pub error: u8,
+    pub found: Checked,
 }
 
 // The refusal of sealing a block, or 0 and then the block's check word.
@@ -100,55 +98,32 @@ fn word_at(block: &[u64], i: usize) -> u64
     if i < block.len() { block[i] } else { 0 }
 }
 
-// The error of a field that is to hold `due`, if it is chosen.
-fn mismatch(choice: bool, found: u64, due: u64, error: u8) -> u8
-    ensures { λ r. ⌜ (r ≡ chosen choice (cond (eqb found due) 0 error)) × (r ≤ error) ⌝ }
+// A refusal of judging, which finds nothing.
+fn refused(refusal: u8) -> Judged
+    ensures { λ r. ⌜ r ≡ refusedBlock refusal ⌝ }
 {
-    if choice {
-        if found == due {
-            return 0;
-        }
-        return error;
-    }
-    0
+    let found = not_checked();
+    Judged { refusal, found }
 }
 
-// The error of a check word, for the logical sum of its block and the number that is due. Only the chosen fields are compared.
-fn error_of(sequence: bool, check: bool, sum: u64, number: u16, word: u64) -> u8
-    ensures { λ r. ⌜ r ≡ errorOf sequence check sum number word ⌝ }
-{
-    let a = mismatch(sequence, number_field(word), number as u64, 1);
-    let b = mismatch(check, sum_field(word), folded(sum), 2);
-    a + b
-}
-
-// Judges a block as delivered, its check word last if one is chosen, by the number it is due.
+// Judges a block as delivered, its check word last if one is chosen, by the number it is due. The data words are summed whatever is chosen.
 pub fn judge(block: &[u64], sequence: bool, check: bool, number: u16) -> Judged
     ensures { λ r. ⌜ r ≡ judgedBlock (now (block .entry)) sequence check number ⌝ }
 {
     if LAST_NUMBER < number {
-        return Judged {
-            refusal: 1,
-            error: 0,
-        };
+        return refused(1);
     }
     let e = extra(sequence, check) as usize;
     let n = data_words(block.len(), e);
     let s = logical_sum(&block[..n]);
     let last = area::are_words(&block[n..]);
     if !(s.fits & last) {
-        return Judged {
-            refusal: 2,
-            error: 0,
-        };
+        return refused(2);
     }
     if n == 0 {
-        return Judged {
-            refusal: 13,
-            error: 0,
-        };
+        return refused(13);
     }
     let w = word_at(block, n);
-    let error = error_of(sequence, check, s.sum, number, w);
-    Judged { refusal: 0, error }
+    let found = check_of(sequence, check, s.sum, number, w);
+    Judged { refusal: 0, found }
 }

@@ -16,4 +16,4 @@ hasCheck fields = eqb (fields / 2 % 2) 1
 abbrev pub judgedNumber : List ℕ → ℕ → ℕ → ℕ
 judgedNumber block fields number =
     let j = judgedBlock block (hasSequence fields) (hasCheck fields) number in
-    j .refusal * 256 + j .error
+    j .refusal * 256 + j .found .error

@@ -19,5 +19,5 @@ pub extern "C" fn block_judge(block: &[u64], fields: u8, number: u16) -> u16
     ensures { λ r. ⌜ r ≡ judgedNumber (now (block .entry)) fields number ⌝ }
 {
     let j = block::judge(block, fields % 2 == 1, fields / 2 % 2 == 1, number);
-    (j.refusal as u16) * 256 + (j.error as u16)
+    (j.refusal as u16) * 256 + (j.found.error as u16)
 }

@@ -29,10 +29,13 @@ use Rattle.word.specs.CheckWords.{extra}
 use Rattle.file_input.specs.Delivers.{blockFits}
 use Rattle.block.specs.declared.blocks.Judged.{Judged}
 use Rattle.block.specs.Blocks.{isNumber, judgeRefusal, judgedBlock}
+use Rattle.word.specs.declared.Checked.{Checked}
+use Rattle.word.specs.Checks.{unchecked}
+use Rattle.call_request.specs.declared.Delivery.{Delivery}
 use Rattle.call_request.specs.declared.Effect.{Effect}
 use Rattle.call_request.specs.declared.ReportChange.{ReportChange}
 use Rattle.call_request.specs.Effects.{effectOf, isDelivery}
-use Rattle.call_request.specs.Report.{isIdleFor, takesNoWords, isForbidden, shownStart, shownCount, effectAt, rowsBy, reportRefusal, deliveryError, reportedFile, reportedArea, refusedReport, reportOn, reportOnArea}
+use Rattle.call_request.specs.Report.{isIdleFor, takesNoWords, isForbidden, shownStart, shownCount, effectAt, rowsBy, reportRefusal, deliveryCheck, deliveryOf, reportedFile, reportedArea, refusedReport, reportOn, reportOnArea}
 
 -- ---- report: what the channel refuses
 
@@ -113,12 +116,12 @@ module _ (wrong frozen : Bool) {f : File} {c : Channel} {u outcome w : ℕ} {are
     unfolding reportOn reportOnArea
     report-refused h = (rw (← found, ne-eqb no 0 h), rw (← found, ne-eqb no 0 h))
 
-    pub report-booked : no ≡ 0 → (er r wk : ℕ) (g : File) (d : Channel) → er ≡ deliveryError e f words → r ≡ resultNumber v
+    pub report-booked : no ≡ 0 → (er : Checked) (dl : Delivery) (r wk : ℕ) (g : File) (d : Channel) → er ≡ deliveryCheck e f words → dl ≡ deliveryOf e er → r ≡ resultNumber v
         → g ≡ reportedFile e f (length words) er → d ≡ bookOf c u v frozen → wk ≡ unitNumber (workingIn d)
-        → _≡_ {A = ReportChange} (record { refusal = 0; result = r; error = er; working = wk; start = start; count = count; file = g; channel = d })
+        → _≡_ {A = ReportChange} (record { refusal = 0; result = r; delivery = dl; working = wk; start = start; count = count; file = g; channel = d })
         (reportOn wrong f c u outcome w frozen area words)
     unfolding reportOn
-    report-booked h er r wk g d isEr isR isG isD isWk = rw (isWk, isG, isD, isEr, isR, S .from, S .many, same, S .verdict, ← found, h)
+    report-booked h er dl r wk g d isEr isDl isR isG isD isWk = rw (isWk, isG, isD, isDl, isEr, isR, S .from, S .many, same, S .verdict, ← found, h)
 
     pub booked-area : no ≡ 0 → reportedArea e f w words area ≡ reportOnArea wrong f c u outcome w area words
     unfolding reportOnArea
@@ -139,16 +142,16 @@ two false b = refl
 
 module _ (x : Effect) (f : File) (words : List ℕ) where
   pub look-judged : (brings : Bool) → brings ≡ isDelivery x → (brings && leb (f .block) 32767) ≡ true → (j : Judged) → j ≡ judgedBlock words (f .sequence) (f .check) (f .block)
-      → (not (eqb (j .refusal) 2) ≡ allOf isWord words) × (j .error ≡ deliveryError x f words)
+      → (not (eqb (j .refusal) 2) ≡ allOf isWord words) × (j .found ≡ deliveryCheck x f words)
   unfolding judgedBlock judgeRefusal
   look-judged brings isB h j isJ =
       let small : isNumber (f .block) ≡ true = lt-ltb (f .block) 32768 (omega (arith, leb-true (f .block) 32767 (and-right brings _ h))) in
       let right : not (isNumber (f .block)) ≡ false = ap not small in (
         ap (λ (k : Judged). not (eqb (k .refusal) 2)) isJ ∙ rw right (two (allOf isWord words) _),
-        ap (λ (k : Judged). k .error) isJ ∙ rw (sym isB ∙ and-left brings _ h),
+        ap (λ (k : Judged). k .found) isJ ∙ rw (sym isB ∙ and-left brings _ h),
       )
 
-  pub look-other : (brings : Bool) → brings ≡ isDelivery x → (brings && leb (f .block) 32767) ≡ false → 0 ≡ deliveryError x f words
+  pub look-other : (brings : Bool) → brings ≡ isDelivery x → (brings && leb (f .block) 32767) ≡ false → unchecked ≡ deliveryCheck x f words
   unfolding judgedBlock judgeRefusal lowest
   look-other true isB h =
       let large : isNumber (f .block) ≡ false = le-ltb (f .block) 32768 (omega (arith, leb-false (f .block) 32767 h)) in

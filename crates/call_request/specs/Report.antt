@@ -23,6 +23,10 @@ use Rattle.word.specs.CheckWords.{extra}
 use Rattle.file_input.specs.Delivers.{blockFits, delivered, gaveBack, metMark}
 use Rattle.file_output.specs.Sends.{sendStart, sendWords, afterWrite}
 use Rattle.block.specs.Blocks.{judgedBlock}
+use Rattle.word.specs.declared.Checked.{Checked}
+use Rattle.word.specs.Checks.{unchecked}
+use Rattle.call_request.specs.declared.Delivery.{Delivery}
+use Rattle.call_request.specs.declared.Delivery.the-variants.{Without, With}
 use Rattle.call_request.specs.declared.Effect.{Effect}
 use Rattle.call_request.specs.declared.Effect.the-variants.{Delivers, MeetsMark, GivesBack, Sends, Keeps}
 use Rattle.call_request.specs.declared.ReportChange.{ReportChange}
@@ -100,17 +104,26 @@ reportRefusal wrong f c u outcome w area words = lowest (reportRows wrong f c u 
 
 -- ---- its effect
 
--- "A block in error is kept and its number reported.": the check error of the words as delivered, by the number that the block is due
-abbrev pub deliveryError : Effect → File → List ℕ → ℕ
-deliveryError x f words = cond (isDelivery x) (judgedBlock words (f .sequence) (f .check) (f .block) .error) 0
+-- "A block in error is kept and its number reported.": what the check of the words finds, as delivered, by the number that the block is due
+abbrev pub deliveryCheck : Effect → File → List ℕ → Checked
+deliveryCheck x f words = cond (isDelivery x) (judgedBlock words (f .sequence) (f .check) (f .block) .found) unchecked
 
--- the file: the taken buffer is full with the data words, or is empty again; the block that was sent is gone
-unfoldable pub reportedFile : Effect → File → ℕ → ℕ → File
-reportedFile Delivers f n error = delivered f (n - extra (f .sequence) (f .check)) error
-reportedFile MeetsMark f n error = metMark f
-reportedFile GivesBack f n error = gaveBack f
-reportedFile Sends f n error = afterWrite true f
-reportedFile Keeps f n error = f
+-- "A report that delivers a block .. carr[ies] them as found at delivery"
+abbrev pub deliveryOf : Effect → Checked → Delivery
+deliveryOf x found = cond (isDelivery x) (With found) Without
+
+-- what the answer tells of a delivery; a report that delivers nothing has check error 0
+abbrev pub toldBy : Delivery → Checked
+toldBy (With found) = found
+toldBy Without = unchecked
+
+-- the file: the taken buffer is full with the data words and what was found, or is empty again; the block that was sent is gone
+unfoldable pub reportedFile : Effect → File → ℕ → Checked → File
+reportedFile Delivers f n found = delivered f (n - extra (f .sequence) (f .check)) found
+reportedFile MeetsMark f n found = metMark f
+reportedFile GivesBack f n found = gaveBack f
+reportedFile Sends f n found = afterWrite true f
+reportedFile Keeps f n found = f
 
 -- the area: "A block lies from the first word of its buffer, check word last. Words of the area that no rule here sets stay as they were"
 unfoldable pub reportedArea : Effect → File → ℕ → List ℕ → List ℕ → List ℕ
@@ -118,7 +131,7 @@ reportedArea x f w words area = cond (isDelivery x) (pastedIn (startAt f w (take
 
 -- "A refusal returns the number alone and changes nothing."
 abbrev pub refusedReport : ℕ → File → Channel → ReportChange
-refusedReport refusal f c = record { refusal = refusal; result = 0; error = 0; working = 0; start = 0; count = 0; file = f; channel = c }
+refusedReport refusal f c = record { refusal = refusal; result = 0; delivery = Without; working = 0; start = 0; count = 0; file = f; channel = c }
 
 -- "Report adds result, check error, working unit and, if it ends a write with 01 or 04, the block's words"
 unfoldable pub reportOn : Bool → File → Channel → ℕ → ℕ → ℕ → Bool → List ℕ → List ℕ → ReportChange
@@ -130,11 +143,11 @@ reportOn wrong f c u outcome w frozen area words =
     (record {
       refusal = 0;
       result = resultNumber (judgeOf c u outcome);
-      error = deliveryError x f words;
+      delivery = deliveryOf x (deliveryCheck x f words);
       working = unitNumber (workingIn after);
       start = shownStart x w f;
       count = shownCount x f;
-      file = reportedFile x f (length words) (deliveryError x f words);
+      file = reportedFile x f (length words) (deliveryCheck x f words);
       channel = after;
     })
     (refusedReport refusal f c)

@@ -1,4 +1,5 @@
 // The block that a report brings or hands out: where it lies, whether its words are right, and what it makes of the file and the area.
+use crate::Delivery;
 use crate::Effect;
 use crate::effects::is_delivery;
 use area::are_words;
@@ -11,8 +12,10 @@ use file_input::taken_start;
 use file_output::after_write;
 use file_output::send_start;
 use file_output::send_words;
+use word::Checked;
 use word::LAST_NUMBER;
 use word::extra;
+use word::not_checked;
 ghost use mathlib.Core.Path.{_≡_};
 ghost use mathlib.Core.Bool.{true};
 ghost use Prim.Native.Nat.{_<_};
@@ -21,30 +24,42 @@ ghost use Rattle.area.specs.Lists.{allOf};
 ghost use Rattle.area.specs.Parts.{isWord};
 ghost use Rattle.file_input.specs.Delivers.{blockFits};
 ghost use Rattle.call_request.specs.Effects.{isDelivery};
-ghost use Rattle.call_request.specs.Report.{shownStart, shownCount, deliveryError, reportedFile, reportedArea};
+ghost use Rattle.call_request.specs.Report.{shownStart, shownCount, deliveryCheck, deliveryOf, reportedFile, reportedArea};
 
-// What one pass over the given words tells: whether each is below 2^36, and the check error if they are a delivered block.
+// What one pass over the given words tells: whether each is below 2^36, and what the check finds if they are a delivered block.
 pub struct Looked {
     pub fits: bool,
-    pub error: u8,
+    pub found: Checked,
 }
 
 // Looks at the words that are given with a report.
 pub fn look(x: Effect, f: File, words: &[u64]) -> Looked
-    ensures { λ r. ⌜ (r .fits ≡ allOf isWord (now (words .entry))) × (r .error ≡ deliveryError x f (now (words .entry))) ⌝ }
+    ensures { λ r. ⌜ (r .fits ≡ allOf isWord (now (words .entry))) × (r .found ≡ deliveryCheck x f (now (words .entry))) ⌝ }
 {
     let brings = is_delivery(x);
     if brings & (f.block <= LAST_NUMBER) {
         let j = block::judge(words, f.sequence, f.check, f.block);
+        let found = j.found;
         return Looked {
             fits: j.refusal != 2,
-            error: j.error,
+            found,
         };
     }
+    let found = not_checked();
     Looked {
         fits: are_words(words),
-        error: 0,
+        found,
     }
+}
+
+// What the report delivers, by what was found of the words.
+pub fn delivery_of(x: Effect, found: Checked) -> Delivery
+    ensures { λ r. ⌜ r ≡ deliveryOf x found ⌝ }
+{
+    if is_delivery(x) {
+        return Delivery::With(found);
+    }
+    Delivery::Without
 }
 
 // Where in the area the block begins that the report hands out, 0 if it hands out none.
@@ -74,21 +89,21 @@ pub fn shown_count(x: Effect, f: File) -> usize
 }
 
 // The file with a delivered block of n words, its check word among them.
-fn with_delivery(f: File, n: usize, error: u8) -> File
+fn with_delivery(f: File, n: usize, found: Checked) -> File
     requires { ⌜ blockFits f n ≡ true ⌝ }
-    ensures { λ r. ⌜ r ≡ reportedFile Effect.Delivers f n error ⌝ }
+    ensures { λ r. ⌜ r ≡ reportedFile Effect.Delivers f n found ⌝ }
 {
     let e = extra(f.sequence, f.check) as usize;
-    delivered(f, (n - e) as u16, error)
+    delivered(f, (n - e) as u16, found)
 }
 
 // The file after the report, which gave n words.
-pub fn reported_file(x: Effect, f: File, n: usize, error: u8) -> File
+pub fn reported_file(x: Effect, f: File, n: usize, found: Checked) -> File
     requires { ⌜ (isDelivery x ≡ true → blockFits f n ≡ true) ⌝ }
-    ensures { λ r. ⌜ r ≡ reportedFile x f n error ⌝ }
+    ensures { λ r. ⌜ r ≡ reportedFile x f n found ⌝ }
 {
     match x {
-        Effect::Delivers => with_delivery(f, n, error),
+        Effect::Delivers => with_delivery(f, n, found),
         Effect::MeetsMark => met_mark(f),
         Effect::GivesBack => gave_back(f),
         Effect::Sends => after_write(f, true),

@@ -9,6 +9,7 @@ pub use asks::ask_on;
 use channel::Channel;
 use file::File;
 pub use reports::report_on;
+use word::Checked;
 
 // The answer to an ask: the refusal, 0 for none; the working unit after it, 255 for none; the file and the channel after it.
 pub struct AskChange {
@@ -28,12 +29,18 @@ pub enum Effect {
     Keeps,
 }
 
-// The answer to a report: the refusal, 0 for none; the result, 0 repeated, 1 to 6 how the operation ended; the check error of a delivered
-// block; the working unit after it, 255 for none; the part of the area that holds the block of a write; the file and the channel after it.
+// What a report delivers: no block, or one with what its check found.
+pub enum Delivery {
+    Without,
+    With(Checked),
+}
+
+// The answer to a report: the refusal, 0 for none; the result, 0 repeated, 1 to 6 how the operation ended; the delivered block's check, if
+// it delivers one; the working unit after it, 255 for none; the part of the area that holds the block of a write; the file and the channel after it.
 pub struct ReportChange {
     pub refusal: u8,
     pub result: u8,
-    pub error: u8,
+    pub delivery: Delivery,
     pub working: u8,
     pub start: usize,
     pub count: usize,

@@ -1,6 +1,8 @@
 // Report: how an activity of a unit has ended.
+use crate::Delivery;
 use crate::Effect;
 use crate::ReportChange;
+use crate::blocks::delivery_of;
 use crate::blocks::look;
 use crate::blocks::put_words;
 use crate::blocks::reported_file;
@@ -90,14 +92,16 @@ pub fn report_on(
         return refused(no, f, c);
     }
     put_words(e, f, w, area, words);
-    let file = reported_file(e, f, n, looked.error);
+    let found = looked.found;
+    let delivery = delivery_of(e, found);
+    let file = reported_file(e, f, n, found);
     let channel = book(c, u, v, frozen);
     let working = working_number(channel);
     let result = result_number(v);
     ReportChange {
         refusal: 0,
         result,
-        error: looked.error,
+        delivery,
         working,
         start,
         count,
@@ -113,7 +117,7 @@ fn refused(refusal: u8, f: File, c: Channel) -> ReportChange
     ReportChange {
         refusal,
         result: 0,
-        error: 0,
+        delivery: Delivery::Without,
         working: 0,
         start: 0,
         count: 0,

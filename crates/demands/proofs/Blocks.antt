@@ -5,6 +5,7 @@ use mathlib.Core.Bool.{true, false}
 use mathlib.Core.List.{List, []}
 use Prim.Native.Nat.{ℕ, _+_, _%_}
 use lib.ListN.{length}
+use Rattle.call_request.specs.declared.Delivery.the-variants.{With}
 use Rattle.block.specs.Blocks.{judgedBlock}
 use Rattle.word.specs.CheckWords.{blockNumbers}
 use Rattle.pool.specs.Serving.{serves}
@@ -13,7 +14,7 @@ use Rattle.state.specs.Places.{fileAt}
 use Rattle.pack_request.specs.Calls.{fileOf}
 use Rattle.pack_request.proofs.ReportTheorems.{report-books-own}
 use Rattle.pack.specs.Calls.{close, report, answerOf}
-use Rattle.demands_ledger.specs.Ledgers.{Ledger, toldError}
+use Rattle.demands_ledger.specs.Ledgers.{Ledger, toldDelivery}
 use Rattle.demands_ledger.specs.Blocks.{joined}
 use Rattle.demands_ledger.proofs.Frames.{Kept}
 use Rattle.demands_ledger.proofs.Shown.{wrote-checks, wrote-words, numbers}
@@ -42,12 +43,12 @@ module _ (s : State) (area : List ℕ) (ledgers : ℕ → Ledger) (K : Kept s ar
 
   pub ledger-judged : (i channel unit outcome : ℕ) (words : List ℕ) → serves channel unit (fileAt s i) ≡ true → words ≢ []
       → answerOf s area (report channel unit outcome words) .refusal ≡ 0
-      → toldError (answerOf s area (report channel unit outcome words) .added)
-      ≡ judgedBlock words (fileAt s i .sequence) (fileAt s i .check) ((1 + length (ledgers i .came)) % blockNumbers) .error
+      → toldDelivery (answerOf s area (report channel unit outcome words) .added)
+      ≡ With (judgedBlock words (fileAt s i .sequence) (fileAt s i .check) ((1 + length (ledgers i .came)) % blockNumbers) .found)
   unfolding answerOf
   ledger-judged i channel unit outcome words on some z =
       let j = fileOf s channel unit in
       report-judged s area ledgers K channel unit outcome words z some
-      ∙ ap (λ (n : ℕ). judgedBlock words (fileAt s j .sequence) (fileAt s j .check) n .error) (numbers (ledgers j .came))
-      ∙ ap (λ (k : ℕ). judgedBlock words (fileAt s k .sequence) (fileAt s k .check) ((1 + length (ledgers k .came)) % blockNumbers) .error)
+      ∙ ap (λ (n : ℕ). With (judgedBlock words (fileAt s j .sequence) (fileAt s j .check) n .found)) (numbers (ledgers j .came))
+      ∙ ap (λ (k : ℕ). With (judgedBlock words (fileAt s k .sequence) (fileAt s k .check) ((1 + length (ledgers k .came)) % blockNumbers) .found))
       (sym (report-books-own s area channel unit outcome words (K .good .sixteen) z .only i on))

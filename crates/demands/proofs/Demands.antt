@@ -9,9 +9,10 @@ use lib.ListN.{length}
 use Rattle.word.specs.CheckWords.{checkWord, IsCheckWord, blockNumbers}
 use Rattle.block.specs.Blocks.{judgedBlock}
 use Rattle.word.proofs.Laws.CheckWord.{check-word-is, check-word-only}
+use Rattle.call_request.specs.declared.Delivery.the-variants.{With}
 use Rattle.file.specs.declared.File.{File}
 use Rattle.file_input.specs.declared.Got.{Got}
-use Rattle.file_input.specs.Gets.{gotNumber, gotError}
+use Rattle.file_input.specs.Gets.{gotNumber, gotFound}
 use Rattle.pool.specs.Serving.{serves}
 use Rattle.pool.specs.Free.{fileCount}
 use Rattle.state.specs.declared.State.{State}
@@ -23,7 +24,7 @@ use Rattle.pack.specs.Calls.{Call, fresh, opening, close, ask, report, get, ski
 use Rattle.pack.specs.Histories.{Lent, answerTo, after, count, freshStart, declaredOn}
 use Rattle.pack.specs.Books.{Book, Opened, toldResult, blankBook, bookedAt, bookAfter, openedAfter}
 use Rattle.pack.proofs.Kept.{Good, good-before, start-judged, good-start, history-kept}
-use Rattle.demands_ledger.specs.Ledgers.{Item, Choice, Ledger, blankLedger, toldError, isOn, noted, stateAfter, areaAfter, ledgerAfter}
+use Rattle.demands_ledger.specs.Ledgers.{Item, Choice, Ledger, blankLedger, toldDelivery, isOn, noted, stateAfter, areaAfter, ledgerAfter}
 use Rattle.demands_ledger.specs.Blocks.{blocksIn, unreadOf, joined}
 use Rattle.demands_ledger.proofs.Frames.{Kept}
 use Rattle.demands_ledger.proofs.Always.{always, started as begun}
@@ -63,7 +64,7 @@ demand2-right = check-word-is
 
 -- a get has one right answer, and one block alone is due: what `Gives` and `Due` say leaves no choice
 pub demand2-one-answer : (r : ℕ) → 0 < r → (marked : Bool) (owed : List (List Item)) (x y : Got) (ws vs : List ℕ)
-    → Gives r marked owed (got x) ws → Gives r marked owed (got y) vs → (gotNumber x ≡ gotNumber y) × (gotError x ≡ gotError y) × (ws ≡ vs)
+    → Gives r marked owed (got x) ws → Gives r marked owed (got y) vs → (gotNumber x ≡ gotNumber y) × (gotFound x ≡ gotFound y) × (ws ≡ vs)
 demand2-one-answer = gives-one
 
 pub demand2-one-due : (c : Choice) (puts seals : List ℕ) (sent : List (List ℕ)) (a b : List ℕ)
@@ -226,11 +227,11 @@ module _ (s₀ : State) (area₀ : List ℕ) (m w : ℕ) (masks : Masks) (starte
       → Reads (stateAfter start area₀ calls .w) (fileThen calls i) (areaAfter start area₀ calls) (account calls i)
   demand2-reads calls i = ledger-reads (stateAfter start area₀ calls) (areaAfter start area₀ calls) (account calls) (kept calls) i
 
-  -- the report of a delivered block, for the file i on its unit, answers that judgement, with the number after those of the blocks before it
+  -- the report of a delivered block, for the file i on its unit, answers that judgement and all that was found, with the number after those of the blocks before it
   pub demand2-judged : (calls : List Call) (i channel unit outcome : ℕ) (words : List ℕ) → serves channel unit (fileThen calls i) ≡ true → words ≢ []
       → answerOf (stateAfter start area₀ calls) (areaAfter start area₀ calls) (report channel unit outcome words) .refusal ≡ 0
-      → toldError (answerOf (stateAfter start area₀ calls) (areaAfter start area₀ calls) (report channel unit outcome words) .added)
-      ≡ judgedBlock words (fileThen calls i .sequence) (fileThen calls i .check) ((1 + length (account calls i .came)) % blockNumbers) .error
+      → toldDelivery (answerOf (stateAfter start area₀ calls) (areaAfter start area₀ calls) (report channel unit outcome words) .added)
+      ≡ With (judgedBlock words (fileThen calls i .sequence) (fileThen calls i .check) ((1 + length (account calls i .came)) % blockNumbers) .found)
   demand2-judged calls = ledger-judged (stateAfter start area₀ calls) (areaAfter start area₀ calls) (account calls) (kept calls)
 
   -- records follow document 01: what an accepted get answers,

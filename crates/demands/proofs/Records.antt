@@ -13,6 +13,8 @@ use Rattle.area.specs.Parts.{partOf}
 use Rattle.area.proofs.Walks.{true-not-false}
 use Rattle.area.proofs.Marks.{cond-true, cond-false}
 use Rattle.area.proofs.Pastes.{length-part}
+use Rattle.word.specs.Checks.{unchecked}
+use Rattle.word.specs.declared.Checked.{Checked}
 use Rattle.file.specs.declared.Slot.{Slot}
 use Rattle.file.specs.declared.Slot.the-variants.{Empty, Taken, Part, Full}
 use Rattle.file.specs.declared.Side.{Side}
@@ -24,7 +26,7 @@ use Rattle.file_input.specs.Ages.{Block, fullIn, inOrder, line}
 use Rattle.file_input.proofs.Ages.{block, Aged, noBlock, old, aged}
 use Rattle.file_input.specs.declared.Got.{Got}
 use Rattle.file_input.specs.declared.Got.the-variants.{Record, Leftover, Error}
-use Rattle.file_input.specs.Gets.{passed, lookedAt, foundIn, foundNone, found, getFrom, gotNumber, gotError}
+use Rattle.file_input.specs.Gets.{passed, lookedAt, foundIn, foundNone, found, getFrom, gotNumber, gotFound}
 use Rattle.file_input.specs.Histories.{shown}
 use Rattle.state_sound.proofs.FileFacts.{Sound}
 use Rattle.state_sound.proofs.FilesKept.{owns-used}
@@ -38,7 +40,7 @@ use Rattle.pack_record.proofs.GetTheorems.{get-open, get-input, get-area-long, 
 use Rattle.pack_record.proofs.SkipTheorems.{skip-open, skip-input, skip-full, skip-drops}
 use Rattle.pack_record.proofs.Written.{part-join}
 use Rattle.pack.specs.Calls.{Added, nothing, working, reported, got, get, skip, answerOf}
-use Rattle.demands_ledger.specs.Ledgers.{Item, word, wrong, Ledger, pastUsed, firstOf, restOf, withSkip, noted}
+use Rattle.demands_ledger.specs.Ledgers.{Item, word, wrong, wrongsBy, Ledger, pastUsed, firstOf, restOf, withSkip, noted}
 use Rattle.demands_ledger.specs.Blocks.{unreadIn, unreadOf}
 use Rattle.demands_ledger.proofs.Told.{Brought}
 use Rattle.demands_ledger.proofs.Brings.{passed-brought}
@@ -93,7 +95,7 @@ module _ (w b r n at : ℕ) (xs : List ℕ) (within : at ≤ n) (inside : b * w 
   long-part : (c : ℕ) → c ≤ n - at → length (partOf (b * w + at) c xs) ≡ c
   long-part c l = length-part (b * w + at) c xs (omega arith)
 
-  error-told : (t : Bool) (e : ℕ) (items : List Item) (other : Got) → t ≡ true
+  error-told : (t : Bool) (e : Checked) (items : List Item) (other : Got) → t ≡ true
       → Gives r marked ((wrong e ∷ items) ∷ blocks) (got (cond t (Error e) other)) (shown xs (cond t (Error e) other))
   error-told true e items other q = tells e
   error-told false e items other q = true-not-false q refl
@@ -112,12 +114,18 @@ module _ (w b r n at : ℕ) (xs : List ℕ) (within : at ≤ n) (inside : b * w 
   words-told false false x q l some =
       leaves (b * w + at) (n - at) (partOf (b * w + at) (n - at) xs) (long-part (n - at) (omega arith)) some (leb-false r (n - at) l)
 
-  block-given : (e : ℕ) → 1 ≤ length (unreadIn w xs (block b n at e))
+  block-given : (e : Checked) → 1 ≤ length (unreadIn w xs (block b n at e))
       → Gives r marked (unreadIn w xs (block b n at e) ∷ blocks) (got (foundIn (b * w) r (Full n at e))) (shown xs (foundIn (b * w) r (Full n at e)))
-  block-given (suc e) some = error-told (ltb 0 (suc e)) (suc e) _ _ (lt-ltb 0 (suc e) (omega arith))
-  block-given zero some =
-      words-told (ltb 0 0) (leb r (n - at)) (Error 0) refl refl
-      (omega (arith, some, length-map (partOf (b * w + at) (n - at) xs) word, long-part (n - at) (omega arith)))
+  block-given e = go (e .error)
+    where
+      go : (i : ℕ) → 1 ≤ length (wrongsBy i e ++ map word (partOf (b * w + at) (n - at) xs))
+          → Gives r marked ((wrongsBy i e ++ map word (partOf (b * w + at) (n - at) xs)) ∷ blocks)
+          (got (cond (ltb 0 i) (Error e) (cond (leb r (n - at)) (Record (b * w + at) r) (Leftover (b * w + at) (n - at)))))
+          (shown xs (cond (ltb 0 i) (Error e) (cond (leb r (n - at)) (Record (b * w + at) r) (Leftover (b * w + at) (n - at)))))
+      go (suc i) some = error-told (ltb 0 (suc i)) e _ _ (lt-ltb 0 (suc i) (omega arith))
+      go zero some =
+          words-told (ltb 0 0) (leb r (n - at)) (Error e) refl refl
+          (omega (arith, some, length-map (partOf (b * w + at) (n - at) xs) word, long-part (n - at) (omega arith)))
 
 -- ---- get
 
@@ -178,32 +186,32 @@ unfolding wordsIn
 words-back [] = refl
 words-back (x ∷ ws) = ap (λ (l : List ℕ). x ∷ l) (words-back ws)
 
--- what the cases come to: the number, the error and the words
+-- what the cases come to: the number, what was found and the words
 record Right : Type 0 where
   number : ℕ
-  error : ℕ
+  found : Checked
   words : List ℕ
 
 abbrev pick : ℕ → List ℕ → Right
-pick r ws = cond (leb r (length ws)) (record { number = 0; error = 0; words = take r ws }) (record { number = 4; error = 0; words = ws })
+pick r ws = cond (leb r (length ws)) (record { number = 0; found = unchecked; words = take r ws }) (record { number = 4; found = unchecked; words = ws })
 
 rightOf : ℕ → Bool → List (List Item) → Right
-rightOf r marked [] = record { number = cond marked 2 1; error = 0; words = [] }
+rightOf r marked [] = record { number = cond marked 2 1; found = unchecked; words = [] }
 rightOf r marked ([] ∷ blocks) = rightOf r marked blocks
 rightOf r marked ((word x ∷ items) ∷ blocks) = pick r (x ∷ wordsIn items)
-rightOf r marked ((wrong e ∷ items) ∷ blocks) = record { number = 3; error = e; words = [] }
+rightOf r marked ((wrong e ∷ items) ∷ blocks) = record { number = 3; found = e; words = [] }
 
 abbrev numberIn : Added → ℕ
 numberIn nothing = 0
 numberIn (working u) = 0
-numberIn (reported result error u) = 0
+numberIn (reported result delivery u) = 0
 numberIn (got g) = gotNumber g
 
-abbrev errorIn : Added → ℕ
-errorIn nothing = 0
-errorIn (working u) = 0
-errorIn (reported result error u) = 0
-errorIn (got g) = gotError g
+abbrev foundBy : Added → Checked
+foundBy nothing = unchecked
+foundBy (working u) = unchecked
+foundBy (reported result delivery u) = unchecked
+foundBy (got g) = gotFound g
 
 module _ (r : ℕ) (some : 0 < r) (marked : Bool) where
   right-words : (ws : List ℕ) (blocks : List (List Item)) → 0 < length ws → rightOf r marked (map word ws ∷ blocks) ≡ pick r ws
@@ -212,7 +220,7 @@ module _ (r : ℕ) (some : 0 < r) (marked : Bool) where
   right-words (x ∷ ws) blocks h = ap (λ (l : List ℕ). pick r (x ∷ l)) (words-back ws)
 
   gives-right : (owed : List (List Item)) (a : Added) (words : List ℕ) → Gives r marked owed a words
-      → rightOf r marked owed ≡ record { number = numberIn a; error = errorIn a; words = words }
+      → rightOf r marked owed ≡ record { number = numberIn a; found = foundBy a; words = words }
   unfolding rightOf
   gives-right owed a words (past {blocks = bs} g) = gives-right bs a words g
   gives-right owed a words (tells e) = refl
@@ -220,17 +228,17 @@ module _ (r : ℕ) (some : 0 < r) (marked : Bool) where
       let long : length (words ++ more) ≡ length words + length more = length-append words more in
       right-words (words ++ more) bs (omega (arith, l))
       ∙ cond-true _ _ (le-leb r (length (words ++ more)) (omega (arith, l)))
-      ∙ ap (λ (v : List ℕ). record { number = 0; error = 0; words = v }) (take-at words more r l)
+      ∙ ap (λ (v : List ℕ). record { number = 0; found = unchecked; words = v }) (take-at words more r l)
   gives-right owed a words (leaves start n ws {blocks = bs} l h k) =
       right-words words bs (omega (arith, l)) ∙ cond-false _ _ (lt-leb r (length words) (omega (arith, l)))
-  gives-right owed a words (ends e) = ap (λ (t : Bool). record { number = cond t 2 1; error = 0; words = [] }) e
-  gives-right owed a words (waits e) = ap (λ (t : Bool). record { number = cond t 2 1; error = 0; words = [] }) e
+  gives-right owed a words (ends e) = ap (λ (t : Bool). record { number = cond t 2 1; found = unchecked; words = [] }) e
+  gives-right owed a words (waits e) = ap (λ (t : Bool). record { number = cond t 2 1; found = unchecked; words = [] }) e
 
   pub gives-one : (owed : List (List Item)) (x y : Got) (ws vs : List ℕ) → Gives r marked owed (got x) ws → Gives r marked owed (got y) vs
-      → (gotNumber x ≡ gotNumber y) × (gotError x ≡ gotError y) × (ws ≡ vs)
+      → (gotNumber x ≡ gotNumber y) × (gotFound x ≡ gotFound y) × (ws ≡ vs)
   gives-one owed x y ws vs g h =
       let e = sym (gives-right owed (got x) ws g) ∙ gives-right owed (got y) vs h in
-      (ap (λ (v : Right). v .number) e, ap (λ (v : Right). v .error) e, ap (λ (v : Right). v .words) e)
+      (ap (λ (v : Right). v .number) e, ap (λ (v : Right). v .found) e, ap (λ (v : Right). v .words) e)
 
 module _ (s : State) (area : List ℕ) (ledgers : ℕ → Ledger) (K : Kept s area ledgers) (i : ℕ) where
   pub ledger-got : answerOf s area (get i) .refusal ≡ 0

@@ -4,6 +4,8 @@ use Prim.Native.Nat.{ℕ, zero, suc, _+_, _-_, _^_}
 use mathlib.Core.Bool.{true}
 use mathlib.Core.List.{List, [], _∷_, _++_, map}
 use lib.ListN.{replicate}
+use Rattle.call_request.specs.declared.Delivery.{Delivery}
+use Rattle.call_request.specs.declared.Delivery.the-variants.{Without, With}
 use Rattle.area.specs.declared.Found.{Found}
 use Rattle.area.specs.declared.Found.the-variants.{At, Nothing}
 use Rattle.word.specs.Sums.{logicalSum, folded}
@@ -72,6 +74,10 @@ asksFirst file = ask file 0 1
 abbrev pub reads : ℕ → Call
 reads unit = report 0 unit good (5 ∷ [])
 
+-- what is found of that word as the first block of a file without check words
+abbrev pub five : Delivery
+five = With (record { error = 0; sum = 5; number = 1; sumread = 0; numberread = 0 })
+
 abbrev pub fails : ℕ → Call
 fails unit = report 0 unit redundancy []
 
@@ -82,7 +88,7 @@ quiet = seen 0 nothing nobody
 -- the operation of a unit is repeated n times, from attempt a on
 unfoldable pub repeatedFrom : ℕ → ℕ → ℕ → List Seen
 repeatedFrom a zero u = []
-repeatedFrom a (suc n) u = seen 0 (reported 0 0 u) (attempt a u) ∷ repeatedFrom (a + 1) n u
+repeatedFrom a (suc n) u = seen 0 (reported 0 Without u) (attempt a u) ∷ repeatedFrom (a + 1) n u
 
 -- ---- the table
 
@@ -120,27 +126,27 @@ table =
     ∷ is (number (nextNumber 32767)) (number 0)
     -- P7 100 read redundancies repeat, the 101st is permanent
     ∷ is (answers (session (starts 1 ∷ opens 0 0 ∷ asks 0 ∷ replicate 101 (fails 0))))
-    (answers (quiet ∷ quiet ∷ seen 0 (working 0) (attempt 1 0) ∷ (repeatedFrom 2 100 0 ++ (seen 0 (reported 5 0 255) nobody ∷ []))))
+    (answers (quiet ∷ quiet ∷ seen 0 (working 0) (attempt 1 0) ∷ (repeatedFrom 2 100 0 ++ (seen 0 (reported 5 Without 255) nobody ∷ []))))
     -- P8 26 write redundancies repeat, the 27th is permanent
     ∷ is (answers (session (starts 1 ∷ opens 0 1 ∷ put 0 (5 ∷ []) ∷ ask 0 1 0 ∷ replicate 27 (fails 0))))
-    (answers (quiet ∷ quiet ∷ quiet ∷ seen 0 (working 0) (attempt 1 0) ∷ (repeatedFrom 2 26 0 ++ (seen 0 (reported 5 0 255) nobody ∷ []))))
+    (answers (quiet ∷ quiet ∷ quiet ∷ seen 0 (working 0) (attempt 1 0) ∷ (repeatedFrom 2 26 0 ++ (seen 0 (reported 5 Without 255) nobody ∷ []))))
     -- P9 ordinary 2, 0, 1 asked in that order on an idle fresh channel: 2, 0, 1 run
     ∷ is (answers (session (starts 3 ∷ opens 0 0 ∷ opens 1 0 ∷ opens 2 0 ∷ asks 2 ∷ asks 0 ∷ asks 1 ∷ reads 2 ∷ reads 0 ∷ reads 1 ∷ [])))
     (answers
     (quiet ∷ quiet ∷ quiet ∷ quiet ∷ seen 0 (working 2) (attempt 1 2) ∷ seen 0 (working 2) (attempt 1 2) ∷ seen 0 (working 2) (attempt 1 2)
-    ∷ seen 0 (reported 1 0 0) (attempt 1 0) ∷ seen 0 (reported 1 0 1) (attempt 1 1) ∷ seen 0 (reported 1 0 255) nobody ∷ []))
+    ∷ seen 0 (reported 1 five 0) (attempt 1 0) ∷ seen 0 (reported 1 five 1) (attempt 1 1) ∷ seen 0 (reported 1 five 255) nobody ∷ []))
     -- P10 unit 1 running ordinary, unit 0 asks priority: 0 runs after 1's redundancy, then 1 makes attempt 2
     ∷ is (answers (session (starts 2 ∷ opens 0 0 ∷ opens 1 0 ∷ asks 1 ∷ asksFirst 0 ∷ fails 1 ∷ reads 0 ∷ [])))
     (answers
-    (quiet ∷ quiet ∷ quiet ∷ seen 0 (working 1) (attempt 1 1) ∷ seen 0 (working 1) (attempt 1 1) ∷ seen 0 (reported 0 0 0) (attempt 1 0)
-    ∷ seen 0 (reported 1 0 1) (attempt 2 1) ∷ []))
+    (quiet ∷ quiet ∷ quiet ∷ seen 0 (working 1) (attempt 1 1) ∷ seen 0 (working 1) (attempt 1 1) ∷ seen 0 (reported 0 Without 0) (attempt 1 0)
+    ∷ seen 0 (reported 1 five 1) (attempt 2 1) ∷ []))
     -- P11 two free, two asked: opened; one free: 7
     ∷ is (answers (session (starts 2 ∷ opens 0 2 ∷ []))) (answers (quiet ∷ quiet ∷ []))
     ∷ is (answers (session (starts 2 ∷ opens 0 0 ∷ opens 1 2 ∷ []))) (answers (quiet ∷ quiet ∷ seen 7 nothing nobody ∷ []))
     ∷ is (answers (session (starts 3 ∷ opens 0 0 ∷ opens 1 2 ∷ opens 2 0 ∷ []))) (answers (quiet ∷ quiet ∷ quiet ∷ seen 7 nothing nobody ∷ []))
     -- P12 a report repeated after its answer: 11
     ∷ is (answers (session (starts 1 ∷ opens 0 0 ∷ asks 0 ∷ reads 0 ∷ reads 0 ∷ [])))
-    (answers (quiet ∷ quiet ∷ seen 0 (working 0) (attempt 1 0) ∷ seen 0 (reported 1 0 255) nobody ∷ seen 11 (reported 0 0 0) nobody ∷ []))
+    (answers (quiet ∷ quiet ∷ seen 0 (working 0) (attempt 1 0) ∷ seen 0 (reported 1 five 255) nobody ∷ seen 11 (reported 0 Without 0) nobody ∷ []))
     ∷ []
 
 abbrev pub allShown : List Example → List Shown

@@ -5,6 +5,7 @@ use mathlib.Core.Bool.{Bool, true, false}
 use mathlib.Core.List.{List, [], _∷_, _++_, map}
 use Prim.Native.Nat.{ℕ, _<_}
 use lib.ListN.{length}
+use Rattle.word.specs.declared.Checked.{Checked}
 use Rattle.file_input.specs.declared.Got.the-variants.{Record, Leftover, Error, End, Nothing}
 use Rattle.pack.specs.Calls.{Added, got}
 use Rattle.demands_ledger.specs.Ledgers.{Item, word, wrong, Ledger}
@@ -15,8 +16,8 @@ use Rattle.demands_ledger.specs.Ledgers.{Item, word, wrong, Ledger}
 pub data Gives (r : ℕ) (marked : Bool) : List (List Item) → Added → List ℕ → Type 0 where
   -- "If that block was used up by an earlier get, it first becomes empty and the next oldest is looked at."
   past : {blocks : List (List Item)} {a : Added} {words : List ℕ} → Gives r marked blocks a words → Gives r marked ([] ∷ blocks) a words
-  -- "the block's check error, once, before its first record": it is owed no more afterwards
-  tells : (e : ℕ) {items : List Item} {blocks : List (List Item)} → Gives r marked ((wrong e ∷ items) ∷ blocks) (got (Error e)) []
+  -- "the block's check error, once, before its first record": it is owed no more afterwards; and what was found at delivery comes with it
+  tells : (found : Checked) {items : List Item} {blocks : List (List Item)} → Gives r marked ((wrong found ∷ items) ∷ blocks) (got (Error found)) []
   -- "a record (the next r words, as a part of the area)"
   gives : (start : ℕ) (words more : List ℕ) {blocks : List (List Item)} → length words ≡ r
       → Gives r marked (map word (words ++ more) ∷ blocks) (got (Record start r)) words

@@ -3,6 +3,8 @@
 use Prim.Native.Nat.{ℕ}
 use mathlib.Core.List.{List, [], _∷_, _++_, map}
 use lib.ListN.{replicate}
+use Rattle.call_request.specs.declared.Delivery.the-variants.{Without, With}
+use Rattle.word.specs.declared.Checked.{Checked}
 use Rattle.channel_outcomes.specs.Rules.{good, redundancy, incompleteWord, fileMark, endOfMedium}
 use Rattle.file_input.specs.declared.Got.the-variants.{Record, Leftover, Error, End, Nothing}
 use Rattle.state.specs.declared.State.{State}
@@ -30,6 +32,10 @@ abbrev pub so : Call → Told → Step
 so call tells = record { call = call; tells = tells }
 
 -- an accepted call that adds nothing
+-- what a check found: the error, the sum and the number worked out, and those read
+abbrev pub found : ℕ → ℕ → ℕ → ℕ → ℕ → Checked
+found error sum number sumread numberread = record { error = error; sum = sum; number = number; sumread = sumread; numberread = numberread }
+
 abbrev pub done : Told
 done = told 0 nothing []
 
@@ -51,9 +57,9 @@ steps1 =
     -- an ordinary write is displaced by a priority read, goes on, and ends well
     ∷ so (ask 1 1 0) (told 0 (working 1) [])
     ∷ so (ask 0 0 1) (told 0 (working 1) [])
-    ∷ so (report 0 1 redundancy []) (told 0 (reported 0 0 0) [])
-    ∷ so (report 0 0 good (1 ∷ 2 ∷ 786433 ∷ [])) (told 0 (reported 1 0 1) [])
-    ∷ so (report 0 1 good []) (told 0 (reported 1 0 255) (5 ∷ 1310721 ∷ []))
+    ∷ so (report 0 1 redundancy []) (told 0 (reported 0 Without 0) [])
+    ∷ so (report 0 0 good (1 ∷ 2 ∷ 786433 ∷ [])) (told 0 (reported 1 (With (found 0 3 1 3 1)) 1) [])
+    ∷ so (report 0 1 good []) (told 0 (reported 1 Without 255) (5 ∷ 1310721 ∷ []))
     ∷ []
 
 -- what is read
@@ -63,14 +69,14 @@ steps2 =
     -- a read that a freeze stops, and that ends in the opposite mode with a block in error
     ∷ so (ask 0 0 0) (told 0 (working 0) [])
     ∷ so freeze done
-    ∷ so (report 0 0 redundancy []) (told 0 (reported 0 0 255) [])
+    ∷ so (report 0 0 redundancy []) (told 0 (reported 0 Without 255) [])
     ∷ so thaw done
-    ∷ so (report 0 0 redundancy []) (told 0 (reported 0 0 0) [])
-    ∷ so (report 0 0 redundancy []) (told 0 (reported 0 0 0) [])
-    ∷ so (report 0 0 good (3 ∷ 0 ∷ [])) (told 0 (reported 2 3 255) [])
-    ∷ so (get 0) (told 0 (got (Error 3)) [])
+    ∷ so (report 0 0 redundancy []) (told 0 (reported 0 Without 0) [])
+    ∷ so (report 0 0 redundancy []) (told 0 (reported 0 Without 0) [])
+    ∷ so (report 0 0 good (3 ∷ 0 ∷ [])) (told 0 (reported 2 (With (found 3 3 2 0 0)) 255) [])
+    ∷ so (get 0) (told 0 (got (Error (found 3 3 2 0 0))) [])
     ∷ so (ask 0 0 0) (told 0 (working 0) [])
-    ∷ so (report 0 0 good (4 ∷ 5 ∷ 2359299 ∷ [])) (told 0 (reported 1 0 255) [])
+    ∷ so (report 0 0 good (4 ∷ 5 ∷ 2359299 ∷ [])) (told 0 (reported 1 (With (found 0 9 3 9 3)) 255) [])
     ∷ []
 
 -- what is left, skipped and closed
@@ -81,16 +87,16 @@ steps3 =
     ∷ so (skip 0) done
     ∷ so (get 0) (told 0 (got Nothing) [])
     ∷ so (ask 0 0 0) (told 0 (working 0) [])
-    ∷ so (report 0 0 fileMark []) (told 0 (reported 3 0 255) [])
+    ∷ so (report 0 0 fileMark []) (told 0 (reported 3 Without 255) [])
     ∷ so (get 0) (told 0 (got End) [])
     ∷ so (ask 0 0 0) (told 10 (working 0) [])
     -- a write that ends permanently; its block is sent again, to the end of the medium; then a mark
     ∷ so (ask 1 1 0) (told 0 (working 1) [])
-    ∷ so (report 0 1 incompleteWord []) (told 0 (reported 6 0 255) [])
+    ∷ so (report 0 1 incompleteWord []) (told 0 (reported 6 Without 255) [])
     ∷ so (ask 1 1 0) (told 0 (working 1) [])
-    ∷ so (report 0 1 endOfMedium []) (told 0 (reported 4 0 255) (6 ∷ 7 ∷ 3407874 ∷ []))
+    ∷ so (report 0 1 endOfMedium []) (told 0 (reported 4 Without 255) (6 ∷ 7 ∷ 3407874 ∷ []))
     ∷ so (ask 1 2 0) (told 0 (working 1) [])
-    ∷ so (report 0 1 good []) (told 0 (reported 1 0 255) [])
+    ∷ so (report 0 1 good []) (told 0 (reported 1 Without 255) [])
     ∷ so (close 1) done
     ∷ so (close 0) done
     ∷ []
@@ -121,14 +127,14 @@ notedBy i calls = notedOf (ledgerAfter i beforeStart lent blankLedger calls)
 -- file 0 after the second part: two blocks are owed, of one the error is told
 unfoldable pub midway : Noted
 midway =
-    noted [] [] ((1 ∷ 2 ∷ 786433 ∷ []) ∷ (3 ∷ 0 ∷ []) ∷ (4 ∷ 5 ∷ 2359299 ∷ []) ∷ []) (word 1 ∷ word 2 ∷ wrong 3 ∷ [])
+    noted [] [] ((1 ∷ 2 ∷ 786433 ∷ []) ∷ (3 ∷ 0 ∷ []) ∷ (4 ∷ 5 ∷ 2359299 ∷ []) ∷ []) (word 1 ∷ word 2 ∷ wrong (found 3 3 2 0 0) ∷ [])
     ((word 3 ∷ []) ∷ (word 4 ∷ word 5 ∷ []) ∷ [])
 
 -- both at the end
 unfoldable pub readAll : Noted
 readAll =
     noted [] [] ((1 ∷ 2 ∷ 786433 ∷ []) ∷ (3 ∷ 0 ∷ []) ∷ (4 ∷ 5 ∷ 2359299 ∷ []) ∷ [])
-    (word 1 ∷ word 2 ∷ wrong 3 ∷ word 3 ∷ word 4 ∷ word 5 ∷ []) []
+    (word 1 ∷ word 2 ∷ wrong (found 3 3 2 0 0) ∷ word 3 ∷ word 4 ∷ word 5 ∷ []) []
 
 unfoldable pub wroteAll : Noted
 wroteAll = noted (5 ∷ 6 ∷ 7 ∷ []) ((5 ∷ 1310721 ∷ []) ∷ (6 ∷ 7 ∷ 3407874 ∷ []) ∷ []) [] [] []

@@ -11,6 +11,7 @@ use Rattle.area.specs.Parts.{partOf, pastedIn}
 use Rattle.area.proofs.Walks.{true-not-false}
 use Rattle.area.proofs.Pastes.{length-part}
 use Rattle.block.specs.Blocks.{judgedBlock}
+use Rattle.word.specs.declared.Checked.{Checked}
 use Rattle.file.specs.declared.Slot.{Slot}
 use Rattle.file.specs.declared.Slot.the-variants.{Empty, Taken, Part, Full}
 use Rattle.file.specs.declared.Side.{Side}
@@ -64,7 +65,7 @@ one-block : (ws : List ℕ) → 1 ≤ length ws → asBlock ws ≡ ws ∷ []
 one-block [] h = absurd (omega arith)
 one-block (x ∷ ws) h = refl
 
-one-owed : (s c : Bool) (e : ℕ) (ws : List ℕ) → 1 ≤ length ws → owedFor s c e ws ≡ contentsOf s c e ws ∷ []
+one-owed : (s c : Bool) (e : Checked) (ws : List ℕ) → 1 ≤ length ws → owedFor s c e ws ≡ contentsOf s c e ws ∷ []
 one-owed s c e [] h = absurd (omega arith)
 one-owed s c e (x ∷ ws) h = refl
 
@@ -139,8 +140,8 @@ module _ (m w : ℕ) (f : File) (S : Sound m w f) (xs : List ℕ) (long : m * w 
   -- ---- a block that is delivered
 
   module _ (words : List ℕ) (side : isSide (takenSide f) ≡ true) (fits : blockFits f (length words) ≡ true) where
-    abbrev err : ℕ
-    err = judgedBlock words (f .sequence) (f .check) (f .block) .error
+    abbrev err : Checked
+    err = judgedBlock words (f .sequence) (f .check) (f .block) .found
 
     abbrev size : ℕ
     size = length words - extra (f .sequence) (f .check)

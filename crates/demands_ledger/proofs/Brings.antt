@@ -13,6 +13,7 @@ use Rattle.area.specs.Parts.{partOf}
 use Rattle.area.proofs.Walks.{true-not-false}
 use Rattle.area.proofs.Pastes.{length-part}
 use Rattle.block.specs.Blocks.{judgedBlock}
+use Rattle.word.specs.declared.Checked.{Checked}
 use Rattle.file.specs.declared.Slot.the-variants.{Empty, Full}
 use Rattle.file.specs.declared.Side.{Side}
 use Rattle.file.specs.declared.Side.the-variants.{Neither}
@@ -28,7 +29,7 @@ use Rattle.state_sound.proofs.FileFacts.{Sound}
 use Rattle.state_sound.proofs.FilesKept.{owns-used}
 use Rattle.state_sound.proofs.Changes.{numbers}
 use Rattle.state_sound.proofs.Inside.{number-less, size-fits, buffer-inside}
-use Rattle.demands_ledger.specs.Ledgers.{Item, word, wrongs, contentsOf, pastUsed, without, firstOf, restOf}
+use Rattle.demands_ledger.specs.Ledgers.{Item, word, wrongsBy, contentsOf, pastUsed, without, firstOf, restOf}
 use Rattle.demands_ledger.specs.Blocks.{unreadIn, unreadOf, joined, contents}
 use Rattle.demands_ledger.proofs.Told.{All, none, more, UntoldFirst, Brought}
 use Rattle.demands_ledger.proofs.Lists.{joined-last, contents-last, number-last, map-append, all-append}
@@ -56,11 +57,11 @@ module _ (w : ℕ) (f g : File) (xs zs : List ℕ) (came : List (List ℕ)) (gon
 
   -- a block is delivered
   pub brought-more : (ys : List ℕ) (b n : ℕ) → unreadOf w f zs ≡ unreadOf w f xs
-      → line g ≡ line f ++ (block b n 0 (judgedBlock ys (f .sequence) (f .check) (f .block) .error) ∷ []) → g .block ≡ nextNumber (f .block)
-      → unreadIn w zs (block b n 0 (judgedBlock ys (f .sequence) (f .check) (f .block) .error))
-      ≡ contentsOf (f .sequence) (f .check) (judgedBlock ys (f .sequence) (f .check) (f .block) .error) ys
+      → line g ≡ line f ++ (block b n 0 (judgedBlock ys (f .sequence) (f .check) (f .block) .found) ∷ []) → g .block ≡ nextNumber (f .block)
+      → unreadIn w zs (block b n 0 (judgedBlock ys (f .sequence) (f .check) (f .block) .found))
+      ≡ contentsOf (f .sequence) (f .check) (judgedBlock ys (f .sequence) (f .check) (f .block) .found) ys
       → Brought w g zs (came ++ (ys ∷ [])) gone
-      (owed ++ (contentsOf (f .sequence) (f .check) (judgedBlock ys (f .sequence) (f .check) (f .block) .error) ys ∷ []))
+      (owed ++ (contentsOf (f .sequence) (f .check) (judgedBlock ys (f .sequence) (f .check) (f .block) .found) ys ∷ []))
   brought-more ys b n still l e c = record {
     lies =
         ap₂ (λ (u : List (List Item)) (v : List Item). u ++ (v ∷ [])) (T .lies ∙ sym still) (sym c)
@@ -68,7 +69,7 @@ module _ (w : ℕ) (f g : File) (xs zs : List ℕ) (came : List (List ℕ)) (gon
     items =
         ap (λ (v : List Item). gone ++ v) (joined-last owed now) ∙ sym (append-assoc gone (joined owed) now)
         ∙ ap (λ (v : List Item). v ++ now) (T .items)
-        ∙ ap (λ (k : ℕ). contents (f .sequence) (f .check) 1 came ++ contentsOf (f .sequence) (f .check) (judgedBlock ys (f .sequence) (f .check) k .error)
+        ∙ ap (λ (k : ℕ). contents (f .sequence) (f .check) 1 came ++ contentsOf (f .sequence) (f .check) (judgedBlock ys (f .sequence) (f .check) k .found)
         ys) (T .number)
         ∙ sym (contents-last (f .sequence) (f .check) 1 came ys) ∙ same-contents (came ++ (ys ∷ []));
     number = e ∙ ap nextNumber (T .number) ∙ sym (number-last 1 came ys);
@@ -76,10 +77,10 @@ module _ (w : ℕ) (f g : File) (xs zs : List ℕ) (came : List (List ℕ)) (gon
   }
     where
       new : Block
-      new = block b n 0 (judgedBlock ys (f .sequence) (f .check) (f .block) .error)
+      new = block b n 0 (judgedBlock ys (f .sequence) (f .check) (f .block) .found)
 
       now : List Item
-      now = contentsOf (f .sequence) (f .check) (judgedBlock ys (f .sequence) (f .check) (f .block) .error) ys
+      now = contentsOf (f .sequence) (f .check) (judgedBlock ys (f .sequence) (f .check) (f .block) .found) ys
 
   -- the oldest block is dropped
   pub brought-less : (b : Block) (rest : List Block) → line f ≡ b ∷ rest → line g ≡ rest → g .block ≡ f .block
@@ -139,11 +140,11 @@ skip-brought w f xs came gone owed full T = go (oldest f) (aged f) full
 
 module _ (m w : ℕ) (f : File) (S : Sound m w f) (xs : List ℕ) (long : m * w ≤ length xs) where
   -- nothing is left of a block that is used up
-  used-nothing : (k : Side) (n at e : ℕ) → slotAt f k ≡ Full n at e → UntoldFirst (block (bufferAt f k .number) n at e) → n ≤ at
+  used-nothing : (k : Side) (n at : ℕ) (e : Checked) → slotAt f k ≡ Full n at e → UntoldFirst (block (bufferAt f k .number) n at e) → n ≤ at
       → unreadIn w xs (block (bufferAt f k .number) n at e) ≡ []
   used-nothing k n at e x (inl z) l =
       let d : n - at ≡ 0 = omega arith in
-      ap (λ (i : ℕ). wrongs i ++ map word (partOf (bufferAt f k .number * w + at) (n - at) xs)) z
+      ap (λ (i : ℕ). wrongsBy i e ++ map word (partOf (bufferAt f k .number * w + at) (n - at) xs)) z
       ∙ ap (λ (i : ℕ). map word (partOf (bufferAt f k .number * w + at) i xs)) d
   used-nothing k n at e x (inr z) l = let N = numbers m w f k n at e S x in absurd (omega (arith, N .some))
 
@@ -152,17 +153,21 @@ module _ (m w : ℕ) (f : File) (S : Sound m w f) (xs : List ℕ) (long : m * w 
   some-left [] rest h = absurd (omega arith)
   some-left (i ∷ items) rest h = refl
 
-  fresh-some : (k : Side) (n at e : ℕ) → isSide k ≡ true → slotAt f k ≡ Full n at e → at < n
+  fresh-some : (k : Side) (n at : ℕ) (e : Checked) → isSide k ≡ true → slotAt f k ≡ Full n at e → at < n
       → 1 ≤ length (unreadIn w xs (block (bufferAt f k .number) n at e))
-  fresh-some k n at (suc e) s x l = omega arith
-  fresh-some k n at zero s x l =
-      let N = numbers m w f k n at 0 S x in
+  fresh-some k n at e s x l =
+      let N = numbers m w f k n at e S x in
       let own = owns-used m w f k S s (ap isEmpty x) in
       let inside : bufferAt f k .number * w + n ≤ m * w =
       buffer-inside m w (bufferAt f k .number) n (number-less m w f S k own) (omega (arith, size-fits m w f S, N .fit)) in
       let long-part : length (partOf (bufferAt f k .number * w + at) (n - at) xs) ≡ n - at =
       length-part (bufferAt f k .number * w + at) (n - at) xs (omega arith) in
-      omega (arith, length-map (partOf (bufferAt f k .number * w + at) (n - at) xs) word, long-part)
+      go (e .error) (omega (arith, length-map (partOf (bufferAt f k .number * w + at) (n - at) xs) word, long-part))
+    where
+      go : (i : ℕ) → 1 ≤ length (map word (partOf (bufferAt f k .number * w + at) (n - at) xs))
+          → 1 ≤ length (wrongsBy i e ++ map word (partOf (bufferAt f k .number * w + at) (n - at) xs))
+      go zero h = h
+      go (suc i) h = omega arith
 
   -- "If that block was used up by an earlier get, it first becomes empty and the next oldest is looked at."
   pub passed-brought : (came : List (List ℕ)) (gone : List Item) (owed : List (List Item)) → Brought w f xs came gone owed

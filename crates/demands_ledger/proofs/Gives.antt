@@ -11,6 +11,8 @@ use lib.Dec.{leb, ltb}
 use lib.ListN.{length}
 use Rattle.area.specs.Parts.{partOf}
 use Rattle.area.proofs.Marks.{cond-true}
+use Rattle.word.specs.Checks.{toldCheck}
+use Rattle.word.specs.declared.Checked.{Checked}
 use Rattle.file.specs.declared.Slot.{Slot}
 use Rattle.file.specs.declared.Slot.the-variants.{Full}
 use Rattle.file.specs.declared.Side.{Side}
@@ -26,7 +28,7 @@ use Rattle.file_input.specs.Histories.{shown}
 use Rattle.state_sound.proofs.FileFacts.{Sound}
 use Rattle.state_sound.proofs.Changes.{numbers, passed-sound}
 use Rattle.pack_record.proofs.Written.{part-join}
-use Rattle.demands_ledger.specs.Ledgers.{Item, word, wrong, givenBy, pastUsed, without}
+use Rattle.demands_ledger.specs.Ledgers.{Item, word, wrong, wrongsBy, givenBy, pastUsed, without}
 use Rattle.demands_ledger.specs.Blocks.{unreadIn}
 use Rattle.demands_ledger.proofs.Told.{Brought}
 use Rattle.demands_ledger.proofs.Lists.{map-append}
@@ -49,10 +51,10 @@ nothing-eaten (items ∷ rest) = refl
 
 module _ (w b r n at : ℕ) (xs : List ℕ) (within : at ≤ n) where
   -- its check error
-  error-given : (t : Bool) (e z : ℕ) (other : Got) → t ≡ true
-      → wrong (suc e) ∷ map word (partOf (b * w + at) (n - at) xs)
-      ≡ gives xs (cond t (Error (suc e)) other) ++ map word (partOf (b * w + (at + cond t 0 z)) (n - (at + cond t 0 z)) xs)
-  error-given true e z other q = ap (λ (i : ℕ). wrong (suc e) ∷ map word (partOf (b * w + i) (n - i) xs)) (sym (add-zero at))
+  error-given : (t : Bool) (e : Checked) (z : ℕ) (other : Got) → t ≡ true
+      → wrong e ∷ map word (partOf (b * w + at) (n - at) xs)
+      ≡ gives xs (cond t (Error e) other) ++ map word (partOf (b * w + (at + cond t 0 z)) (n - (at + cond t 0 z)) xs)
+  error-given true e z other q = ap (λ (i : ℕ). wrong e ∷ map word (partOf (b * w + i) (n - i) xs)) (sym (add-zero at))
   error-given false e z other q = absurd (let k : _≡_ {A = ℕ} 0 1 = cc in omega arith)
 
   -- its next words
@@ -77,10 +79,15 @@ module _ (w b r n at : ℕ) (xs : List ℕ) (within : at ≤ n) where
   no-error : ltb 0 0 ≡ false
   no-error = refl
 
-  pub left-given : (e : ℕ)
-      → unreadIn w xs (block b n at e) ≡ gives xs (foundIn (b * w) r (Full n at e)) ++ unreadIn w xs (block b n (at + wordsGiven r (Full n at e)) 0)
-  left-given (suc e) = error-given (ltb 0 (suc e)) e _ _ (lt-ltb 0 (suc e) (omega arith))
-  left-given zero = words-given (ltb 0 0) (leb r (n - at)) (Error 0) no-error refl
+  pub left-given : (e : Checked)
+      → unreadIn w xs (block b n at e) ≡ gives xs (foundIn (b * w) r (Full n at e)) ++ unreadIn w xs (block b n (at + wordsGiven r (Full n at e)) (toldCheck e))
+  left-given e = go (e .error)
+    where
+      go : (i : ℕ) → wrongsBy i e ++ map word (partOf (b * w + at) (n - at) xs)
+          ≡ gives xs (cond (ltb 0 i) (Error e) (cond (leb r (n - at)) (Record (b * w + at) r) (Leftover (b * w + at) (n - at)))) ++ map word
+          (partOf (b * w + (at + cond (ltb 0 i) 0 (cond (leb r (n - at)) r (n - at)))) (n - (at + cond (ltb 0 i) 0 (cond (leb r (n - at)) r (n - at)))) xs)
+      go (suc i) = error-given (ltb 0 (suc i)) e _ _ (lt-ltb 0 (suc i) (omega arith))
+      go zero = words-given (ltb 0 0) (leb r (n - at)) (Error e) no-error refl
 
 -- ---- get
 
@@ -105,11 +112,11 @@ module _ (m w : ℕ) (f : File) (S : Sound m w f) (xs : List ℕ) where
           (sym (cond-true (foundIn (startAt f w k) (f .rlen) (slotAt f k)) (foundNone (f .marked)) s))
           (subst (λ (y : Slot). To (withSlot f k (slotAfter (f .rlen) y) (f .turned) (f .block)) (gives xs (foundIn (startAt f w k) (f .rlen) y)))
           (sym x)
-          (brought-given w f (withSlot f k (Full n (at + wordsGiven (f .rlen) (Full n at e)) 0) (f .turned) (f .block)) xs xs came gone owed
-          (slot-same f k (Full n (at + wordsGiven (f .rlen) (Full n at e)) 0) (f .turned) (f .block)) T
-          (block (bufferAt f k .number) n at e) (block (bufferAt f k .number) n (at + wordsGiven (f .rlen) (Full n at e)) 0) rest
-          (gives xs (foundIn (startAt f w k) (f .rlen) (Full n at e))) l (moved (at + wordsGiven (f .rlen) (Full n at e)) 0 (f .block))
-          (block-stays f k (Full n (at + wordsGiven (f .rlen) (Full n at e)) 0) (f .turned)) (inl refl)
+          (brought-given w f (withSlot f k (Full n (at + wordsGiven (f .rlen) (Full n at e)) (toldCheck e)) (f .turned) (f .block)) xs xs came gone owed
+          (slot-same f k (Full n (at + wordsGiven (f .rlen) (Full n at e)) (toldCheck e)) (f .turned) (f .block)) T
+          (block (bufferAt f k .number) n at e) (block (bufferAt f k .number) n (at + wordsGiven (f .rlen) (Full n at e)) (toldCheck e)) rest
+          (gives xs (foundIn (startAt f w k) (f .rlen) (Full n at e))) l (moved (at + wordsGiven (f .rlen) (Full n at e)) (toldCheck e) (f .block))
+          (block-stays f k (Full n (at + wordsGiven (f .rlen) (Full n at e)) (toldCheck e)) (f .turned)) (inl refl)
           (left-given w (bufferAt f k .number) (f .rlen) n at xs (numbers m w f k n at e S x .place) e)))
 
 pub get-brought : (m w : ℕ) (f : File) → Sound m w f → (xs : List ℕ) → m * w ≤ length xs

@@ -12,6 +12,7 @@ use lib.Seq.{take-take, drop-drop}
 use Rattle.area.specs.Parts.{partOf}
 use Rattle.area.proofs.Walks.{true-not-false, and-left}
 use Rattle.area.proofs.Marks.{cond-true}
+use Rattle.word.specs.declared.Checked.{Checked}
 use Rattle.file.specs.declared.Slot.{Slot}
 use Rattle.file.specs.declared.Slot.the-variants.{Empty, Taken, Part, Full}
 use Rattle.file.specs.declared.Side.{Side}
@@ -36,14 +37,14 @@ use Rattle.demands_ledger.proofs.Lists.{all-append, map-same}
 
 -- ---- what holds of every full block
 
-all-in : (P : Block → Type 0) (b : ℕ) (x : Slot) → ((n at e : ℕ) → x ≡ Full n at e → P (block b n at e)) → All P (fullIn b x)
+all-in : (P : Block → Type 0) (b : ℕ) (x : Slot) → ((n at : ℕ) (e : Checked) → x ≡ Full n at e → P (block b n at e)) → All P (fullIn b x)
 all-in P b Empty h = none
 all-in P b Taken h = none
 all-in P b (Part n) h = none
 all-in P b (Full n at e) h = more (h n at e refl) none
 
 pub all-line : (P : Block → Type 0) (f : File)
-    → ((k : Side) (n at e : ℕ) → isSide k ≡ true → slotAt f k ≡ Full n at e → P (block (bufferAt f k .number) n at e))
+    → ((k : Side) (n at : ℕ) (e : Checked) → isSide k ≡ true → slotAt f k ≡ Full n at e → P (block (bufferAt f k .number) n at e))
     → All P (line f)
 unfolding line
 all-line P f h = go (f .turned)
@@ -82,7 +83,7 @@ same-first w b n xs zs h e = sym (take-take n w (drop (b * w) zs) h) ∙ ap (tak
 module _ (m w : ℕ) (f : File) (S : Sound m w f) where
   module _ (xs zs : List ℕ) (same : (k : Side) → owns f k ≡ true → isFull (slotAt f k) ≡ true → partOf (bufferAt f k .number * w) w zs ≡ partOf
       (bufferAt f k .number * w) w xs) where
-    there : (k : Side) (n at e : ℕ) → isSide k ≡ true → slotAt f k ≡ Full n at e
+    there : (k : Side) (n at : ℕ) (e : Checked) → isSide k ≡ true → slotAt f k ≡ Full n at e
         → partOf (bufferAt f k .number * w) w zs ≡ partOf (bufferAt f k .number * w) w xs
     there k n at e s x = same k (owns-used m w f k S s (ap isEmpty x)) (ap isFull x)
 

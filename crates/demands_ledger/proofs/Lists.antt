@@ -23,12 +23,12 @@ checked-last s c k [] d = refl
 checked-last s c k (x ∷ ds) d = ap (λ (l : List (List ℕ)). checked s c k x ∷ l) (checked-last s c (nextNumber k) ds d)
 
 pub contents-last : (s c : Bool) (k : ℕ) (bs : List (List ℕ)) (b : List ℕ)
-    → contents s c k (bs ++ (b ∷ [])) ≡ contents s c k bs ++ contentsOf s c (judgedBlock b s c (numberAfter k bs) .error) b
+    → contents s c k (bs ++ (b ∷ [])) ≡ contents s c k bs ++ contentsOf s c (judgedBlock b s c (numberAfter k bs) .found) b
 unfolding contents numberAfter
 contents-last s c k [] b = append-nil _
 contents-last s c k (x ∷ bs) b =
-    ap (λ l. contentsOf s c (judgedBlock x s c k .error) x ++ l) (contents-last s c (nextNumber k) bs b)
-    ∙ sym (append-assoc (contentsOf s c (judgedBlock x s c k .error) x) (contents s c (nextNumber k) bs) _)
+    ap (λ l. contentsOf s c (judgedBlock x s c k .found) x ++ l) (contents-last s c (nextNumber k) bs b)
+    ∙ sym (append-assoc (contentsOf s c (judgedBlock x s c k .found) x) (contents s c (nextNumber k) bs) _)
 
 pub number-last : (k : ℕ) (bs : List (List ℕ)) (b : List ℕ) → numberAfter k (bs ++ (b ∷ [])) ≡ nextNumber (numberAfter k bs)
 unfolding numberAfter

@@ -18,6 +18,9 @@ use Rattle.channel_outcomes.specs.Rules.{resultNumber, outcomeCount}
 use Rattle.channel_turns.specs.Scans.{workingIn, unitNumber}
 use Rattle.channel.specs.Units.{turnAt, operationAt, unitCount}
 use Rattle.channel_turns.specs.Turns.{judgeOf, bookOf}
+use Rattle.call_request.specs.declared.Delivery.the-variants.{Without, With}
+use Rattle.word.specs.Checks.{unchecked}
+use Rattle.word.specs.declared.Checked.{Checked}
 use Rattle.file.specs.declared.Side.{Side}
 use Rattle.file.specs.declared.File.{File}
 use Rattle.file.specs.Sides.{bufferAt, startAt, takenSide}
@@ -38,7 +41,7 @@ use Rattle.call_request.specs.declared.Effect.{Effect}
 use Rattle.call_request.specs.declared.Effect.the-variants.{Delivers, MeetsMark, GivesBack, Sends, Keeps}
 use Rattle.call_request.specs.declared.ReportChange.{ReportChange}
 use Rattle.call_request.specs.Effects.{isDelivery}
-use Rattle.call_request.specs.Report.{effectAt, shownStart, shownCount, reportRefusal, deliveryError, reportedFile, reportedArea, reportOn, reportOnArea}
+use Rattle.call_request.specs.Report.{effectAt, shownStart, shownCount, reportRefusal, deliveryCheck, deliveryOf, toldBy, reportedFile, reportedArea, reportOn, reportOnArea}
 use Rattle.pack_request.specs.Calls.{fileOf, reportWrong, reportChange, reportBy, reportByArea}
 use Rattle.pack_request.proofs.Changed.{here-file}
 use Rattle.pack_request.proofs.ReportTheorems.{booked, ReportReady, report-ready, report-exactly, report-frame, isOpen, requested-ready, report-books-own}
@@ -103,12 +106,12 @@ module _ (s : State) (area : List ℕ) (ledgers : ℕ → Ledger) (K : Kept s ar
   abbrev madeLedger : Effect → Ledger
   madeLedger x =
       plus L (meets x) (asBlock (partOf (shownStart x (s .w) f) (shownCount x f) (reportedArea x f (s .w) words area))) (asBlock words)
-      (owedFor (L .chosen .sequence) (L .chosen .check) (deliveryError x f words) words)
+      (owedFor (L .chosen .sequence) (L .chosen .check) (deliveryCheck x f words) words)
 
   nothing-more : (g : File) (mark : Bool) → words ≡ [] → Told (s .w) g area (marking (mark || L .marked) L)
-      → Told (s .w) g area (plus L mark [] (asBlock words) (owedFor (L .chosen .sequence) (L .chosen .check) 0 words))
+      → Told (s .w) g area (plus L mark [] (asBlock words) (owedFor (L .chosen .sequence) (L .chosen .check) unchecked words))
   nothing-more g mark e T =
-      subst (λ (ws : List ℕ). Told (s .w) g area (plus L mark [] (asBlock ws) (owedFor (L .chosen .sequence) (L .chosen .check) 0 ws))) (sym e)
+      subst (λ (ws : List ℕ). Told (s .w) g area (plus L mark [] (asBlock ws) (owedFor (L .chosen .sequence) (L .chosen .check) unchecked ws))) (sym e)
       (subst (Told (s .w) g area) (plus-none L mark) T)
 
   pub sending : isWrite (operationAt c unit) ≡ true → (f .output ≡ true) × (hasFull f ≡ true)
@@ -116,7 +119,7 @@ module _ (s : State) (area : List ℕ) (ledgers : ℕ → Ledger) (K : Kept s ar
   sending h = write-ready (turnAt c unit) f h (requested-ready s area channel unit outcome words (K .good .sixteen) number)
 
   told-reported : (x : Effect) → effect ≡ x
-      → Told (s .w) (reportedFile x f (length words) (deliveryError x f words)) (reportedArea x f (s .w) words area) (madeLedger x)
+      → Told (s .w) (reportedFile x f (length words) (deliveryCheck x f words)) (reportedArea x f (s .w) words area) (madeLedger x)
   unfolding reportedFile reportedArea afterWrite
   told-reported Delivers e =
       let d : isDelivery effect ≡ true = ap isDelivery e in
@@ -130,7 +133,7 @@ module _ (s : State) (area : List ℕ) (ledgers : ℕ → Ledger) (K : Kept s ar
       let R = sending writes in
       subst (λ (ws : List ℕ). Told (s .w) (withoutOldest f) area
       (plus L false (asBlock (partOf (sendStart (s .w) f) (sendWords f) area)) (asBlock ws)
-      (owedFor (L .chosen .sequence) (L .chosen .check) 0 ws)))
+      (owedFor (L .chosen .sequence) (L .chosen .check) unchecked ws)))
       (sym (no-words (ap isDelivery e)))
       (told-sent (s .m) (s .w) f S area long L open-file (R .0) (R .1) (K .told i))
   told-reported Keeps e = nothing-more f false (no-words (ap isDelivery e)) (K .told i)
@@ -138,11 +141,11 @@ module _ (s : State) (area : List ℕ) (ledgers : ℕ → Ledger) (K : Kept s ar
   pub change : reportChange s area channel unit outcome words ≡ record {
     refusal = 0;
     result = resultNumber (judgeOf c unit outcome);
-    error = deliveryError effect f words;
+    delivery = deliveryOf effect (deliveryCheck effect f words);
     working = unitNumber (workingIn (bookOf c unit (judgeOf c unit outcome) (s .frozen)));
     start = shownStart effect (s .w) f;
     count = shownCount effect f;
-    file = reportedFile effect f (length words) (deliveryError effect f words);
+    file = reportedFile effect f (length words) (deliveryCheck effect f words);
     channel = bookOf c unit (judgeOf c unit outcome) (s .frozen);
   }
   unfolding reportOn
@@ -150,6 +153,15 @@ module _ (s : State) (area : List ℕ) (ledgers : ℕ → Ledger) (K : Kept s ar
 
   met : eqb (resultNumber (judgeOf c unit outcome)) 3 ≡ meets effect
   met = mark-met c unit outcome (booked c unit outcome (ready .works) (ready .allowed))
+
+  -- what the answer tells of the delivery is what was found
+  told-delivery : toldBy (deliveryOf effect (deliveryCheck effect f words)) ≡ deliveryCheck effect f words
+  told-delivery = go (isDelivery effect)
+    where
+      go : (b : Bool) → toldBy (cond b (With (cond b (judgedBlock words (f .sequence) (f .check) (f .block) .found) unchecked)) Without)
+          ≡ cond b (judgedBlock words (f .sequence) (f .check) (f .block) .found) unchecked
+      go true = refl
+      go false = refl
 
   -- the file after it stands in its place
   after-file : fileAt (reportBy s area channel unit outcome words .state) i ≡ reportChange s area channel unit outcome words .file
@@ -220,26 +232,30 @@ module _ (s : State) (area : List ℕ) (ledgers : ℕ → Ledger) (K : Kept s ar
       (subst (Told (s .w) (reportChange s area channel unit outcome words .file) zs) (sym noting-here)
       (subst (λ (x : ReportChange). Told (s .w) (x .file) zs
       (plus L (eqb (x .result) 3) (asBlock (partOf (x .start) (x .count) zs)) (asBlock words)
-      (owedFor (L .chosen .sequence) (L .chosen .check) (x .error) words))) (sym change)
-      (subst (λ (mark : Bool). Told (s .w) (reportedFile effect f (length words) (deliveryError effect f words)) zs
+      (owedFor (L .chosen .sequence) (L .chosen .check) (toldBy (x .delivery)) words))) (sym change)
+      (subst (λ (e : Checked). Told (s .w) (reportedFile effect f (length words) (deliveryCheck effect f words)) zs
+      (plus L (eqb (resultNumber (judgeOf c unit outcome)) 3) (asBlock (partOf (shownStart effect (s .w) f) (shownCount effect f) zs)) (asBlock words)
+      (owedFor (L .chosen .sequence) (L .chosen .check) e words))) (sym told-delivery)
+      (subst (λ (mark : Bool). Told (s .w) (reportedFile effect f (length words) (deliveryCheck effect f words)) zs
       (plus L mark (asBlock (partOf (shownStart effect (s .w) f) (shownCount effect f) zs)) (asBlock words)
-      (owedFor (L .chosen .sequence) (L .chosen .check) (deliveryError effect f words) words))) (sym met)
-      (subst (λ (ys : List ℕ). Told (s .w) (reportedFile effect f (length words) (deliveryError effect f words)) ys
+      (owedFor (L .chosen .sequence) (L .chosen .check) (deliveryCheck effect f words) words))) (sym met)
+      (subst (λ (ys : List ℕ). Told (s .w) (reportedFile effect f (length words) (deliveryCheck effect f words)) ys
       (plus L (meets effect) (asBlock (partOf (shownStart effect (s .w) f) (shownCount effect f) ys)) (asBlock words)
-      (owedFor (L .chosen .sequence) (L .chosen .check) (deliveryError effect f words) words))) (sym after-area)
-      (told-reported effect refl))))))
+      (owedFor (L .chosen .sequence) (L .chosen .check) (deliveryCheck effect f words) words))) (sym after-area)
+      (told-reported effect refl)))))))
 
-  -- the error that it answers is the judgement of the words as delivered, with the number that the block is due
+  -- what it answers of the block is the judgement of the words as delivered, with the number that the block is due
   pub report-judged : words ≢ []
-      → reportBy s area channel unit outcome words .error ≡ judgedBlock words (f .sequence) (f .check) (numberAfter 1 (L .came)) .error
+      → reportBy s area channel unit outcome words .delivery ≡ With (judgedBlock words (f .sequence) (f .check) (numberAfter 1 (L .came)) .found)
   unfolding reportBy
   report-judged some = go (isDelivery effect) refl
     where
       go : (t : Bool) → isDelivery effect ≡ t
-          → reportChange s area channel unit outcome words .error ≡ judgedBlock words (f .sequence) (f .check) (numberAfter 1 (L .came)) .error
+          → reportChange s area channel unit outcome words .delivery ≡ With (judgedBlock words (f .sequence) (f .check) (numberAfter 1 (L .came)) .found)
       go true d =
           let D = report-delivers s area channel unit outcome words (K .good .sixteen) number d in
-          ap (λ (x : ReportChange). x .error) change ∙ cond-true (judgedBlock words (f .sequence) (f .check) (f .block) .error) 0 d
-          ∙ ap (λ (n : ℕ). judgedBlock words (f .sequence) (f .check) n .error)
+          ap (λ (x : ReportChange). x .delivery) change ∙ cond-true (With (deliveryCheck effect f words)) Without d
+          ∙ ap With (cond-true (judgedBlock words (f .sequence) (f .check) (f .block) .found) unchecked d)
+          ∙ ap (λ (n : ℕ). With (judgedBlock words (f .sequence) (f .check) n .found))
           (K .told i .brought open-file (taken-input (s .m) (s .w) f S (D .side)) .number)
       go false d = absurd (some (no-words d))

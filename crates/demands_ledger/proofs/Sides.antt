@@ -8,6 +8,7 @@ use lib.Dec.{ltb}
 use Rattle.area.specs.Parts.{partOf}
 use Rattle.area.proofs.Walks.{true-not-false}
 use Rattle.file.proofs.SlotLaws.{empty-words}
+use Rattle.word.specs.declared.Checked.{Checked}
 use Rattle.file.specs.declared.Slot.{Slot}
 use Rattle.file.specs.declared.Slot.the-variants.{Empty, Taken, Part, Full}
 use Rattle.file.specs.declared.Side.{Side}
@@ -157,7 +158,7 @@ module _ (f : File) (k : Side) (s : isSide k ≡ true) (alone : isPart (other f 
       go Neither = refl
 
   -- a full block in buffer k: there is none
-  pub part-gone : (w n at e : ℕ) (t : Bool) (b : ℕ) (zs : List ℕ) → partIn w (withSlot f k (Full n at e) t b) zs ≡ []
+  pub part-gone : (w n at : ℕ) (e : Checked) (t : Bool) (b : ℕ) (zs : List ℕ) → partIn w (withSlot f k (Full n at e) t b) zs ≡ []
   unfolding partLength partSide
   part-gone w n at e t b zs = ap (λ (j : ℕ). partOf (partStart w (withSlot f k (Full n at e) t b)) j zs) (go k s alone)
     where
@@ -214,7 +215,7 @@ part-same m w f S xs zs same = go (isSide (partSide f)) refl
   where
     go : (t : Bool) → isSide (partSide f) ≡ t → partIn w f zs ≡ partIn w f xs
     go true s =
-        let N = part-numbers (f .output) (f .size) (f .rlen) (slotAt f (partSide f)) (slot-fits m w f (partSide f) S) (part-there f s) in
+        let N = part-numbers (f .sequence) (f .check) (f .output) (f .size) (f .rlen) (slotAt f (partSide f)) (slot-fits m w f (partSide f) S) (part-there f s) in
         same-first w (bufferAt f (partSide f) .number) (partWords (slotAt f (partSide f))) xs zs (omega (arith, size-fits m w f S, N .1))
         (same (partSide f) (own-part m w f S s))
     go false s =

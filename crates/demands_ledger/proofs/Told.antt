@@ -27,7 +27,7 @@ pub record Wrote (w : ℕ) (f : File) (area puts : List ℕ) (sent : List (List 
 
 -- an untold error is of a block of which nothing was given
 abbrev pub UntoldFirst : Block → Type 0
-UntoldFirst b = (b .error ≡ 0) ⊎ (b .place ≡ 0)
+UntoldFirst b = (b .found .error ≡ 0) ⊎ (b .place ≡ 0)
 
 -- an input file: what is owed lies unread in the area; what is gone and what is owed are what was delivered
 pub record Brought (w : ℕ) (f : File) (area : List ℕ) (came : List (List ℕ)) (gone : List Item) (owed : List (List Item)) : Type 0 where

@@ -24,7 +24,7 @@ blockIn w e area b = partOf (b .number * w) (b .words + e) area
 
 -- what get has not given of a block
 abbrev pub unreadIn : ℕ → List ℕ → Block → List Item
-unreadIn w area b = wrongs (b .error) ++ map word (partOf (b .number * w + b .place) (b .words - b .place) area)
+unreadIn w area b = wrongs (b .found) ++ map word (partOf (b .number * w + b .place) (b .words - b .place) area)
 
 -- the full blocks of a file, the oldest first
 abbrev pub blocksIn : ℕ → File → List ℕ → List (List ℕ)
@@ -53,11 +53,12 @@ unfoldable pub joined : {A : Type 0} → List (List A) → List A
 joined [] = []
 joined (x ∷ xs) = x ++ joined xs
 
--- what a reader must meet in blocks that were delivered in this order, numbered from k on: the error of each is its judgement as delivered
+-- what a reader must meet in blocks that were delivered in this order, numbered from k on: the error of each, with what was found, is its judgement
+-- as delivered
 unfoldable pub contents : Bool → Bool → ℕ → List (List ℕ) → List Item
 contents sequence check k [] = []
 contents sequence check k (words ∷ rest) =
-    contentsOf sequence check (judgedBlock words sequence check k .error) words ++ contents sequence check (nextNumber k) rest
+    contentsOf sequence check (judgedBlock words sequence check k .found) words ++ contents sequence check (nextNumber k) rest
 
 -- the number after so many blocks
 unfoldable pub numberAfter : ℕ → List (List ℕ) → ℕ

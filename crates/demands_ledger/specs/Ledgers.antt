@@ -4,7 +4,11 @@ use mathlib.Core.Bool.{Bool, true, false, cond, _&&_, _||_}
 use mathlib.Core.List.{List, [], _∷_, _++_, map}
 use lib.Dec.{eqb}
 use lib.ListN.{length, take, drop}
+use Rattle.word.specs.declared.Checked.{Checked}
 use Rattle.word.specs.CheckWords.{extra}
+use Rattle.call_request.specs.declared.Delivery.{Delivery}
+use Rattle.call_request.specs.declared.Delivery.the-variants.{Without}
+use Rattle.call_request.specs.Report.{toldBy}
 use Rattle.file_input.specs.declared.Got.{Got}
 use Rattle.file_input.specs.declared.Got.the-variants.{Record, Leftover, Error, End, Nothing}
 use Rattle.state.specs.declared.State.{State}
@@ -12,9 +16,10 @@ use Rattle.call_open.specs.Open.{isSet}
 use Rattle.pack.specs.Calls.{Call, fresh, opening, close, ask, report, get, put, seal, skip, freeze, thaw, Added, nothing, working, reported, got, Answer, answerOf}
 use Rattle.pack.specs.Histories.{isAccepted}
 
--- what a reader meets: the check error of a block, and its words
+-- what a reader meets: a block in error, by all that its check found, and the words of a block
 pub data Item : Type 0 where
-  word wrong : ℕ → Item
+  word : ℕ → Item
+  wrong : Checked → Item
 
 -- what the open of a file chose: its channel and unit, the fields of the check word, the block size B and the record length r
 pub record Choice : Type 0 where
@@ -77,30 +82,34 @@ asBlock (x ∷ xs) = (x ∷ xs) ∷ []
 abbrev pub dataOf : Bool → Bool → List ℕ → List ℕ
 dataOf sequence check words = take (length words - extra sequence check) words
 
--- a check error, if there is one
-abbrev pub wrongs : ℕ → List Item
-wrongs zero = []
-wrongs (suc e) = wrong (suc e) ∷ []
+-- a check error, if there is one, with all that was found
+abbrev pub wrongsBy : ℕ → Checked → List Item
+wrongsBy zero found = []
+wrongsBy (suc e) found = wrong found ∷ []
 
--- what is owed of a delivered block: its check error, and then its data words
-abbrev pub contentsOf : Bool → Bool → ℕ → List ℕ → List Item
-contentsOf sequence check error words = wrongs error ++ map word (dataOf sequence check words)
+abbrev pub wrongs : Checked → List Item
+wrongs found = wrongsBy (found .error) found
 
-abbrev pub owedFor : Bool → Bool → ℕ → List ℕ → List (List Item)
-owedFor sequence check error [] = []
-owedFor sequence check error (x ∷ xs) = contentsOf sequence check error (x ∷ xs) ∷ []
+-- what is owed of a delivered block: its check error with what was found, and then its data words
+abbrev pub contentsOf : Bool → Bool → Checked → List ℕ → List Item
+contentsOf sequence check found words = wrongs found ++ map word (dataOf sequence check words)
 
-abbrev pub toldError : Added → ℕ
-toldError nothing = 0
-toldError (working u) = 0
-toldError (reported result error u) = error
-toldError (got g) = 0
+abbrev pub owedFor : Bool → Bool → Checked → List ℕ → List (List Item)
+owedFor sequence check found [] = []
+owedFor sequence check found (x ∷ xs) = contentsOf sequence check found (x ∷ xs) ∷ []
+
+-- what a report's answer tells of the block that it delivers: "after the error number, worked-out sum and number first, then those read"
+abbrev pub toldDelivery : Added → Delivery
+toldDelivery nothing = Without
+toldDelivery (working u) = Without
+toldDelivery (reported result delivery u) = delivery
+toldDelivery (got g) = Without
 
 -- "results are .. 03 mark"
 abbrev pub isMark : Added → Bool
 isMark nothing = false
 isMark (working u) = false
-isMark (reported result error u) = eqb result 3
+isMark (reported result delivery u) = eqb result 3
 isMark (got g) = false
 
 -- a report: the block delivered with it, the block that its answer shows, and whether it read a mark
@@ -115,7 +124,7 @@ withReport words a g = record {
   came = g .came ++ asBlock words;
   marked = isMark (a .added) || g .marked;
   gone = g .gone;
-  owed = g .owed ++ owedFor (g .chosen .sequence) (g .chosen .check) (toldError (a .added)) words;
+  owed = g .owed ++ owedFor (g .chosen .sequence) (g .chosen .check) (toldBy (toldDelivery (a .added))) words;
 }
 
 abbrev pub withAsk : ℕ → Ledger → Ledger
@@ -132,18 +141,18 @@ withAsk op g = record {
   owed = g .owed;
 }
 
--- what get gave: a check error, or the words that its answer shows
+-- what get gave: a check error with what was found, or the words that its answer shows
 abbrev pub givenBy : Got → List ℕ → List Item
 givenBy (Record start n) words = map word words
 givenBy (Leftover start n) words = map word words
-givenBy (Error e) words = wrong e ∷ []
+givenBy (Error found) words = wrong found ∷ []
 givenBy End words = []
 givenBy Nothing words = []
 
 abbrev pub given : Added → List ℕ → List Item
 given nothing words = []
 given (working u) words = []
-given (reported result error u) words = []
+given (reported result delivery u) words = []
 given (got g) words = givenBy g words
 
 -- "If that block was used up by an earlier get, it first becomes empty and the next oldest is looked at."

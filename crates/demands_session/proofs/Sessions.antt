@@ -6,6 +6,7 @@ use mathlib.Core.Bool.{true, false}
 use mathlib.Core.Option.{Option, none, some}
 use mathlib.Core.List.{List, [], _∷_, _++_}
 use lib.ListN.{length}
+use Rattle.call_request.specs.declared.Delivery.the-variants.{With}
 use Rattle.word.specs.CheckWords.{blockNumbers}
 use Rattle.block.specs.Blocks.{judgedBlock}
 use Rattle.pool.specs.Serving.{serves}
@@ -17,7 +18,7 @@ use Rattle.pack.specs.Calls.{Call, fresh, opening, close, ask, report, get, ski
 use Rattle.pack.specs.Histories.{after, count, freshStart, declaredOn}
 use Rattle.pack.specs.Books.{Book, Opened, toldResult, blankBook, bookedAt as inBook, bookAfter, openedAfter}
 use Rattle.pack.proofs.Kept.{good-start, history-kept}
-use Rattle.demands_ledger.specs.Ledgers.{Ledger, blankLedger, toldError, isOn, noted, stateAfter, areaAfter, ledgerAfter}
+use Rattle.demands_ledger.specs.Ledgers.{Ledger, blankLedger, toldDelivery, isOn, noted, stateAfter, areaAfter, ledgerAfter}
 use Rattle.demands_ledger.specs.Blocks.{blocksIn, unreadOf, joined}
 use Rattle.demands.specs.Demands.{Refuses, Holds, Frees, Takes, Books, dataIn, Writes, Reads, Answers, AnswersUrgent}
 use Rattle.demands.specs.Results.{Results, Forbids}
@@ -238,12 +239,12 @@ module _ (ks : List (List ℕ)) (l : List ℕ) (m w : ℕ) (masks : Masks) (isFr
 
   pub session2-judged : (later : List (List ℕ)) (i channel unit outcome : ℕ) (words : List ℕ) → serves channel unit (fileAt (stateThen later) i) ≡ true
       → words ≢ [] → answerOf (stateThen later) (areaThen later) (report channel unit outcome words) .refusal ≡ 0
-      → toldError (answerOf (stateThen later) (areaThen later) (report channel unit outcome words) .added)
-      ≡ judgedBlock words (fileAt (stateThen later) i .sequence) (fileAt (stateThen later) i .check) ((1 + length (accountThen later i .came)) % blockNumbers) .error
+      → toldDelivery (answerOf (stateThen later) (areaThen later) (report channel unit outcome words) .added)
+      ≡ With (judgedBlock words (fileAt (stateThen later) i .sequence) (fileAt (stateThen later) i .check) ((1 + length (accountThen later i .came)) % blockNumbers) .found)
   session2-judged later i channel unit outcome words =
       so (λ s xs. serves channel unit (fileAt s i) ≡ true → words ≢ [] → answerOf s xs (report channel unit outcome words) .refusal ≡ 0
-      → toldError (answerOf s xs (report channel unit outcome words) .added)
-      ≡ judgedBlock words (fileAt s i .sequence) (fileAt s i .check) ((1 + length (accountThen later i .came)) % blockNumbers) .error) later
+      → toldDelivery (answerOf s xs (report channel unit outcome words) .added)
+      ≡ With (judgedBlock words (fileAt s i .sequence) (fileAt s i .check) ((1 + length (accountThen later i .came)) % blockNumbers) .found)) later
       (demand2-judged (stateIn ks) (areaIn ks) m w masks started (callsIn later) i channel unit outcome words)
 
   -- records and blocks follow document 01: what an accepted get answers, what a skip drops, how the words put are divided, and which block a

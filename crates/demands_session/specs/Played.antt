@@ -9,11 +9,11 @@ use Rattle.session_frame.specs.declared.Frame.{Frame}
 use Rattle.session_frame.specs.declared.Frame.the-variants as frame
 use Rattle.session_frame.specs.Frames.{frameOf}
 use Rattle.session_frame.specs.declared.Answer as said
-use Rattle.session_frame.specs.declared.Answer.the-variants.{Refused, Done, Asked, Reported}
+use Rattle.session_frame.specs.declared.Answer.the-variants.{Refused, Done, Asked}
 use Rattle.session_frame.specs.Answers.{answerText}
 use Rattle.state.specs.declared.State.{State}
 use Rattle.state.specs.Places.{beforeStart}
-use Rattle.session_reply.specs.Replies.{answerOr, masksOf, gotAnswer, givenWords}
+use Rattle.session_reply.specs.Replies.{answerOr, masksOf, gotAnswer, givenWords, reportAnswer}
 use Rattle.session.specs.Session.{Course, playLines, areaWords}
 use Rattle.pack.specs.Calls.{Call, fresh, opening, close, ask, report, get, put, seal, skip, freeze, thaw, Added, nothing, working, reported, got, Answer, answerOf}
 use Rattle.pack.specs.Histories.{Lent}
@@ -55,7 +55,7 @@ callsIn (l ∷ ls) = consOf (callIn l) (callsIn ls)
 abbrev pub saidBy : Added → said.Answer
 saidBy nothing = Done
 saidBy (working u) = Asked u
-saidBy (reported result error u) = Reported result error u
+saidBy (reported result delivery u) = reportAnswer result delivery u
 saidBy (got g) = gotAnswer g
 
 -- the line of an answer: "First byte 00 or the refusal."

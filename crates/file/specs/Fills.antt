@@ -8,6 +8,7 @@ use Rattle.file.specs.declared.Side.the-variants.{Low, High, Neither}
 use Rattle.file.specs.declared.File.{File}
 use Rattle.file.specs.Slots.{isFull}
 use Rattle.file.specs.Sides.{oldest}
+use Rattle.word.specs.declared.Checked.{Checked}
 use Rattle.word.specs.CheckWords.{nextNumber}
 
 -- the file with x in buffer k, the order of its full blocks and its next block number; as it is if k is none
@@ -52,9 +53,9 @@ turnedBy f Low = isFull (f .high .slot)
 turnedBy f High = false
 turnedBy f Neither = false
 
--- a block of n data words with check error e is full in buffer k, the youngest; "block numbers .. go up by one for every block sealed or delivered"
-unfoldable pub filledAt : File → Side → ℕ → ℕ → File
-filledAt f k n e = withSlot f k (Full n 0 e) (turnedBy f k) (nextNumber (f .block))
+-- a block of n data words, with what its check found, is full in buffer k, the youngest; "block numbers .. go up by one for every block sealed or delivered"
+unfoldable pub filledAt : File → Side → ℕ → Checked → File
+filledAt f k n found = withSlot f k (Full n 0 found) (turnedBy f k) (nextNumber (f .block))
 
 -- buffer k is empty
 unfoldable pub emptiedAt : File → Side → File

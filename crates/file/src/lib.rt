@@ -22,6 +22,7 @@ pub use sizes::closed_file;
 pub use sizes::opened_file;
 pub use sizes::sizes_fit;
 pub use slots::full_error;
+pub use slots::full_found;
 pub use slots::full_place;
 pub use slots::full_words;
 pub use slots::is_empty;
@@ -29,18 +30,16 @@ pub use slots::is_full;
 pub use slots::is_part;
 pub use slots::is_taken;
 pub use slots::part_words;
+use word::Checked;
 
 // What one buffer of an open file holds: nothing; what a read is to bring; n words that were put; or a full block of so many data words,
-// with the place of get in it and its check error that was not told yet.
+// with the place of get in it and what its check found at delivery, the error 0 once it was told; all zero in a block that was sealed.
 pub enum Slot {
     Empty,
     Taken,
     Part(u16),
-    Full { words: u16, at: u16, error: u8 },
+    Full { words: u16, at: u16, found: Checked },
 }
-
-// Check errors are up to this.
-pub const LAST_ERROR: u8 = 3;
 
 // A buffer of the pool, and what it holds.
 pub struct Buffer {

@@ -5,6 +5,7 @@ use crate::Side;
 use crate::Slot;
 use crate::sides::oldest;
 use crate::slots::is_full;
+use word::Checked;
 use word::next_number;
 ghost use mathlib.Core.Path.{_≡_};
 ghost use Rattle.file.specs.Fills.{withSlot, turnedBy, filledAt, emptiedAt, withoutOldest};
@@ -53,16 +54,16 @@ fn turned_by(f: File, k: Side) -> bool
     }
 }
 
-// A block of this many data words, with this check error, is full in that buffer, the youngest; the block number goes up by one.
-pub fn filled_at(f: File, k: Side, words: u16, error: u8) -> File
-    ensures { λ r. ⌜ r ≡ filledAt f k words error ⌝ }
+// A block of this many data words, with what its check found, is full in that buffer, the youngest; the block number goes up by one.
+pub fn filled_at(f: File, k: Side, words: u16, found: Checked) -> File
+    ensures { λ r. ⌜ r ≡ filledAt f k words found ⌝ }
 {
     let turned = turned_by(f, k);
     let next = next_number(f.block);
     let x = Slot::Full {
         words: words,
         at: 0,
-        error: error,
+        found: found,
     };
     with_slot(f, k, x, turned, next)
 }

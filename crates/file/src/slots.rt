@@ -1,7 +1,9 @@
 // What a slot is, and the numbers in it; 0 where it has none.
 use crate::Slot;
+use word::Checked;
+use word::not_checked;
 ghost use mathlib.Core.Path.{_≡_};
-ghost use Rattle.file.specs.Slots.{slotKind, isEmpty, isTaken, isPart, isFull, partWords, fullWords, fullPlace, fullError};
+ghost use Rattle.file.specs.Slots.{slotKind, isEmpty, isTaken, isPart, isFull, partWords, fullWords, fullPlace, fullFound, fullError};
 
 // What a slot is, as a number.
 const EMPTY: u8 = 0;
@@ -22,7 +24,7 @@ fn kind(x: Slot) -> u8
         Slot::Full {
             words: _,
             at: _,
-            error: _,
+            found: _,
         } => FULL,
     }
 }
@@ -66,7 +68,7 @@ pub fn part_words(x: Slot) -> u16
         Slot::Full {
             words: _,
             at: _,
-            error: _,
+            found: _,
         } => 0,
     }
 }
@@ -82,7 +84,7 @@ pub fn full_words(x: Slot) -> u16
         Slot::Full {
             words,
             at: _,
-            error: _,
+            found: _,
         } => words,
     }
 }
@@ -98,8 +100,24 @@ pub fn full_place(x: Slot) -> u16
         Slot::Full {
             words: _,
             at,
-            error: _,
+            found: _,
         } => at,
+    }
+}
+
+// What the check of a full block found; its error has not been told yet. All zero where there is no block.
+pub fn full_found(x: Slot) -> Checked
+    ensures { λ r. ⌜ r ≡ fullFound x ⌝ }
+{
+    match x {
+        Slot::Empty => not_checked(),
+        Slot::Taken => not_checked(),
+        Slot::Part(_) => not_checked(),
+        Slot::Full {
+            words: _,
+            at: _,
+            found,
+        } => found,
     }
 }
 
@@ -107,14 +125,6 @@ pub fn full_place(x: Slot) -> u16
 pub fn full_error(x: Slot) -> u8
     ensures { λ r. ⌜ r ≡ fullError x ⌝ }
 {
-    match x {
-        Slot::Empty => 0,
-        Slot::Taken => 0,
-        Slot::Part(_) => 0,
-        Slot::Full {
-            words: _,
-            at: _,
-            error,
-        } => error,
-    }
+    let c = full_found(x);
+    c.error
 }

@@ -14,6 +14,9 @@ use lib.Seq.{take-add, drop-drop}
 use Rattle.area.specs.Parts.{partOf}
 use Rattle.area.proofs.Walks.{true-not-false}
 use Rattle.area.proofs.Marks.{cond-true, cond-false}
+use Rattle.word.specs.declared.Checked.{Checked}
+use Rattle.word.specs.Checks.{toldCheck}
+use Rattle.word.proofs.Laws.Checks.{told-none}
 use Rattle.file.specs.declared.Slot.{Slot}
 use Rattle.file.specs.declared.Slot.the-variants.{Full}
 use Rattle.file.specs.declared.Side.{Side}
@@ -27,8 +30,8 @@ use Rattle.file_input.specs.declared.Got.the-variants.{Record, Leftover,
 use Rattle.file_input.specs.Gets.{isUsedUp, passed, lookedAt, wordsGiven, slotAfter, foundIn, foundNone, found, afterFound, getFrom}
 use Rattle.file_input.specs.Histories.{shown, shownBy, afterGets}
 
--- the oldest block of the file lies in buffer k, number b, with n data words, the place at, the error e; records have r words
-pub record Reading (f : File) (k : Side) (b r n at e : ℕ) : Type 0 where
+-- the oldest block of the file lies in buffer k, number b, with n data words, the place at, what was found e; records have r words
+pub record Reading (f : File) (k : Side) (b r n at : ℕ) (e : Checked) : Type 0 where
   pub first : oldest f ≡ k
   pub there : isSide k ≡ true
   pub buffer : bufferAt f k .number ≡ b
@@ -54,7 +57,8 @@ oldest-low : (a b : Bool) (x y : Bool) → a ≡ true → x ≡ true → lower (
 oldest-low a b x y p q e = rw q (rw p at e)
 
 -- the block with another place, its error told
-moved : (f : File) (k : Side) (b r n at e p : ℕ) → Reading f k b r n at e → Reading (withSlot f k (Full n p 0) (f .turned) (f .block)) k b r n p 0
+moved : (f : File) (k : Side) (b r n at : ℕ) (e : Checked) (p : ℕ) → Reading f k b r n at e
+    → Reading (withSlot f k (Full n p (toldCheck e)) (f .turned) (f .block)) k b r n p (toldCheck e)
 unfolding oldest
 moved f Low b r n at e p R = record {
   first = oldest-low (isFull (f .low .slot)) (isFull (f .high .slot)) true (f .turned) (ap isFull (R .slot)) refl (R .first);
@@ -72,7 +76,7 @@ moved f High b r n at e p R = record { first = high-first; there = refl; buffer 
     high-first = rw full at (R .first)
 moved f Neither b r n at e p R = true-not-false (R .there) refl
 
-module _ (w : ℕ) (xs : List ℕ) (f : File) (k : Side) (b r n at e : ℕ) (R : Reading f k b r n at e) (left : at < n) where
+module _ (w : ℕ) (xs : List ℕ) (f : File) (k : Side) (b r n at : ℕ) (e : Checked) (R : Reading f k b r n at e) (left : at < n) where
   fresh : lookedAt f ≡ f
   fresh = looked-same f (ap (λ (j : Side). isUsedUp (slotAt f j)) (R .first) ∙ ap isUsedUp (R .slot) ∙ lt-leb n at left)
 
@@ -87,7 +91,7 @@ module _ (w : ℕ) (xs : List ℕ) (f : File) (k : Side) (b r n at e : ℕ) (R :
       ∙ ap (λ (x : ℕ). foundIn (b * w) x (slotAt f k)) (R .rlen)
       ∙ ap (λ (x : Slot). foundIn (b * w) r x) (R .slot)
 
-  file-is : getFrom w f .file ≡ withSlot f k (Full n (at + wordsGiven r (Full n at e)) 0) (f .turned) (f .block)
+  file-is : getFrom w f .file ≡ withSlot f k (Full n (at + wordsGiven r (Full n at e)) (toldCheck e)) (f .turned) (f .block)
   unfolding getFrom afterFound
   file-is =
       ap afterFound fresh
@@ -95,17 +99,17 @@ module _ (w : ℕ) (xs : List ℕ) (f : File) (k : Side) (b r n at e : ℕ) (R :
       ∙ ap (λ (x : ℕ). withSlot f k (slotAfter x (slotAt f k)) (f .turned) (f .block)) (R .rlen)
       ∙ ap (λ (x : Slot). withSlot f k (slotAfter r x) (f .turned) (f .block)) (R .slot)
 
-  after-is : Reading (getFrom w f .file) k b r n (at + wordsGiven r (Full n at e)) 0
-  after-is = subst (λ (g : File). Reading g k b r n (at + wordsGiven r (Full n at e)) 0) (sym file-is) (moved f k b r n at e (at + wordsGiven r (Full n at e)) R)
+  after-is : Reading (getFrom w f .file) k b r n (at + wordsGiven r (Full n at e)) (toldCheck e)
+  after-is = subst (λ (g : File). Reading g k b r n (at + wordsGiven r (Full n at e)) (toldCheck e)) (sym file-is) (moved f k b r n at e (at + wordsGiven r (Full n at e)) R)
 
--- the check error is told by itself, and the words remain
-pub error-told : (w : ℕ) (f : File) (k : Side) (b r n at e : ℕ) → Reading f k b r n at (suc e) → at < n → getFrom w f .got ≡ Error (suc e)
-error-told w f k b r n at e R left =
-    got-is w [] f k b r n at (suc e) R left ∙ cond-true (Error (suc e)) (cond (leb r (n - at)) (Record (b * w + at) r) (Leftover (b * w + at) (n - at))) (lt-ltb 0 (suc e) (omega arith))
+-- the check error is told by itself, with all that was found, and the words remain
+pub error-told : (w : ℕ) (f : File) (k : Side) (b r n at : ℕ) (e : Checked) → 0 < e .error → Reading f k b r n at e → at < n → getFrom w f .got ≡ Error e
+error-told w f k b r n at e some R left =
+    got-is w [] f k b r n at e R left ∙ cond-true (Error e) (cond (leb r (n - at)) (Record (b * w + at) r) (Leftover (b * w + at) (n - at))) (lt-ltb 0 (e .error) some)
 
 -- a record or a leftover is the next words of the block
-shown-is : (xs : List ℕ) (start r n at : ℕ) → shown xs (foundIn start r (Full n at 0)) ≡ partOf (start + at) (share r (n - at)) xs
-shown-is xs start r n at = go (leb r (n - at))
+shown-is : (xs : List ℕ) (start r n at : ℕ) (e : Checked) → shown xs (foundIn start r (Full n at (toldCheck e))) ≡ partOf (start + at) (share r (n - at)) xs
+shown-is xs start r n at e = go (leb r (n - at))
   where
     go : (t : Bool) → shown xs (cond t (Record (start + at) r) (Leftover (start + at) (n - at))) ≡ partOf (start + at) (cond t r (n - at)) xs
     go true = refl
@@ -118,10 +122,10 @@ part-join a s t xs = ap (λ (l : List ℕ). partOf a s xs ++ take t l) (sym (dro
 -- ---- gets in a row
 
 -- so many gets show these words, and then the block is used up; it is the oldest still, and no get has emptied it
-pub record Given (w : ℕ) (xs : List ℕ) (f : File) (k : Side) (b r n at : ℕ) : Type 0 where
+pub record Given (w : ℕ) (xs : List ℕ) (f : File) (k : Side) (b r n at : ℕ) (e : Checked) : Type 0 where
   pub gets : ℕ
   pub words : shownBy w xs gets f ≡ partOf (b * w + at) (n - at) xs
-  pub usedUp : Reading (afterGets w gets f) k b r n n 0
+  pub usedUp : Reading (afterGets w gets f) k b r n n (toldCheck e)
 
 share-some : (r left : ℕ) → 1 ≤ r → 1 ≤ left → 1 ≤ share r left
 share-some r left h l = go (leb r left)
@@ -144,15 +148,15 @@ choose {A} a b less more = go (decLt a b)
     go (yes h) = less h
     go (no h) = more (omega (arith, h))
 
-module _ (w : ℕ) (xs : List ℕ) (k : Side) (b r n : ℕ) (some : 1 ≤ r) where
-  given-done : (f : File) (at : ℕ) → n ≤ at → at ≤ n → Reading f k b r n at 0 → Given w xs f k b r n at
+module _ (w : ℕ) (xs : List ℕ) (k : Side) (b r n : ℕ) (e : Checked) (some : 1 ≤ r) where
+  given-done : (f : File) (at : ℕ) → n ≤ at → at ≤ n → Reading f k b r n at (toldCheck e) → Given w xs f k b r n at e
   unfolding shownBy afterGets
   given-done f at d l R =
       let same : at ≡ n = omega arith in
       let none : n - at ≡ 0 = omega arith in
-      record { gets = 0; words = sym (ap (λ (j : ℕ). partOf (b * w + at) j xs) none); usedUp = subst (λ (p : ℕ). Reading f k b r n p 0) same R }
+      record { gets = 0; words = sym (ap (λ (j : ℕ). partOf (b * w + at) j xs) none); usedUp = subst (λ (p : ℕ). Reading f k b r n p (toldCheck e)) same R }
 
-  given-step : (f : File) (at : ℕ) → at < n → Reading f k b r n at 0 → Given w xs (getFrom w f .file) k b r n (at + share r (n - at)) → Given w xs f k b r n at
+  given-step : (f : File) (at : ℕ) → at < n → Reading f k b r n at (toldCheck e) → Given w xs (getFrom w f .file) k b r n (at + share r (n - at)) e → Given w xs f k b r n at e
   unfolding shownBy afterGets
   given-step f at m R G =
       let s = share r (n - at) in
@@ -161,43 +165,47 @@ module _ (w : ℕ) (xs : List ℕ) (k : Side) (b r n : ℕ) (some : 1 ≤ r) whe
       record {
         gets = suc (G .gets);
         words =
-            ap (λ (l : List ℕ). l ++ shownBy w xs (G .gets) (getFrom w f .file)) (ap (shown xs) (got-is w xs f k b r n at 0 R m) ∙ shown-is xs (b * w) r n at)
+            ap (λ (l : List ℕ). l ++ shownBy w xs (G .gets) (getFrom w f .file)) (ap (shown xs) (got-is w xs f k b r n at (toldCheck e) R m) ∙ shown-is xs (b * w) r n at e)
             ∙ ap (λ (l : List ℕ). partOf (b * w + at) s xs ++ l) (G .words ∙ ap (λ (a : ℕ). partOf a (n - (at + s)) xs) place)
             ∙ part-join (b * w + at) s (n - (at + s)) xs
             ∙ ap (λ (j : ℕ). partOf (b * w + at) j xs) rest;
         usedUp = G .usedUp;
       }
 
-  rest-given : (fuel : ℕ) (f : File) (at : ℕ) → n - at ≤ fuel → at ≤ n → Reading f k b r n at 0 → Given w xs f k b r n at
+  rest-given : (fuel : ℕ) (f : File) (at : ℕ) → n - at ≤ fuel → at ≤ n → Reading f k b r n at (toldCheck e) → Given w xs f k b r n at e
   rest-given zero f at h l R = given-done f at (omega arith) l R
   rest-given (suc fuel) f at h l R =
       choose at n
       (λ m.
       let some-left : 1 ≤ n - at = omega arith in
       given-step f at m R
-      (rest-given fuel (getFrom w f .file) (at + share r (n - at)) (omega (arith, share-some r (n - at) some some-left)) (omega (arith, share-most r (n - at))) (after-is w xs f k b r n at 0 R m)))
+      (rest-given fuel (getFrom w f .file) (at + share r (n - at)) (omega (arith, share-some r (n - at) some some-left)) (omega (arith, share-most r (n - at))) (after-is w xs f k b r n at (toldCheck e) R m)))
       (λ m. given-done f at m l R)
 
   -- of a block without an error, from a place on
-  pub words-given : (f : File) (at : ℕ) → at ≤ n → Reading f k b r n at 0 → Given w xs f k b r n at
+  pub words-given : (f : File) (at : ℕ) → at ≤ n → Reading f k b r n at (toldCheck e) → Given w xs f k b r n at e
   words-given f at l R = rest-given (n - at) f at (omega arith) l R
 
   -- the get that tells the error shows no words, and leaves the block unread
-  error-first : (f : File) (e : ℕ) → 0 < n → Reading f k b r n 0 (suc e) → Given w xs (getFrom w f .file) k b r n 0 → Given w xs f k b r n 0
+  error-first : (f : File) → 0 < e .error → 0 < n → Reading f k b r n 0 e → Given w xs (getFrom w f .file) k b r n 0 e → Given w xs f k b r n 0 e
   unfolding shownBy afterGets
-  error-first f e l R G = record {
+  error-first f wrong l R G = record {
     gets = suc (G .gets);
-    words = ap (λ (g : Got). shown xs g ++ shownBy w xs (G .gets) (getFrom w f .file)) (error-told w f k b r n 0 e R l) ∙ G .words;
+    words = ap (λ (g : Got). shown xs g ++ shownBy w xs (G .gets) (getFrom w f .file)) (error-told w f k b r n 0 e wrong R l) ∙ G .words;
     usedUp = G .usedUp;
   }
 
-  unread : (f : File) (e : ℕ) → 0 < n → Reading f k b r n 0 (suc e) → Reading (getFrom w f .file) k b r n 0 0
-  unread f e l R =
-      let none : wordsGiven r (Full n 0 (suc e)) ≡ 0 = cond-true 0 (share r (n - 0)) (lt-ltb 0 (suc e) (omega arith)) in
-      let same : 0 + wordsGiven r (Full n 0 (suc e)) ≡ 0 = omega (arith, none) in
-      subst (λ (p : ℕ). Reading (getFrom w f .file) k b r n p 0) same (after-is w xs f k b r n 0 (suc e) R l)
+  unread : (f : File) → 0 < e .error → 0 < n → Reading f k b r n 0 e → Reading (getFrom w f .file) k b r n 0 (toldCheck e)
+  unread f wrong l R =
+      let none : wordsGiven r (Full n 0 e) ≡ 0 = cond-true 0 (share r (n - 0)) (lt-ltb 0 (e .error) wrong) in
+      let same : 0 + wordsGiven r (Full n 0 e) ≡ 0 = omega (arith, none) in
+      subst (λ (p : ℕ). Reading (getFrom w f .file) k b r n p (toldCheck e)) same (after-is w xs f k b r n 0 e R l)
 
   -- of a whole block: its check error first, if it has one, and then its data words
-  pub block-given : (f : File) (e : ℕ) → 1 ≤ n → Reading f k b r n 0 e → Given w xs f k b r n 0
-  block-given f zero l R = words-given f 0 (omega arith) R
-  block-given f (suc e) l R = error-first f e l R (words-given (getFrom w f .file) 0 (omega arith) (unread f e l R))
+  pub block-given : (f : File) → 1 ≤ n → Reading f k b r n 0 e → Given w xs f k b r n 0 e
+  block-given f l R =
+      choose 0 (e .error)
+      (λ wrong. error-first f wrong l R (words-given (getFrom w f .file) 0 (omega arith) (unread f wrong l R)))
+      (λ none.
+      let right : e .error ≡ 0 = omega arith in
+      words-given f 0 (omega arith) (subst (λ (x : Checked). Reading f k b r n 0 x) (sym (told-none e right)) R))

@@ -3,6 +3,7 @@ use Prim.Native.Nat.{ℕ, _+_}
 use mathlib.Core.Bool.{Bool, true, false, _&&_}
 use lib.Dec.{leb}
 use Rattle.file.specs.declared.Slot.the-variants.{Taken}
+use Rattle.word.specs.declared.Checked.{Checked}
 use Rattle.file.specs.declared.File.{File}
 use Rattle.file.specs.Sides.{isSide, emptySide, takenSide, oldest}
 use Rattle.file.specs.Fills.{withSlot, filledAt, emptiedAt}
@@ -20,9 +21,9 @@ tookBuffer f = withSlot f (emptySide f) Taken false (f .block)
 abbrev pub blockFits : File → ℕ → Bool
 blockFits f n = leb (1 + extra (f .sequence) (f .check)) n && leb n (f .size + extra (f .sequence) (f .check))
 
--- "A good end makes it full.": a block of n data words, with its check error
-unfoldable pub delivered : File → ℕ → ℕ → File
-delivered f n e = filledAt f (takenSide f) n e
+-- "A good end makes it full.": a block of n data words, with what its check found
+unfoldable pub delivered : File → ℕ → Checked → File
+delivered f n found = filledAt f (takenSide f) n found
 
 -- "A read that ends with a mark or a permanent error gives its buffer back as empty."
 unfoldable pub gaveBack : File → File

@@ -2,10 +2,12 @@
 use Prim.Native.Nat.{ℕ, _+_, _-_}
 use mathlib.Core.Bool.{Bool, false, cond}
 use lib.Dec.{leb, ltb}
+use Rattle.word.specs.declared.Checked.{Checked}
+use Rattle.word.specs.Checks.{unchecked, toldCheck}
 use Rattle.file.specs.declared.Slot.{Slot}
 use Rattle.file.specs.declared.Slot.the-variants.{Empty, Taken, Part, Full}
 use Rattle.file.specs.declared.File.{File}
-use Rattle.file.specs.Slots.{fullWords, fullPlace, fullError}
+use Rattle.file.specs.Slots.{fullWords, fullPlace, fullFound, fullError}
 use Rattle.file.specs.Sides.{slotAt, startAt, isSide, oldest}
 use Rattle.file.specs.Fills.{withSlot, withoutOldest}
 use Rattle.file_input.specs.declared.Got.{Got}
@@ -21,7 +23,7 @@ abbrev pub isUsedUp : Slot → Bool
 isUsedUp Empty = false
 isUsedUp Taken = false
 isUsedUp (Part n) = false
-isUsedUp (Full n at e) = leb n at
+isUsedUp (Full n at c) = leb n at
 
 -- "If that block was used up by an earlier get, it first becomes empty and the next oldest is looked at."
 unfoldable pub passed : File → File
@@ -35,14 +37,14 @@ lookedAt f = passed (passed f)
 abbrev pub wordsGiven : ℕ → Slot → ℕ
 wordsGiven r x = cond (ltb 0 (fullError x)) 0 (cond (leb r (wordsLeft x)) r (wordsLeft x))
 
--- the block after it: the place past the words, the error told
+-- the block after it: the place past the words, the error told; what was found stays
 abbrev pub slotAfter : ℕ → Slot → Slot
-slotAfter r x = Full (fullWords x) (fullPlace x + wordsGiven r x) 0
+slotAfter r x = Full (fullWords x) (fullPlace x + wordsGiven r x) (toldCheck (fullFound x))
 
 -- "a record ..; a short leftover ..; the block's check error, once, before its first record", from a full block that begins at word `start`
 abbrev pub foundIn : ℕ → ℕ → Slot → Got
 foundIn start r x =
-    cond (ltb 0 (fullError x)) (Error (fullError x))
+    cond (ltb 0 (fullError x)) (Error (fullFound x))
     (cond (leb r (wordsLeft x)) (Record (start + fullPlace x) r) (Leftover (start + fullPlace x) (wordsLeft x)))
 
 -- "*end* (no full block, mark read); *nothing yet*"
@@ -65,27 +67,35 @@ abbrev pub gotNumber : Got → ℕ
 gotNumber (Record start n) = 0
 gotNumber Nothing = 1
 gotNumber End = 2
-gotNumber (Error e) = 3
+gotNumber (Error c) = 3
 gotNumber (Leftover start n) = 4
 
 abbrev pub gotError : Got → ℕ
 gotError (Record start n) = 0
 gotError Nothing = 0
 gotError End = 0
-gotError (Error e) = e
+gotError (Error c) = c .error
 gotError (Leftover start n) = 0
+
+-- "get's answer 03 carr[ies] them as found at delivery, after the error number"; zero with any other answer
+abbrev pub gotFound : Got → Checked
+gotFound (Record start n) = unchecked
+gotFound Nothing = unchecked
+gotFound End = unchecked
+gotFound (Error c) = c
+gotFound (Leftover start n) = unchecked
 
 -- the words that an answer shows: where in the area they begin, and how many
 abbrev pub gotStart : Got → ℕ
 gotStart (Record start n) = start
 gotStart Nothing = 0
 gotStart End = 0
-gotStart (Error e) = 0
+gotStart (Error c) = 0
 gotStart (Leftover start n) = start
 
 abbrev pub gotWords : Got → ℕ
 gotWords (Record start n) = n
 gotWords Nothing = 0
 gotWords End = 0
-gotWords (Error e) = 0
+gotWords (Error c) = 0
 gotWords (Leftover start n) = n

@@ -3,6 +3,7 @@ use Prim.Native.Nat.{ℕ, zero, suc, _+_}
 use mathlib.Core.Bool.{Bool, cond}
 use mathlib.Core.List.{List, [], _∷_, _++_, map}
 use Rattle.area.specs.Parts.{partOf}
+use Rattle.word.specs.declared.Checked.{Checked}
 use Rattle.file.specs.declared.Side.{Side}
 use Rattle.file.specs.declared.File.{File}
 use Rattle.file.specs.Sides.{bufferAt, slotAt, isSide, takenSide, partSide, oldest}
@@ -33,7 +34,7 @@ afterGets w (suc j) f = afterGets w j (getFrom w f .file)
 
 pub data Event : Type 0 where
   read giveBack mark get skip put seal send : Event
-  deliver : ℕ → ℕ → Event
+  deliver : ℕ → Checked → Event
 
 abbrev pub after : File → Event → File
 after f read = tookBuffer f

@@ -9,6 +9,7 @@ use file::oldest;
 use file::start_at;
 use file::taken_side;
 use file::with_slot;
+use word::Checked;
 use word::extra;
 ghost use mathlib.Core.Path.{_≡_};
 ghost use Prim.Native.Nat.{_<_};
@@ -49,12 +50,12 @@ pub fn block_fits(f: File, n: usize) -> bool
     (least <= n) & (n <= most)
 }
 
-// The file after a good end: the taken buffer has a full block of this many data words, with this check error.
-pub fn delivered(f: File, words: u16, error: u8) -> File
-    ensures { λ r. ⌜ r ≡ deliveredTo f words error ⌝ }
+// The file after a good end: the taken buffer has a full block of this many data words, with what its check found.
+pub fn delivered(f: File, words: u16, found: Checked) -> File
+    ensures { λ r. ⌜ r ≡ deliveredTo f words found ⌝ }
 {
     let k = taken_side(f);
-    filled_at(f, k, words, error)
+    filled_at(f, k, words, found)
 }
 
 // The file after a read's permanent error: the taken buffer is empty.

@@ -4,6 +4,7 @@ use crate::Got;
 use file::File;
 use file::Slot;
 use file::full_error;
+use file::full_found;
 use file::full_place;
 use file::full_words;
 use file::is_side;
@@ -12,6 +13,7 @@ use file::slot_at;
 use file::start_at;
 use file::with_slot;
 use file::without_oldest;
+use word::told_check;
 ghost use mathlib.Core.Path.{_≡_};
 ghost use Prim.Native.Nat.{_≤_, _<_};
 ghost use Rattle.file_input.specs.Gets.{wordsLeft, isUsedUp, passed as passedOf, lookedAt, wordsGiven, slotAfter, foundIn, foundNone, found as foundOf, afterFound, getFrom};
@@ -39,7 +41,7 @@ fn is_used_up(x: Slot) -> bool
         Slot::Full {
             words,
             at,
-            error: _,
+            found: _,
         } => words <= at,
     }
 }
@@ -79,17 +81,18 @@ fn words_given(rlen: u16, x: Slot) -> u16
     left
 }
 
-// The block after it: the words are given, or the error is told.
+// The block after it: the words are given, or the error is told. What was found stays with it.
 fn slot_after(rlen: u16, x: Slot) -> Slot
     ensures { λ r. ⌜ r ≡ slotAfter rlen x ⌝ }
 {
+    let found = full_found(x);
     let n = full_words(x);
     let at = full_place(x);
     let given = words_given(rlen, x);
     Slot::Full {
         words: n,
         at: at + given,
-        error: 0,
+        found: told_check(found),
     }
 }
 
@@ -98,11 +101,12 @@ fn found_in(start: usize, rlen: u16, x: Slot) -> Got
     requires { ⌜ start < 16777216 ⌝ }
     ensures { λ r. ⌜ r ≡ foundIn start rlen x ⌝ }
 {
+    let found = full_found(x);
     let error = full_error(x);
     let left = words_left(x);
     let at = full_place(x);
     if 0 < error {
-        return Got::Error(error);
+        return Got::Error(found);
     }
     if rlen <= left {
         return Got::Record {

@@ -19,12 +19,13 @@ pub use shows::got_count;
 pub use shows::got_error;
 pub use shows::got_number;
 pub use shows::got_start;
+use word::Checked;
 
-// What get finds. A record or a leftover is named by where its words begin in the area, and how many they are.
+// What get finds. A record or a leftover is named by where its words begin in the area, and how many they are; an error comes with all that was found.
 pub enum Got {
     Record { start: usize, words: usize },
     Leftover { start: usize, words: usize },
-    Error(u8),
+    Error(Checked),
     End,
     Nothing,
 }

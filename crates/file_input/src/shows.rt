@@ -23,7 +23,7 @@ pub fn got_error(g: Got) -> u8
     match g {
         Got::Record { start: _, words: _ } => 0,
         Got::Leftover { start: _, words: _ } => 0,
-        Got::Error(e) => e,
+        Got::Error(c) => c.error,
         Got::End => 0,
         Got::Nothing => 0,
     }

@@ -6,6 +6,7 @@ use Rattle.file.specs.declared.File.{File}
 use Rattle.file.specs.Slots.{partWords}
 use Rattle.file.specs.Sides.{slotAt, startAt, isSide, partSide}
 use Rattle.file.specs.Fills.{filledAt}
+use Rattle.word.specs.Checks.{unchecked}
 
 -- refusal 9, ".. Seal: no part-filled buffer"
 abbrev pub hasPart : File → Bool
@@ -22,6 +23,6 @@ partLength f = partWords (slotAt f (partSide f))
 unfoldable pub isComplete : File → Bool
 isComplete f = ltb (f .size) (partLength f + f .rlen)
 
--- "the block is sealed ..: it gets its check word and is full"
+-- "the block is sealed ..: it gets its check word and is full"; nothing is checked of it
 unfoldable pub sealedFile : File → File
-sealedFile f = filledAt f (partSide f) (partLength f) 0
+sealedFile f = filledAt f (partSide f) (partLength f) unchecked

@@ -1,5 +1,5 @@
 // Plays events on one file, one a line, and prints an answer line for each: what a second program's answers are compared with.
-// 1 open; 2 read taken; 3 N ERROR delivered; 4 given back; 5 mark met; 6 get; 7 skip; 8 put; 9 seal; 10 what a write sends; 11 written;
+// 1 open; 2 read taken; 3 N ERROR SUM NUMBER SUMREAD NUMBERREAD delivered; 4 given back; 5 mark met; 6 get; 7 skip; 8 put; 9 seal; 10 what a write sends; 11 written;
 // 12 not written. Each answer ends with the whole file.
 mod print;
 
@@ -7,8 +7,10 @@ use file::File;
 use file::Wish;
 use libc::STDIN_FILENO;
 use numbers::next;
+use print::found;
 use print::number;
 use print::whole;
+use word::Checked;
 
 // The file, the words of a buffer, and where the next event is read.
 struct Desk {
@@ -17,13 +19,17 @@ struct Desk {
     at: usize,
 }
 
-// A number as a byte, and as one of two bytes.
+// A number as a byte, and as one of two and of four bytes.
 fn byte(n: u64) -> u8 {
     (n % 256) as u8
 }
 
 fn size(n: u64) -> u16 {
     (n % 65536) as u16
+}
+
+fn wide(n: u64) -> u32 {
+    (n % 4294967296) as u32
 }
 
 fn open(text: &[u8], p: Desk) -> Desk {
@@ -65,7 +71,7 @@ fn get(f: File, w: u16) -> File {
     number(file_input::got_number(g) as u64);
     number(file_input::got_start(g) as u64);
     number(file_input::got_count(g) as u64);
-    number(file_input::got_error(g) as u64);
+    found(file_input::got_found(g));
     r.file
 }
 
@@ -109,11 +115,22 @@ fn after(kind: u64, f: File, w: u16) -> File {
 fn deliver(text: &[u8], p: Desk) -> Desk {
     let n = next(text, p.at);
     let error = next(text, n.at);
+    let sum = next(text, error.at);
+    let due = next(text, sum.at);
+    let sumread = next(text, due.at);
+    let numberread = next(text, sumread.at);
+    let c = Checked {
+        error: byte(error.value),
+        sum: wide(sum.value),
+        number: size(due.value),
+        sumread: wide(sumread.value),
+        numberread: size(numberread.value),
+    };
     let f = p.file;
     Desk {
-        file: file_input::delivered(f, size(n.value), byte(error.value)),
+        file: file_input::delivered(f, size(n.value), c),
         w: p.w,
-        at: error.at,
+        at: numberread.at,
     }
 }
 

@@ -1,6 +1,7 @@
 // Answers: numbers with one blank between them, a line feed after the last; and a file as a list of its blocks.
 use file::File;
 use libc::STDOUT_FILENO;
+use word::Checked;
 ghost use Prim.Native.Nat.{_≤_};
 
 // A number of a line, after which more come.
@@ -20,7 +21,16 @@ fn flag(b: bool) -> u64
     if b { 1 } else { 0 }
 }
 
-// The oldest full block, if there is one: its buffer, data words, the place of get in it, and its check error that was not told.
+// What a check found: the error, the sum and the number worked out, and those read.
+pub fn found(c: Checked) {
+    number(c.error as u64);
+    number(c.sum as u64);
+    number(c.number as u64);
+    number(c.sumread as u64);
+    number(c.numberread as u64);
+}
+
+// The oldest full block, if there is one: its buffer, data words, the place of get in it, and what its check found, the error not told.
 fn block(f: File) {
     if file_input::has_full(f) {
         let k = file::oldest(f);
@@ -28,7 +38,7 @@ fn block(f: File) {
         number(file::start_at(f, 1, k) as u64);
         number(file::full_words(x) as u64);
         number(file::full_place(x) as u64);
-        number(file::full_error(x) as u64);
+        found(file::full_found(x));
     }
 }
 

@@ -27,6 +27,8 @@ use Rattle.channel_outcomes.specs.declared.Verdict.the-variants.{Refused, Repea
 use Rattle.channel_outcomes.specs.Rules.{good, redundancy, incompleteWord, fileMark, rowOf, isAllowed, isFailure, isPermanent, nextAttempt, goodEnding, endingOf, verdictOf, resultNumber}
 use Rattle.channel_turns.specs.Turns.{judgeTurn, judgeOf}
 use Rattle.word.specs.CheckWords.{extra, nextNumber}
+use Rattle.word.specs.declared.Checked.{Checked}
+use Rattle.word.specs.Checks.{unchecked}
 use Rattle.file.specs.declared.Slot.{Slot}
 use Rattle.file.specs.declared.Slot.the-variants.{Empty, Taken, Part, Full}
 use Rattle.file.specs.declared.Side.{Side}
@@ -58,7 +60,7 @@ use Rattle.call_request.specs.declared.Effect.{Effect}
 use Rattle.call_request.specs.declared.Effect.the-variants.{Delivers, MeetsMark, GivesBack, Sends, Keeps}
 use Rattle.call_request.specs.Ask.{isReading, askedFile}
 use Rattle.call_request.specs.Effects.{effectOf}
-use Rattle.call_request.specs.Report.{isForbidden, effectAt, reportRefusal, reportedFile, deliveryError}
+use Rattle.call_request.specs.Report.{isForbidden, effectAt, reportRefusal, reportedFile, deliveryCheck}
 use Rattle.pack_request.specs.Calls.{fileOf, reportWrong}
 use Rattle.pack_request.proofs.Ready.{not-false}
 use Rattle.pack_request.proofs.AskTheorems.{ask-frame, ask-file}
@@ -100,7 +102,7 @@ slot-marked f Low x t b = refl
 slot-marked f High x t b = refl
 slot-marked f Neither x t b = refl
 
-filled-marked : (f : File) (k : Side) (n e : ℕ) → filledAt f k n e .marked ≡ f .marked
+filled-marked : (f : File) (k : Side) (n : ℕ) (e : Checked) → filledAt f k n e .marked ≡ f .marked
 unfolding filledAt
 filled-marked f k n e = slot-marked f k (Full n 0 e) (turnedBy f k) (nextNumber (f .block))
 
@@ -126,7 +128,7 @@ added-marked f = go (leb (wordsAfter f) (f .size))
 
 sealed-marked : (f : File) → sealedFile f .marked ≡ f .marked
 unfolding sealedFile
-sealed-marked f = filled-marked f (partSide f) (partLength f) 0
+sealed-marked f = filled-marked f (partSide f) (partLength f) unchecked
 
 put-marked : (f : File) → afterPut f .marked ≡ f .marked
 unfolding afterPut
@@ -178,7 +180,7 @@ or-all : (b : Bool) → true ≡ (b || true)
 or-all true = refl
 or-all false = refl
 
-effect-file : (x : Effect) (f : File) (n e : ℕ) → Alike f (reportedFile x f n e) × (reportedFile x f n e .marked ≡ (f .marked || meetsMark x))
+effect-file : (x : Effect) (f : File) (n : ℕ) (e : Checked) → Alike f (reportedFile x f n e) × (reportedFile x f n e .marked ≡ (f .marked || meetsMark x))
 unfolding reportedFile afterWrite metMark
 effect-file Delivers f n e = (event-alike f (deliver (n - extra (f .sequence) (f .check)) e), event-marked f (deliver (n - extra (f .sequence) (f .check)) e) refl ∙ or-none (f .marked))
 effect-file MeetsMark f n e = (event-alike f mark, or-all (f .marked))
@@ -389,7 +391,7 @@ module _ (i : ℕ) (s : State) (area : List ℕ) (g : kept.Good s) (o : Option O
     unfolding answerOf
     others = report-books-own s area channel unit outcome words (g .sixteen) z .others .files
 
-    became : fileAt t j ≡ reportedFile (effectAt c unit outcome) (fileAt s j) (length words) (deliveryError (effectAt c unit outcome) (fileAt s j) words)
+    became : fileAt t j ≡ reportedFile (effectAt c unit outcome) (fileAt s j) (length words) (deliveryCheck (effectAt c unit outcome) (fileAt s j) words)
     unfolding answerOf
     became = report-file s area channel unit outcome words (g .sixteen) z
 
@@ -406,7 +408,7 @@ module _ (i : ℕ) (s : State) (area : List ℕ) (g : kept.Good s) (o : Option O
           marked = x .marked || (eqb (x .channel) channel && (eqb (x .unit) unit && eqb result 3));
         })
         mine x Kx =
-            let P = effect-file (effectAt c unit outcome) (fileAt s j) (length words) (deliveryError (effectAt c unit outcome) (fileAt s j) words) in
+            let P = effect-file (effectAt c unit outcome) (fileAt s j) (length words) (deliveryCheck (effectAt c unit outcome) (fileAt s j) words) in
             let rest = and-right (fileAt s j .opened) _ bound in
             let onChannel : x .channel ≡ channel = sym (Kx .channel) ∙ eqb-true (fileAt s j .channel) channel (and-left (eqb (fileAt s j .channel) channel) _ rest) in
             let onUnit : x .unit ≡ unit = sym (Kx .unit) ∙ eqb-true (fileAt s j .unit) unit (and-right (eqb (fileAt s j .channel) channel) _ rest) in

@@ -31,7 +31,7 @@ callOf any.Thaw words = thaw
 abbrev pub addedOf : Adds → Added
 addedOf adds.Nothing = nothing
 addedOf (adds.Working u) = working u
-addedOf (adds.Reported result error u) = reported result error u
+addedOf (adds.Reported result delivery u) = reported result delivery u
 addedOf (adds.Found g) = got g
 
 -- the answer that a value is, with the area after the call: the words that it shows are a part of that area
@@ -51,7 +51,7 @@ abbrev pub reportAnswer : Reporting → AnyAnswer
 reportAnswer r =
     record {
       refusal = r .refusal;
-      adds = adds.Reported (r .result) (r .error) (r .working);
+      adds = adds.Reported (r .result) (r .delivery) (r .working);
       start = r .start;
       count = r .count;
       state = r .state;

@@ -5,6 +5,8 @@ use mathlib.Core.List.{List, []}
 use lib.ListN.{length}
 use Rattle.area.specs.Parts.{partOf}
 use Rattle.file_input.specs.declared.Got.{Got}
+use Rattle.call_request.specs.declared.Delivery.{Delivery}
+use Rattle.call_request.specs.declared.Delivery.the-variants.{Without}
 use Rattle.state.specs.declared.State.{State}
 use Rattle.state.specs.declared.Called.{Called}
 use Rattle.pack_start.specs.declared.Masks.{Masks}
@@ -46,7 +48,8 @@ pub data Call : Type 0 where
 pub data Added : Type 0 where
   nothing : Added
   working : ℕ → Added
-  reported : ℕ → ℕ → ℕ → Added
+  -- the result, what the report delivered, the working unit
+  reported : ℕ → Delivery → ℕ → Added
   got : Got → Added
 
 -- the answer: the refusal, 0 for none; what it adds; the words of the area that it shows; the state and the area after the call
@@ -70,7 +73,7 @@ abbrev pub told : Reporting → List ℕ → Answer
 told r area =
     record {
       refusal = r .refusal;
-      added = reported (r .result) (r .error) (r .working);
+      added = reported (r .result) (r .delivery) (r .working);
       shows = partOf (r .start) (r .count) area;
       state = r .state;
       area = area;
@@ -104,7 +107,7 @@ addsNothing (fresh m w masks) = nothing
 addsNothing (opening file channel unit flags size rlen) = nothing
 addsNothing (close file) = nothing
 addsNothing (ask file op priority) = working 0
-addsNothing (report channel unit outcome words) = reported 0 0 0
+addsNothing (report channel unit outcome words) = reported 0 Without 0
 addsNothing (get file) = got noAnswer
 addsNothing (put file words) = nothing
 addsNothing (seal file) = nothing

@@ -61,11 +61,11 @@ fn told(r: Reporting) -> AnyAnswer
 {
     let state = r.state;
     let result = r.result;
-    let error = r.error;
+    let delivery = r.delivery;
     let working = r.working;
     let adds = Adds::Reported {
         result,
-        error,
+        delivery,
         working,
     };
     AnyAnswer {

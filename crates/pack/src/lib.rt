@@ -8,6 +8,7 @@ mod answers;
 pub use answers::answer;
 pub use answers::shown_words;
 pub use call_record::got_words;
+pub use call_request::Delivery;
 pub use file::File;
 pub use file_input::Got;
 pub use file_input::got_count;
@@ -75,7 +76,7 @@ pub enum AnyCall {
 pub enum Adds {
     Nothing,
     Working(u8),
-    Reported { result: u8, error: u8, working: u8 },
+    Reported { result: u8, delivery: Delivery, working: u8 },
     Found(Got),
 }
 

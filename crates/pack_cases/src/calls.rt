@@ -1,14 +1,18 @@
 // The eleven calls: their numbers as a command has them, their answers printed. Each gives the state after it.
 use crate::print::answer;
+use crate::print::checked;
 use crate::print::end_line;
 use crate::print::number;
 use crate::print::words;
 use pack::Adds;
 use pack::AnyAnswer;
 use pack::AnyCall;
+use pack::Delivery;
 use pack::Got;
 use pack::Masks;
 use pack::State;
+use word::Checked;
+use word::not_checked;
 
 // The i-th number of a command as a byte, and as a number of two bytes.
 fn byte(head: &[u64], i: usize) -> u8 {
@@ -96,15 +100,23 @@ fn call_of(kind: u64, head: &[u64]) -> AnyCall {
 
 // ---- its answer
 
-fn reported(result: u8, error: u8, working: u8) {
+// What a report tells of the block that it delivers; all zero for none.
+fn told(d: Delivery) -> Checked {
+    match d {
+        Delivery::Without => not_checked(),
+        Delivery::With(found) => found,
+    }
+}
+
+fn reported(result: u8, delivery: Delivery, working: u8) {
     number(result as u64);
-    number(error as u64);
+    checked(told(delivery));
     number(working as u64);
 }
 
 fn found(g: Got) {
     number(pack::got_number(g) as u64);
-    number(pack::got_error(g) as u64);
+    checked(pack::got_found(g));
 }
 
 // Where the words that an answer shows begin, how many they are, and the words.
@@ -122,10 +134,10 @@ fn added(area: &[u64], r: AnyAnswer) {
         Adds::Working(unit) => number(unit as u64),
         Adds::Reported {
             result,
-            error,
+            delivery,
             working,
         } => {
-            reported(result, error, working);
+            reported(result, delivery, working);
             shown(area, r);
         }
         Adds::Found(g) => {

@@ -13,6 +13,8 @@ use state::State;
 use state::channel_at;
 use state::file_at;
 use state::with_channel;
+use word::Checked;
+use word::not_checked;
 
 fn byte(n: u64) -> u8 {
     (n % 256) as u8
@@ -39,28 +41,41 @@ fn kind_slot(kind: u64) -> Slot {
         3 => Slot::Full {
             words: 0,
             at: 0,
-            error: 0,
+            found: not_checked(),
         },
         _ => Slot::Empty,
     }
 }
 
-fn full_with(field: u64, words: u16, at: u16, error: u8, v: u64) -> Slot {
+// What a check found with another of its numbers: 4 the error, 5 and 6 the sum and the number worked out, 7 and 8 those read.
+fn found_with(c: Checked, field: u64, v: u64) -> Checked {
+    let mut d = c;
+    match field {
+        4 => d.error = byte(v),
+        5 => d.sum = mask(v),
+        6 => d.number = size(v),
+        7 => d.sumread = mask(v),
+        _ => d.numberread = size(v),
+    }
+    d
+}
+
+fn full_with(field: u64, words: u16, at: u16, found: Checked, v: u64) -> Slot {
     match field {
         2 => Slot::Full {
             words: size(v),
             at,
-            error,
+            found,
         },
         3 => Slot::Full {
             words,
             at: size(v),
-            error,
+            found,
         },
         _ => Slot::Full {
             words,
             at,
-            error: byte(v),
+            found: found_with(found, field, v),
         },
     }
 }
@@ -72,13 +87,13 @@ fn part_with(field: u64, n: u16, v: u64) -> Slot {
     Slot::Part(n)
 }
 
-// A slot with another of its numbers, if it has that: 2 words, 3 the place of get, 4 the check error.
+// A slot with another of its numbers, if it has that: 2 words, 3 the place of get, 4 to 8 what the check found.
 fn slot_with(x: Slot, field: u64, v: u64) -> Slot {
     match x {
         Slot::Empty => Slot::Empty,
         Slot::Taken => Slot::Taken,
         Slot::Part(n) => part_with(field, n, v),
-        Slot::Full { words, at, error } => full_with(field, words, at, error, v),
+        Slot::Full { words, at, found } => full_with(field, words, at, found, v),
     }
 }
 
@@ -147,8 +162,8 @@ fn is_number(field: u64) -> bool {
 }
 
 fn file_with(f: File, field: u64, v: u64) -> File {
-    if 17 <= field {
-        return high_with(f, field - 17, v);
+    if 21 <= field {
+        return high_with(f, field - 21, v);
     }
     if 12 <= field {
         return low_with(f, field - 12, v);

@@ -11,6 +11,7 @@ use libc::STDOUT_FILENO;
 use pool::FILES;
 use state::CHANNELS;
 use state::State;
+use word::Checked;
 
 // The first number of a line.
 pub fn answer(n: u64) {
@@ -114,11 +115,20 @@ fn one_channel(c: Channel) {
 
 // ---- a file
 
+// What a check found: the error, the sum and the number worked out, and those read.
+pub fn checked(c: Checked) {
+    number(c.error as u64);
+    number(c.sum as u64);
+    number(c.number as u64);
+    number(c.sumread as u64);
+    number(c.numberread as u64);
+}
+
 fn slot(x: Slot) {
     number(kind(x));
     number(file::part_words(x) as u64 | file::full_words(x) as u64);
     number(file::full_place(x) as u64);
-    number(file::full_error(x) as u64);
+    checked(file::full_found(x));
 }
 
 fn kind(x: Slot) -> u64 {
@@ -129,7 +139,7 @@ fn kind(x: Slot) -> u64 {
         Slot::Full {
             words: _,
             at: _,
-            error: _,
+            found: _,
         } => 3,
     }
 }

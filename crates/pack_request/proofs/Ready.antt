@@ -13,6 +13,8 @@ use Rattle.channel.specs.declared.Work.{Work}
 use Rattle.channel.specs.declared.Work.the-variants.{At, Nothing}
 use Rattle.channel_outcomes.specs.declared.Ending.{Ending}
 use Rattle.channel_outcomes.specs.declared.Ending.the-variants.{Good, Opposite, MarkRead, MediumEnd, LostRedundancy, LostIncomplete}
+use Rattle.word.specs.declared.Checked.{Checked}
+use Rattle.word.specs.Checks.{isChecked}
 use Rattle.file.specs.declared.Slot.{Slot}
 use Rattle.file.specs.declared.Slot.the-variants.{Empty, Taken, Full}
 use Rattle.file.specs.declared.Side.{Side}
@@ -71,7 +73,7 @@ module _ (f : File) (n : takenCount f ≡ 1) where
   here : isSide (takenSide f) ≡ true
   here = some-taken f n
 
-  delivered-count : (k e : ℕ) → takenCount (delivered f k e) ≡ 0
+  delivered-count : (k : ℕ) (e : Checked) → takenCount (delivered f k e) ≡ 0
   unfolding delivered filledAt
   delivered-count k e = freed-count f (takenSide f) (Full k 0 e) (turnedBy f (takenSide f)) (nextNumber (f .block)) here (taken-there f here) refl n
 
@@ -162,7 +164,7 @@ asked-file m w f op S n (marks o b) = record {
 
 -- ---- report
 
-module _ (m w : ℕ) (f : File) (n error : ℕ) (S : Sound m w f) (small : error ≤ 3) where
+module _ (m w : ℕ) (f : File) (n : ℕ) (found : Checked) (S : Sound m w f) (right : isChecked (f .sequence) (f .check) found ≡ true) where
   untouched : takenCount f ≡ 0 → Became m w Nothing f f
   untouched k = record { sound = S; ready = ready-none f k; alike = alike-self f }
 
@@ -170,16 +172,16 @@ module _ (m w : ℕ) (f : File) (n error : ℕ) (S : Sound m w f) (small : error
   unfolding withoutOldest
   sent k = record { sound = dropped-sound m w f S; ready = ready-none (withoutOldest f) (emptied-count f (oldest f) k); alike = event-alike f send }
 
-  brought : takenCount f ≡ 1 → blockFits f n ≡ true → Became m w Nothing f (delivered f (n - extra (f .sequence) (f .check)) error)
+  brought : takenCount f ≡ 1 → blockFits f n ≡ true → Became m w Nothing f (delivered f (n - extra (f .sequence) (f .check)) found)
   brought k h =
       let b = fits-bounds f n h in
       let d = n - extra (f .sequence) (f .check) in
       let some : 1 ≤ d = omega (arith, b .0) in
       let fit : d ≤ f .size = omega (arith, b .1) in
       record {
-        sound = delivered-sound m w f S d error (some-taken f k) some fit small;
-        ready = ready-none (delivered f d error) (delivered-count f k d error);
-        alike = event-alike f (deliver d error);
+        sound = delivered-sound m w f S d found (some-taken f k) some fit right;
+        ready = ready-none (delivered f d found) (delivered-count f k d found);
+        alike = event-alike f (deliver d found);
       }
 
   back : takenCount f ≡ 1 → Became m w Nothing f (gaveBack f)
@@ -190,7 +192,7 @@ module _ (m w : ℕ) (f : File) (n error : ℕ) (S : Sound m w f) (small : error
 
   -- whatever operation the file was ready for, and however it ends
   pub ended-file : (op : Op) (e : Ending) → fileReady (At op) f ≡ true → (isDelivery (opEffect op e) ≡ true → blockFits f n ≡ true)
-      → Became m w Nothing f (reportedFile (opEffect op e) f n error)
+      → Became m w Nothing f (reportedFile (opEffect op e) f n found)
   unfolding reportedFile afterWrite
   ended-file Read Good h k = brought (ready-facts (At Read) f h .taken) (k refl)
   ended-file Read Opposite h k = brought (ready-facts (At Read) f h .taken) (k refl)

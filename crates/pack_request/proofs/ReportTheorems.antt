@@ -52,14 +52,18 @@ use Rattle.state_sound.proofs.Everywhere.{place-inside}
 use Rattle.state_sound.proofs.Facts.{Served, SoundFacts, sound-facts, facts-sound}
 use Rattle.state_sound.proofs.ChannelCalls.{repeat-moved, end-moved}
 use Rattle.state_sound.proofs.Kept.{line-of, place-of}
-use Rattle.word.specs.CheckWords.{address, chosen}
-use Rattle.word.specs.Sums.{logicalSum, firstHalf, folded}
-use Rattle.block.specs.Blocks.{dataWords, judgeRefusal, judgedBlock, errorOf}
+use Rattle.word.specs.declared.Checked.{Checked}
+use Rattle.word.specs.CheckWords.{blockNumbers}
+use Rattle.word.specs.Checks.{unchecked, isChecked}
+use Rattle.word.proofs.Laws.Checks.{unchecked-fits}
+use Rattle.block.specs.Blocks.{judgedBlock}
+use Rattle.block.proofs.Laws.Finds.{judged-fits}
+use Rattle.call_request.specs.declared.Delivery.the-variants.{Without}
 use Rattle.call_request.specs.declared.Effect.{Effect}
 use Rattle.call_request.specs.declared.ReportChange.{ReportChange}
 use Rattle.pack_request.specs.declared.Reporting.{Reporting}
 use Rattle.call_request.specs.Effects.{effectOf, opEffect, isDelivery}
-use Rattle.call_request.specs.Report.{isIdleFor, takesNoWords, isForbidden, shownStart, shownCount, shownBlock, effectAt, reportRows, reportRefusal, deliveryError, reportedFile, refusedReport, reportOn, reportOnArea}
+use Rattle.call_request.specs.Report.{isIdleFor, takesNoWords, isForbidden, shownStart, shownCount, shownBlock, effectAt, reportRows, reportRefusal, deliveryCheck, deliveryOf, reportedFile, refusedReport, reportOn, reportOnArea}
 use Rattle.pack_request.specs.Calls.{fileOf, reportWrong, reportBy, reportByArea}
 use Rattle.pack_request.proofs.Ready.{not-false, ended-file}
 use Rattle.pack_request.proofs.Changed.{Frame, changed-refused, changed-taken, changed-frame, here-file, here-channel, became-sound}
@@ -94,35 +98,14 @@ busy : (c : Channel) (u outcome : ℕ) → Booked c u outcome → isNone (reques
 busy c u outcome (again r q i j) = ap (λ (t : Turn). isNone (requested t)) i
 busy c u outcome (ended r e i j) = ap (λ (t : Turn). isNone (requested t)) i
 
--- ---- a check error is 0 to 3
+-- ---- what is found may stand with the block
 
-error-small : (words : List ℕ) (sequence check : Bool) (number : ℕ) → judgedBlock words sequence check number .error ≤ 3
-unfolding judgedBlock errorOf
-error-small words sequence check number =
-    let n = dataWords words sequence check in
-    go (eqb (judgeRefusal words sequence check number) 0) sequence check (eqb (address (getD words n 0)) number)
-    (eqb (firstHalf (getD words n 0)) (folded (logicalSum (take n words))))
+delivery-fits : (x : Effect) (f : File) (words : List ℕ) → f .block < blockNumbers → isChecked (f .sequence) (f .check) (deliveryCheck x f words) ≡ true
+delivery-fits x f words small = go (isDelivery x)
   where
-    go : (a s k x y : Bool) → cond a (chosen s (cond x 0 1) + chosen k (cond y 0 2)) 0 ≤ 3
-    go false s k x y = omega arith
-    go true s k x y = omega (arith, first s x, second k y)
-      where
-        first : (t z : Bool) → chosen t (cond z 0 1) ≤ 1
-        first true true = omega arith
-        first true false = omega arith
-        first false z = omega arith
-
-        second : (t z : Bool) → chosen t (cond z 0 2) ≤ 2
-        second true true = omega arith
-        second true false = omega arith
-        second false z = omega arith
-
-delivery-small : (x : Effect) (f : File) (words : List ℕ) → deliveryError x f words ≤ 3
-delivery-small x f words = go (isDelivery x) (error-small words (f .sequence) (f .check) (f .block))
-  where
-    go : (b : Bool) {n : ℕ} → n ≤ 3 → cond b n 0 ≤ 3
-    go true h = h
-    go false h = omega arith
+    go : (b : Bool) → isChecked (f .sequence) (f .check) (cond b (judgedBlock words (f .sequence) (f .check) (f .block) .found) unchecked) ≡ true
+    go true = judged-fits words (f .sequence) (f .check) (f .block) small
+    go false = unchecked-fits (f .sequence) (f .check)
 
 -- ---- the file of a unit
 
@@ -208,7 +191,7 @@ module _ (s : State) (area : List ℕ) (channel unit outcome : ℕ) (words : Lis
   booking = bookOf c unit (judgeOf c unit outcome) (s .frozen)
 
   abbrev became : File
-  became = reportedFile effect f (length words) (deliveryError effect f words)
+  became = reportedFile effect f (length words) (deliveryCheck effect f words)
 
   change-refused : (refusal ≡ 0 → ⊥) → change ≡ refusedReport refusal f c
   unfolding reportOn
@@ -217,7 +200,7 @@ module _ (s : State) (area : List ℕ) (channel unit outcome : ℕ) (words : Lis
   change-booked : refusal ≡ 0 → change ≡ record {
     refusal = 0;
     result = resultNumber (judgeOf c unit outcome);
-    error = deliveryError effect f words;
+    delivery = deliveryOf effect (deliveryCheck effect f words);
     working = unitNumber (workingIn booking);
     start = shownStart effect (s .w) f;
     count = shownCount effect f;
@@ -248,7 +231,7 @@ module _ (s : State) (area : List ℕ) (channel unit outcome : ℕ) (words : Lis
 
   -- refused: the number alone, the state that was passed, and the area as it was
   pub record ReportAlone : Type 0 where
-    pub answer : reported ≡ record { refusal = refusal; result = 0; error = 0; working = 0; start = 0; count = 0; state = s }
+    pub answer : reported ≡ record { refusal = refusal; result = 0; delivery = Without; working = 0; start = 0; count = 0; state = s }
     pub untouched : after ≡ area
 
   report-alone : (refusal ≡ 0 → ⊥) → ReportAlone
@@ -303,12 +286,12 @@ module _ (s : State) (area : List ℕ) (channel unit outcome : ℕ) (words : Lis
         sym (ap (λ (n : ℕ). fileReady (requested (turnAt (channelAt s n) (f .unit))) f) on-channel ∙ ap (λ (n : ℕ). fileReady (requested (turnAt c n)) f) on-unit)
         ∙ facts .ready i isOpen
 
-    after-facts : (error : ℕ) → error ≤ 3 → SoundFacts (withFile (withChannel s channel booking) i (reportedFile effect f (length words) error))
+    after-facts : (found : Checked) → isChecked (f .sequence) (f .check) found ≡ true → SoundFacts (withFile (withChannel s channel booking) i (reportedFile effect f (length words) found))
     unfolding operationAt reportedFile
-    after-facts error small = go view (ready .fits)
+    after-facts found right = go view (ready .fits)
       where
         To : Work → Verdict → Type 0
-        To x v = SoundFacts (withFile (withChannel s channel (bookOf c unit v (s .frozen))) i (reportedFile (effectOf x v) f (length words) error))
+        To x v = SoundFacts (withFile (withChannel s channel (bookOf c unit v (s .frozen))) i (reportedFile (effectOf x v) f (length words) found))
 
         go : Booked c unit outcome → (isDelivery effect ≡ true → blockFits f (length words) ≡ true) → To (operationAt c unit) (judgeOf c unit outcome)
         go (again r q t j) k =
@@ -323,7 +306,7 @@ module _ (s : State) (area : List ℕ) (channel unit outcome : ℕ) (words : Lis
             (subst (λ (x : Work). To x (Ends e)) (sym w)
             (became-sound s i channel unit (bookOf c unit (Ends e) (s .frozen)) _ Nothing facts isOpen on-channel on-unit
             (end-moved (s .m) c unit (s .frozen) (facts .channels channel) outcome e j)
-            (ended-file (s .m) (s .w) f (length words) error (facts .files i isOpen) small (r .op) e
+            (ended-file (s .m) (s .w) f (length words) found (facts .files i isOpen) right (r .op) e
             (sym (ap (λ (x : Turn). fileReady (requested x) f) t) ∙ requested-ready) (λ b. k (ap isDelivery here ∙ b)))))
 
     reported-channel : channelAt (reported .state) channel ≡ booking
@@ -356,7 +339,7 @@ module _ (s : State) (area : List ℕ) (channel unit outcome : ℕ) (words : Lis
   report-kept n h = go (ℕ-discrete refusal 0)
     where
       go : Dec (refusal ≡ 0) → sound (reported .state) ≡ true
-      go (yes z) = ap sound (report-state z) ∙ facts-sound _ (after-facts n z (deliveryError effect f words) (delivery-small effect f words))
+      go (yes z) = ap sound (report-state z) ∙ facts-sound _ (after-facts n z (deliveryCheck effect f words) (delivery-fits effect f words (facts n z .files i (isOpen n z) .number)))
       go (no k) = ap (λ (r : Reporting). sound (r .state)) (report-alone k .answer) ∙ h
 
   -- an accepted report is one event of its channel, which the channel books too

@@ -31,7 +31,7 @@ module _ (s : State) (area : List ℕ) (channel unit outcome : ℕ) (words : Lis
     (isI : i ≡ fileOf s channel unit) (isF : f ≡ fileAt s i) (isC : c ≡ channelAt s channel) (isW : whole ≡ sound s) (isS : short ≡ areaShort s (length area)) where
   pub report-whole : (x : ReportChange) (t : State) → x ≡ reportOn (not whole || (short || leb channelCount channel)) f c unit outcome (s .w) (s .frozen) area words
       → t ≡ changedState s i channel (x .refusal) (x .file) (x .channel)
-      → _≡_ {A = Reporting} (record { refusal = x .refusal; result = x .result; error = x .error; working = x .working; start = x .start; count = x .count; state = t })
+      → _≡_ {A = Reporting} (record { refusal = x .refusal; result = x .result; delivery = x .delivery; working = x .working; start = x .start; count = x .count; state = t })
       (reportBy s area channel unit outcome words)
   unfolding reportBy
   report-whole x t isX isT = rw (isT, isX, isC, isW, isS, isF, isI)

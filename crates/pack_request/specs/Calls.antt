@@ -53,7 +53,7 @@ reportBy s area c u outcome words =
     record {
       refusal = x .refusal;
       result = x .result;
-      error = x .error;
+      delivery = x .delivery;
       working = x .working;
       start = x .start;
       count = x .count;

@@ -62,11 +62,12 @@ pub fn report(
     let x = report_on(wrong, f, c, unit, outcome, s.w, s.frozen, area, words);
     let g = x.file;
     let d = x.channel;
+    let delivery = x.delivery;
     let t = changed_state(s, i, j, x.refusal, g, d);
     Reporting {
         refusal: x.refusal,
         result: x.result,
-        error: x.error,
+        delivery,
         working: x.working,
         start: x.start,
         count: x.count,

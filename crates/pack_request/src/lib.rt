@@ -6,6 +6,7 @@ mod changes;
 pub use calls::ask;
 pub use calls::report;
 pub use calls::reported_words;
+use call_request::Delivery;
 use state::State;
 
 // The answer to an ask: the refusal, 0 for none; the channel's working unit after the call, 255 for none; the state after it.
@@ -15,12 +16,12 @@ pub struct Asking {
     pub state: State,
 }
 
-// The answer to a report: the refusal, 0 for none; the result, 0 repeated, 1 to 6 how the operation ended; the check error of a delivered
-// block; the working unit after the call, 255 for none; the part of the area that holds the block of a write; the state after the call.
+// The answer to a report: the refusal, 0 for none; the result, 0 repeated, 1 to 6 how the operation ended; the delivered block's check, if
+// it delivers one; the working unit after the call, 255 for none; the part of the area that holds the block of a write; the state after the call.
 pub struct Reporting {
     pub refusal: u8,
     pub result: u8,
-    pub error: u8,
+    pub delivery: Delivery,
     pub working: u8,
     pub start: usize,
     pub count: usize,

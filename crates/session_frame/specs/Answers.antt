@@ -3,9 +3,9 @@ use mathlib.Core.List.{List, [], _∷_, _++_}
 use Prim.Native.Nat.{ℕ, _-_}
 use lib.ListN.{length, take}
 use Rattle.session_frame.specs.Digits.{byteDigits, concatMap}
-use Rattle.session_frame.specs.Fields.{wordBytes}
+use Rattle.session_frame.specs.Fields.{wordBytes, foundBytes}
 use Rattle.session_frame.specs.declared.Answer.{Answer}
-use Rattle.session_frame.specs.declared.Answer.the-variants.{Refused, Done, Asked, Reported, Got, GotError}
+use Rattle.session_frame.specs.declared.Answer.the-variants.{Refused, Done, Asked, Reported, Delivered, Got, GotError}
 
 -- The bytes of each answer; ws are the words that are shown.
 unfoldable pub answerBytes : Answer → List ℕ → List ℕ
@@ -15,11 +15,15 @@ answerBytes (Refused n) ws = n ∷ []
 answerBytes Done ws = 0 ∷ []
 -- "After 00: ask adds the channel's working unit, FF for none."
 answerBytes (Asked working) ws = 0 ∷ working ∷ []
--- "Report adds result, check error, working unit and, if it ends a write with 01 or 04, the block's words"
-answerBytes (Reported result error working) ws = 0 ∷ result ∷ error ∷ working ∷ concatMap wordBytes ws
+-- "Report adds result, check error, working unit and, if it ends a write with 01 or 04, the block's words"; a report that delivers no block has check
+-- error 0
+answerBytes (Reported result working) ws = 0 ∷ result ∷ 0 ∷ working ∷ concatMap wordBytes ws
+-- "A report that delivers a block, and get's answer 03, carry them .. after the error number, worked-out sum and number first, then those read, four
+-- bytes a sum, two a number."
+answerBytes (Delivered result found working) ws = 0 ∷ result ∷ found .error ∷ (foundBytes found ++ (working ∷ []))
 -- "Get adds 00 and words, 01 nothing yet, 02 end, 03 and the check error, 04 and a leftover.": which number is `file_input`'s to say
 answerBytes (Got number) ws = 0 ∷ number ∷ concatMap wordBytes ws
-answerBytes (GotError number error) ws = 0 ∷ number ∷ error ∷ []
+answerBytes (GotError number found) ws = 0 ∷ number ∷ found .error ∷ foundBytes found
 
 -- "pairs of upper-case hexadecimal digits, line feed"
 unfoldable pub answerText : Answer → List ℕ → List ℕ

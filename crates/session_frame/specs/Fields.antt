@@ -1,9 +1,10 @@
 -- The fields of a frame: bytes, sizes of two bytes, words of five (document 01, "The session program"). Assumes nothing.
 use mathlib.Core.Bool.{Bool}
-use mathlib.Core.List.{List, [], _∷_}
+use mathlib.Core.List.{List, [], _∷_, _++_}
 use Prim.Native.Nat.{ℕ, _+_, _*_, _/_, _%_, _^_}
 use lib.Dec.{ltb}
 use lib.ListN.{getD}
+use Rattle.word.specs.declared.Checked.{Checked}
 use Rattle.session_frame.specs.Digits.{byteDigits, concatMap}
 
 -- "Other numbers are one byte": byte k, 0 past the end
@@ -16,6 +17,14 @@ sizeAt bytes k = byteAt bytes k * 256 + byteAt bytes (k + 1)
 
 unfoldable pub sizeBytes : ℕ → List ℕ
 sizeBytes n = n / 2 ^ 8 % 256 ∷ n % 256 ∷ []
+
+-- "four bytes a sum", highest first
+unfoldable pub sumBytes : ℕ → List ℕ
+sumBytes n = n / 2 ^ 24 % 256 ∷ n / 2 ^ 16 % 256 ∷ n / 2 ^ 8 % 256 ∷ n % 256 ∷ []
+
+-- what a check found, its error left out: "worked-out sum and number first, then those read, four bytes a sum, two a number"
+abbrev pub foundBytes : Checked → List ℕ
+foundBytes c = sumBytes (c .sum) ++ (sizeBytes (c .number) ++ (sumBytes (c .sumread) ++ sizeBytes (c .numberread)))
 
 -- "Words are five bytes, highest first."
 abbrev pub wordOf : ℕ → ℕ → ℕ → ℕ → ℕ → ℕ

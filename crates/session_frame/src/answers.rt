@@ -2,6 +2,7 @@
 // line. Every other character of the area stays.
 use crate::Answer;
 use crate::Lead;
+use word::Checked;
 ghost use mathlib.Core.Path.{_≡_};
 ghost use Prim.Native.Nat.{_+_, _*_, _%_, _≤_, _<_};
 ghost use lib.Dec.{leb};
@@ -11,7 +12,7 @@ ghost use Rattle.session_frame.specs.Digits.{digitOf, byteDigits, concat
 ghost use Rattle.session_frame.specs.Fields.{wordDigits};
 ghost use Rattle.session_frame.specs.Writes.{placeAfter};
 ghost use mathlib.Core.Bool.{false};
-ghost use Rattle.session_frame.specs.Leads.{leadIs, leadOf, leadBytes, shownOf};
+ghost use Rattle.session_frame.specs.Leads.{briefLead, fullLead, leadOf, shownOf};
 ghost use Rattle.session_frame.specs.Answers.{answerText};
 
 // Whether n characters fit from a place on, of `len` that there are.
@@ -76,19 +77,6 @@ fn write_word(out: &mut [u8], at: usize, w: u64)
     write_byte(out, at + 8, low(w));
 }
 
-// A byte: two digits.
-fn put_byte(out: &mut [u8], at: usize, b: u8) -> usize
-    ensures { λ r. ⌜ r ≡ placeAfter at (byteDigits b) (now (out .entry)) ⌝ }
-    ensures { λ _. ⌜ now (out .exit) ≡ pastedIn at (byteDigits b) (now (out .entry)) ⌝ }
-{
-    let room = has_room(out.len(), at, 2);
-    if room {
-        write_byte(out, at, b);
-        return at + 2;
-    }
-    at
-}
-
 // A word of five bytes: ten digits. What is above 40 bits is not written.
 fn put_word(out: &mut [u8], at: usize, w: u64) -> usize
     ensures { λ r. ⌜ r ≡ placeAfter at (wordDigits w) (now (out .entry)) ⌝ }
@@ -121,30 +109,49 @@ fn put_words(out: &mut [u8], at: usize, words: &[u64]) -> usize
     to
 }
 
-// A lead of two bytes, 00 and one more.
-fn pair(second: u8, worded: bool) -> Lead
-    ensures { λ r. ⌜ r ≡ leadIs 2 0 second 0 0 worded ⌝ }
+// A lead of at most four bytes.
+fn brief(count: usize, first: u8, second: u8, fourth: u8, worded: bool) -> Lead
+    ensures { λ r. ⌜ r ≡ briefLead count first second fourth worded ⌝ }
 {
+    let bytes = [
+        first, second, 0, fourth, 0, 0, 0, 0, 0, 0, 0, 0, 0, 0, 0, 0,
+    ];
     Lead {
-        count: 2,
-        first: 0,
-        second,
-        third: 0,
-        fourth: 0,
+        count,
+        bytes,
         worded,
     }
 }
 
-// A lead of one byte.
-fn single(first: u8) -> Lead
-    ensures { λ r. ⌜ r ≡ leadIs 1 first 0 0 0 false ⌝ }
+// A lead with what a check found: 00, a number, the error, the sum and the number worked out, those read, and one byte more.
+fn full(count: usize, second: u8, found: Checked, last: u8) -> Lead
+    ensures { λ r. ⌜ r ≡ fullLead count second found last ⌝ }
 {
+    let sum = found.sum as u64;
+    let number = found.number as u64;
+    let sumread = found.sumread as u64;
+    let numberread = found.numberread as u64;
+    let bytes = [
+        0,
+        second,
+        found.error,
+        low(sum >> 24),
+        low(sum >> 16),
+        low(sum >> 8),
+        low(sum),
+        low(number >> 8),
+        low(number),
+        low(sumread >> 24),
+        low(sumread >> 16),
+        low(sumread >> 8),
+        low(sumread),
+        low(numberread >> 8),
+        low(numberread),
+        last,
+    ];
     Lead {
-        count: 1,
-        first,
-        second: 0,
-        third: 0,
-        fourth: 0,
+        count,
+        bytes,
         worded: false,
     }
 }
@@ -154,52 +161,33 @@ fn lead_of(a: Answer) -> Lead
     ensures { λ r. ⌜ r ≡ leadOf a ⌝ }
 {
     match a {
-        Answer::Refused(n) => single(n),
-        Answer::Done => single(0),
-        Answer::Asked { working } => pair(working, false),
-        Answer::Reported {
+        Answer::Refused(n) => brief(1, n, 0, 0, false),
+        Answer::Done => brief(1, 0, 0, 0, false),
+        Answer::Asked { working } => brief(2, 0, working, 0, false),
+        Answer::Reported { result, working } => brief(4, 0, result, working, true),
+        Answer::Delivered {
             result,
-            error,
+            found,
             working,
-        } => Lead {
-            count: 4,
-            first: 0,
-            second: result,
-            third: error,
-            fourth: working,
-            worded: true,
-        },
-        Answer::Got(number) => pair(number, true),
-        Answer::GotError { number, error } => Lead {
-            count: 3,
-            first: 0,
-            second: number,
-            third: error,
-            fourth: 0,
-            worded: false,
-        },
+        } => full(16, result, found, working),
+        Answer::Got(number) => brief(2, 0, number, 0, true),
+        Answer::GotError { number, found } => full(15, number, found, 0),
     }
 }
 
-// Writes a lead of one to four bytes at the front of an area where it fits. The answer is the place after it.
-fn write_lead(l: Lead, out: &mut [u8]) -> usize
-    requires { ⌜ (0 < l .count) × (l .count ≤ 4) × (2 * l .count ≤ length (now out)) ⌝ }
-    ensures { λ r. ⌜ (r ≡ 2 * l .count) × (now (out .exit) ≡ paste 0 (concatMap byteDigits (leadBytes l)) (now (out .entry))) ⌝ }
+// Writes bytes at the front of an area where they fit. The answer is the place after them.
+fn write_lead(bytes: &[u8], out: &mut [u8]) -> usize
+    requires { ⌜ 2 * length (now bytes) ≤ length (now out) ⌝ }
+    ensures { λ r. ⌜ (r ≡ 2 * length (now (bytes .entry))) × (now (out .exit) ≡ paste 0 (concatMap byteDigits (now (bytes .entry))) (now (out .entry))) ⌝ }
 {
-    put_byte(out, 0, l.first);
-    if l.count == 1 {
-        return 2;
+    let mut to = 0;
+    let mut i = 0;
+    while i < bytes.len() {
+        write_byte(out, to, bytes[i]);
+        to += 2;
+        i += 1;
     }
-    put_byte(out, 2, l.second);
-    if l.count == 2 {
-        return 4;
-    }
-    put_byte(out, 4, l.third);
-    if l.count == 3 {
-        return 6;
-    }
-    put_byte(out, 6, l.fourth);
-    8
+    to
 }
 
 // The line feed.
@@ -217,7 +205,7 @@ fn shown(words: &[u64], worded: bool) -> &[u64]
 
 // Whether a line of so many bytes and n words, with its line feed, fits into `len` characters.
 fn line_fits(len: usize, count: usize, n: usize) -> bool
-    requires { ⌜ count ≤ 4 ⌝ }
+    requires { ⌜ count ≤ 16 ⌝ }
     ensures { λ r. ⌜ r ≡ leb (2 * count + 10 * n + 1) len ⌝ }
 {
     let least = 2 * count + 1;
@@ -234,12 +222,14 @@ pub fn write_answer(a: Answer, words: &[u64], out: &mut [u8]) -> usize
     ensures { λ _. ⌜ now (out .exit) ≡ pastedIn 0 (answerText a (now (words .entry))) (now (out .entry)) ⌝ }
 {
     let lead = lead_of(a);
+    let bytes = lead.bytes;
     let part = shown(words, lead.worded);
     let room = line_fits(out.len(), lead.count, part.len());
     if !room {
         return 0;
     }
-    let mid = write_lead(lead, out);
+    let n = lead.count;
+    let mid = write_lead(&bytes[..n], out);
     let end = crate::answers::put_words(out, mid, part);
     out[end] = FEED;
     end + 1

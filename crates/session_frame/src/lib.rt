@@ -7,6 +7,7 @@ mod frames;
 pub use answers::write_answer;
 pub use frames::frame_of;
 pub use frames::words_into;
+use word::Checked;
 
 // The most characters that a line has: a report of 1,024 words.
 pub const LONGEST: usize = 10248;
@@ -82,20 +83,22 @@ pub enum Answer {
     Done,
     // ask: the unit that the channel works for
     Asked { working: u8 },
-    // report: its result, the check error, the unit that the channel works for; words if it ends a write
-    Reported { result: u8, error: u8, working: u8 },
+    // report that delivers no block: its result, the unit that the channel works for; words if it ends a write
+    Reported { result: u8, working: u8 },
+    // report that delivers a block: its result, what the check found, the unit that the channel works for
+    Delivered { result: u8, found: Checked, working: u8 },
     // get: the number of what it found, and its words
     Got(u8),
-    // get: the number of a check error, and that error
-    GotError { number: u8, error: u8 },
+    // get: the number of a check error, and what the check found
+    GotError { number: u8, found: Checked },
 }
 
-// The bytes of an answer ahead of its words, `count` of the four, and whether words follow.
+// The most bytes of an answer ahead of its words: a report that delivers a block.
+pub const LEAD: usize = 16;
+
+// The bytes of an answer ahead of its words, `count` of them, and whether words follow.
 pub struct Lead {
     pub count: usize,
-    pub first: u8,
-    pub second: u8,
-    pub third: u8,
-    pub fourth: u8,
+    pub bytes: [u8; LEAD],
     pub worded: bool,
 }

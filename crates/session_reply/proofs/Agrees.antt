@@ -48,7 +48,7 @@ use Rattle.call_request.specs.declared.ReportChange.{ReportChange}
 use Rattle.pack_request.specs.Changes.{changedState}
 use Rattle.call_request.specs.Ask.{askRefusal, askedFile, askedChannel, askOn}
 use Rattle.pack_request.specs.Calls.{askChange, askBy, fileOf, reportChange, reportBy, reportByArea}
-use Rattle.call_request.specs.Report.{effectAt, deliveryError, shownStart, shownCount, reportedFile, reportRefusal, refusedReport, reportOn}
+use Rattle.call_request.specs.Report.{effectAt, deliveryCheck, deliveryOf, shownStart, shownCount, reportedFile, reportRefusal, refusedReport, reportOn}
 use Rattle.call_record.specs.Get.{getOn}
 use Rattle.pack_record.specs.Gets.{getChange, getBy, getWords}
 use Rattle.call_record.specs.Skip.{skipOn}
@@ -58,7 +58,7 @@ use Rattle.pack_record.specs.Puts.{putChange, putBy, putByArea}
 use Rattle.call_record.specs.Seal.{sealOn}
 use Rattle.pack_record.specs.Seals.{sealChange, sealBy, sealByArea}
 use Rattle.file_input.specs.Histories.{shown}
-use Rattle.session_reply.specs.Replies.{answerOr, quietly, masksOf, gotAnswer, givenWords, replyTo, answerTo}
+use Rattle.session_reply.specs.Replies.{answerOr, quietly, masksOf, gotAnswer, givenWords, replyTo, answerTo, reportAnswer}
 use Rattle.session_reply.specs.Changes.{openTold, closeTold, askChangeOn, skipTold, reportChangeOn, reportAreaOn, getTold, putTold, putAreaOn, sealTold, sealAreaOn}
 use Rattle.session_reply.specs.Turns.{judged, wholeOf, recordOf, recordArea, bindingOf, requestOf, requestArea, recordTurn, bindingTurn, requestTurn, wholeTurn, turnedOn, requestAreaOn, areaOn, replyOn, answerOn}
 
@@ -129,11 +129,11 @@ report-alone wrong f c u outcome w frozen area words h =
     (record {
       refusal = 0;
       result = resultNumber (judgeOf c u outcome);
-      error = deliveryError x f words;
+      delivery = deliveryOf x (deliveryCheck x f words);
       working = unitNumber (workingIn (bookOf c u (judgeOf c u outcome) frozen));
       start = shownStart x w f;
       count = shownCount x f;
-      file = reportedFile x f (length words) (deliveryError x f words);
+      file = reportedFile x f (length words) (deliveryCheck x f words);
       channel = bookOf c u (judgeOf c u outcome) frozen;
     }) (refusedReport (reportRefusal wrong f c u outcome w area words) f c) refl h in
     (ap (λ (x : ReportChange). x .file) e, ap (λ (x : ReportChange). x .channel) e)
@@ -192,7 +192,7 @@ module _ (s : State) (area words : List ℕ) where
       ap (λ (u : State). record {
         state = u;
         area = reportByArea s area (q .channel) (q .unit) (q .outcome) words;
-        answer = answerOr (x .refusal) (answer.Reported (x .result) (x .error) (x .working));
+        answer = answerOr (x .refusal) (reportAnswer (x .result) (x .delivery) (x .working));
         words = partOf (x .start) (x .count) (reportByArea s area (q .channel) (q .unit) (q .outcome) words);
       }) (stored-both s (fileOf s (q .channel) (q .unit)) (q .channel) (x .refusal) (x .file) (x .channel) (report-alone _ _ _ _ _ _ _ _ _))
 

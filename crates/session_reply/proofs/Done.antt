@@ -40,7 +40,7 @@ use Rattle.session_frame.specs.declared.Frame.the-variants.{Fresh}
 use Rattle.session_frame.specs.declared.Frame.{Frame}
 use Rattle.session_reply.specs.declared.Told.{Told}
 use Rattle.session_reply.specs.declared.Change.{Change}
-use Rattle.session_reply.specs.Replies.{answerOr, gotAnswer, masksOf}
+use Rattle.session_reply.specs.Replies.{answerOr, gotAnswer, masksOf, reportAnswer}
 use Rattle.session_reply.specs.Changes.{quietTold, openWrong, openTold, askChangeOn, reportChangeOn, reportAreaOn, getTold, putTold, putAreaOn, sealTold, sealAreaOn}
 use Rattle.session_reply.specs.Places.{channelNumber, fileOr, fileKept, channelOr, channelKept, channelFor}
 use Rattle.session_reply.specs.Turns.{wholeOf, recordOf, recordArea, bindingOf, requestOf, requestArea, toldAt, recordAt, bindingAt, changeAt, requestAt}
@@ -68,14 +68,14 @@ asked-as unsound frozen f c q x a ex ea =
 module _ (unsound : Bool) (m w : ℕ) (frozen : Bool) (f : File) (c : Channel) (q : ReportFrame) (area words : List ℕ) where
   pub reported-as : (short : Bool) (x : ReportChange) (a : Answer) → short ≡ ltb (length area) (m * w)
       → x ≡ reportOn (unsound || (short || leb channelCount (q .channel))) f c (q .unit) (q .outcome) w frozen area words
-      → a ≡ answerOr (x .refusal) (answer.Reported (x .result) (x .error) (x .working))
+      → a ≡ answerOr (x .refusal) (reportAnswer (x .result) (x .delivery) (x .working))
       → record { answer = a; start = x .start; count = x .count; file = x .file; channel = x .channel }
       ≡ reportChangeOn unsound m w frozen f c q area words
   unfolding reportChangeOn
   reported-as short x a es ex ea =
       ap (λ (b : Answer). record { answer = b; start = x .start; count = x .count; file = x .file; channel = x .channel }) ea
       ∙ ap (λ (y : ReportChange). record {
-        answer = answerOr (y .refusal) (answer.Reported (y .result) (y .error) (y .working));
+        answer = answerOr (y .refusal) (reportAnswer (y .result) (y .delivery) (y .working));
         start = y .start;
         count = y .count;
         file = y .file;

@@ -27,7 +27,7 @@ use Rattle.call_record.specs.Put.{putOn, putOnArea}
 use Rattle.call_record.specs.Seal.{sealOn, sealOnArea}
 use Rattle.session_reply.specs.declared.Change.{Change}
 use Rattle.session_reply.specs.declared.Told.{Told}
-use Rattle.session_reply.specs.Replies.{answerOr, gotAnswer}
+use Rattle.session_reply.specs.Replies.{answerOr, reportAnswer, gotAnswer}
 
 abbrev pub quietTold : ℕ → File → Told
 quietTold n f = record { answer = answerOr n answer.Done; start = 0; count = 0; file = f }
@@ -71,7 +71,7 @@ unfoldable pub reportChangeOn : Bool → ℕ → ℕ → Bool → File → Chann
 reportChangeOn unsound m w frozen f c q area words =
     let x = reportOn (reportWrongBy unsound m w (length area) (q .channel)) f c (q .unit) (q .outcome) w frozen area words in
     record {
-      answer = answerOr (x .refusal) (answer.Reported (x .result) (x .error) (x .working));
+      answer = answerOr (x .refusal) (reportAnswer (x .result) (x .delivery) (x .working));
       start = x .start;
       count = x .count;
       file = x .file;

@@ -7,6 +7,8 @@ use lib.ListN.{length, drop}
 use Rattle.area.specs.Parts.{partOf}
 use Rattle.session_frame.specs.Digits.{bytesOf}
 use Rattle.session_frame.specs.Fields.{wordsOf}
+use Rattle.call_request.specs.declared.Delivery.{Delivery}
+use Rattle.call_request.specs.declared.Delivery.the-variants.{Without, With}
 use Rattle.session_frame.specs.declared.Masks as frame
 use Rattle.session_frame.specs.declared.Frame.{Frame}
 use Rattle.session_frame.specs.declared.Frame.the-variants.{Malformed, Fresh, Open, Close, Ask, Report, Get, Put, Seal, Skip, Freeze, Thaw}
@@ -56,6 +58,11 @@ gotAnswer (got.Error e) = answer.GotError (gotNumber (got.Error e)) e
 gotAnswer got.End = answer.Got (gotNumber got.End)
 gotAnswer got.Nothing = answer.Got (gotNumber got.Nothing)
 
+-- "Report adds result, check error, working unit"; with what was found if it delivers a block
+abbrev pub reportAnswer : ℕ → Delivery → ℕ → Answer
+reportAnswer result Without working = answer.Reported result working
+reportAnswer result (With found) working = answer.Delivered result found working
+
 -- the words that come with a line: "04 channel unit outcome words", "06 put file words"
 unfoldable pub givenWords : Frame → List ℕ → List ℕ
 givenWords (Report q) line = wordsOf (drop 4 (bytesOf line))
@@ -91,7 +98,7 @@ replyTo s area words (Report q) =
     record {
       state = x .state;
       area = after;
-      answer = answerOr (x .refusal) (answer.Reported (x .result) (x .error) (x .working));
+      answer = answerOr (x .refusal) (reportAnswer (x .result) (x .delivery) (x .working));
       words = partOf (x .start) (x .count) after;
     }
 replyTo s area words (Get file) =

@@ -10,6 +10,7 @@ use call_record::get_on;
 use call_record::put_on;
 use call_record::seal_on;
 use call_record::skip_on;
+use call_request::Delivery;
 use call_request::ask_on;
 use call_request::report_on;
 use channel::Channel;
@@ -27,7 +28,7 @@ use session_frame::OpenFrame;
 use session_frame::ReportFrame;
 use state::CHANNELS;
 ghost use mathlib.Core.Path.{_≡_};
-ghost use Rattle.session_reply.specs.Replies.{answerOr, gotAnswer};
+ghost use Rattle.session_reply.specs.Replies.{answerOr, gotAnswer, reportAnswer};
 ghost use Rattle.session_reply.specs.Changes.{quietTold, openTold, closeTold, askChangeOn, skipTold, reportChangeOn, reportAreaOn, getTold, putTold, putAreaOn, sealTold, sealAreaOn};
 ghost use Prim.Native.Nat.{_*_};
 ghost use lib.Dec.{ltb};
@@ -120,6 +121,20 @@ fn is_short(m: u8, w: u16, n: usize) -> bool
     n < (m as usize) * (w as usize)
 }
 
+// The answer of a report: with what was found if it delivers a block.
+fn report_answer(result: u8, delivery: Delivery, working: u8) -> Answer
+    ensures { λ r. ⌜ r ≡ reportAnswer result delivery working ⌝ }
+{
+    match delivery {
+        Delivery::Without => Answer::Reported { result, working },
+        Delivery::With(found) => Answer::Delivered {
+            result,
+            found,
+            working,
+        },
+    }
+}
+
 pub fn reported(
     unsound: bool,
     m: u8,
@@ -140,17 +155,9 @@ pub fn reported(
     let x = report_on(wrong, f, c, q.unit, q.outcome, w, frozen, area, words);
     let g = x.file;
     let d = x.channel;
-    let result = x.result;
-    let error = x.error;
-    let working = x.working;
-    let answer = answer_or(
-        x.refusal,
-        Answer::Reported {
-            result,
-            error,
-            working,
-        },
-    );
+    let delivery = x.delivery;
+    let told = report_answer(x.result, delivery, x.working);
+    let answer = answer_or(x.refusal, told);
     Change {
         answer,
         start: x.start,
@@ -168,7 +175,7 @@ fn got_answer(g: Got) -> Answer
     match g {
         Got::Record { start: _, words: _ } => Answer::Got(number),
         Got::Leftover { start: _, words: _ } => Answer::Got(number),
-        Got::Error(error) => Answer::GotError { number, error },
+        Got::Error(found) => Answer::GotError { number, found },
         Got::End => Answer::Got(number),
         Got::Nothing => Answer::Got(number),
     }

@@ -6,6 +6,9 @@ use native.Mathlib.Omega.{arith}
 use borrow.Author.Tests.{leb-true, lt-ltb}
 use lib.Dec.{leb, ltb, eqb}
 use Rattle.area.proofs.Walks.{by-test, true-not-false, and-left, and-right, and-both}
+use Rattle.word.specs.declared.Checked.{Checked}
+use Rattle.word.specs.Checks.{unchecked, toldCheck, isChecked}
+use Rattle.word.proofs.Laws.Checks.{unchecked-fits, told-fits}
 use Rattle.file.specs.declared.Slot.{Slot}
 use Rattle.file.specs.declared.Slot.the-variants.{Empty, Taken, Part, Full}
 use Rattle.file.specs.declared.Side.{Side}
@@ -25,7 +28,7 @@ use Rattle.file_input.specs.Gets.{isUsedUp, passed, lookedAt, wordsGiven, slotA
 use Rattle.state_sound.specs.Files.{takenCount}
 use Rattle.area.specs.Lists.{oneIf}
 use Rattle.state_sound.proofs.FileFacts.{slotFits, Sound, fits}
-use Rattle.state_sound.proofs.FilesKept.{other, owns, slot-fits, owns-used, taken-sides, part-sides, changed, beside, emptied, full-slot, filled}
+use Rattle.state_sound.proofs.FilesKept.{other, owns, quiet-slot, empty-slot, slot-fits, owns-used, taken-sides, part-sides, changed, beside, emptied, full-slot, filled}
 
 -- ---- what is not empty
 
@@ -84,9 +87,8 @@ module _ (m w : ℕ) (f : File) (S : Sound m w f) where
 
   -- ---- input
 
-  taken-slot : (o : Bool) → slotFits o (f .size) (f .rlen) Taken ≡ true
-  taken-slot true = refl
-  taken-slot false = refl
+  taken-slot : slotFits (f .sequence) (f .check) (f .output) (f .size) (f .rlen) Taken ≡ true
+  taken-slot = quiet-slot (f .sequence) (f .check) (f .output) (f .size) (f .rlen) Taken refl refl refl refl refl
 
   -- a read: of an input file that has no buffer taken, and has an empty one
   pub took-sound : f .output ≡ false → takenCount f ≡ 0 → isSide (emptySide f) ≡ true → Sound m w (tookBuffer f)
@@ -97,15 +99,15 @@ module _ (m w : ℕ) (f : File) (S : Sound m w f) where
       changed m w f (emptySide f) Taken false (f .block) S
       (record {
         own = o;
-        slot = taken-slot (f .output);
+        slot = taken-slot;
         taken = omega (arith, taken-sides f (emptySide f) s);
         part = omega (arith, beside m w f (emptySide f) S o .1);
         order = λ e. true-not-false e refl;
         number = S .number;
       })
 
-  -- its good end: with 1 to B data words, and a check error
-  pub delivered-sound : (n e : ℕ) → isSide (takenSide f) ≡ true → 1 ≤ n → n ≤ f .size → e ≤ 3 → Sound m w (delivered f n e)
+  -- its good end: with 1 to B data words, and what its check found
+  pub delivered-sound : (n : ℕ) (e : Checked) → isSide (takenSide f) ≡ true → 1 ≤ n → n ≤ f .size → isChecked (f .sequence) (f .check) e ≡ true → Sound m w (delivered f n e)
   unfolding delivered
   delivered-sound n e s some fit err = filled m w f (takenSide f) n e S (own-taken s) some fit err (λ o. true-not-false o (taken-input s))
 
@@ -157,8 +159,8 @@ met-sound m w f S i = marked-sound m w (gaveBack f) (back-sound m w f S) (same-o
 
 -- ---- get
 
-given-most : (r n at e : ℕ) → wordsGiven r (Full n at e) ≤ n - at
-given-most r n at e = go (ltb 0 e) (leb r (n - at)) refl
+given-most : (r n at : ℕ) (e : Checked) → wordsGiven r (Full n at e) ≤ n - at
+given-most r n at e = go (ltb 0 (e .error)) (leb r (n - at)) refl
   where
     go : (s t : Bool) → leb r (n - at) ≡ t → cond s 0 (cond t r (n - at)) ≤ n - at
     go true t q = omega arith
@@ -166,27 +168,27 @@ given-most r n at e = go (ltb 0 e) (leb r (n - at)) refl
     go false false q = omega arith
 
 -- a full block's numbers
-pub record Numbers (f : File) (n at e : ℕ) : Type 0 where
+pub record Numbers (f : File) (n at : ℕ) (e : Checked) : Type 0 where
   pub some : 1 ≤ n
   pub fit : n ≤ f .size
   pub place : at ≤ n
-  pub error : e ≤ 3
+  pub found : isChecked (f .sequence) (f .check) e ≡ true
 
-pub numbers : (m w : ℕ) (f : File) (k : Side) (n at e : ℕ) → Sound m w f → slotAt f k ≡ Full n at e → Numbers f n at e
+pub numbers : (m w : ℕ) (f : File) (k : Side) (n at : ℕ) (e : Checked) → Sound m w f → slotAt f k ≡ Full n at e → Numbers f n at e
 numbers m w f k n at e S x =
-    let F = fits (f .output) (f .size) (f .rlen) (Full n at e) (sym (ap (slotFits (f .output) (f .size) (f .rlen)) x) ∙ slot-fits m w f k S) in
+    let F = fits (f .sequence) (f .check) (f .output) (f .size) (f .rlen) (Full n at e) (sym (ap (slotFits (f .sequence) (f .check) (f .output) (f .size) (f .rlen)) x) ∙ slot-fits m w f k S) in
     record {
       some = leb-true 1 n (and-left (leb 1 n) _ (F .full));
       fit = leb-true n (f .size) (and-right (leb 1 n) _ (F .full));
       place = leb-true at n (F .place);
-      error = leb-true e 3 (F .error);
+      found = F .found;
     }
 
 -- where both are full, both are full still
-order-stays : (m w : ℕ) (f : File) (k : Side) (n p : ℕ) → Sound m w f → isSide k ≡ true → f .turned ≡ true → (isFull (Full n p 0) && isFull (other f k)) ≡ true
-order-stays m w f Low n p S s t = and-right (isFull (f .low .slot)) _ (S .order t)
-order-stays m w f High n p S s t = and-left (isFull (f .low .slot)) _ (S .order t)
-order-stays m w f Neither n p S s t = true-not-false s refl
+order-stays : (m w : ℕ) (f : File) (k : Side) (n p : ℕ) (e : Checked) → Sound m w f → isSide k ≡ true → f .turned ≡ true → (isFull (Full n p e) && isFull (other f k)) ≡ true
+order-stays m w f Low n p e S s t = and-right (isFull (f .low .slot)) _ (S .order t)
+order-stays m w f High n p e S s t = and-left (isFull (f .low .slot)) _ (S .order t)
+order-stays m w f Neither n p e S s t = true-not-false s refl
 
 pub found-sound : (m w : ℕ) (f : File) → Sound m w f → f .output ≡ false → Sound m w (afterFound f)
 unfolding afterFound
@@ -197,16 +199,16 @@ found-sound m w f S i = go (oldest f) (aged f) (own-oldest m w f S)
     go k (old _ n at e rest t x l gone moved) o =
         let N = numbers m w f k n at e S x in
         let p = at + wordsGiven (f .rlen) (Full n at e) in
-        let y : slotAfter (f .rlen) (slotAt f k) ≡ Full n p 0 = ap (slotAfter (f .rlen)) x in
+        let y : slotAfter (f .rlen) (slotAt f k) ≡ Full n p (toldCheck e) = ap (slotAfter (f .rlen)) x in
         let place : p ≤ n = omega (arith, given-most (f .rlen) n at e, N .place) in
         subst (λ (z : Slot). Sound m w (withSlot f k z (f .turned) (f .block))) (sym y)
-        (changed m w f k (Full n p 0) (f .turned) (f .block) S
+        (changed m w f k (Full n p (toldCheck e)) (f .turned) (f .block) S
         (record {
           own = o t;
-          slot = full-slot (f .output) (f .size) (f .rlen) n p 0 (N .some) (N .fit) place (omega arith) (λ q. true-not-false q i);
+          slot = full-slot (f .sequence) (f .check) (f .output) (f .size) (f .rlen) n p (toldCheck e) (N .some) (N .fit) place (told-fits (f .sequence) (f .check) e (N .found)) (λ q. true-not-false q i);
           taken = omega (arith, beside m w f k S (o t) .0);
           part = omega (arith, beside m w f k S (o t) .1);
-          order = order-stays m w f k n p S t;
+          order = order-stays m w f k n p (toldCheck e) S t;
           number = S .number;
         }))
 
@@ -226,13 +228,13 @@ get-sound m w f S i =
 -- ---- output
 
 -- a part-filled block's words
-pub part-numbers : (o : Bool) (size rlen : ℕ) (x : Slot) → slotFits o size rlen x ≡ true → isPart x ≡ true → (rlen ≤ partWords x) × (partWords x + rlen ≤ size)
-part-numbers o size rlen Empty h p = true-not-false p refl
-part-numbers o size rlen Taken h p = true-not-false p refl
-part-numbers o size rlen (Part n) h p =
-    let F = fits o size rlen (Part n) h in
+pub part-numbers : (s c o : Bool) (size rlen : ℕ) (x : Slot) → slotFits s c o size rlen x ≡ true → isPart x ≡ true → (rlen ≤ partWords x) × (partWords x + rlen ≤ size)
+part-numbers s c o size rlen Empty h p = true-not-false p refl
+part-numbers s c o size rlen Taken h p = true-not-false p refl
+part-numbers s c o size rlen (Part n) h p =
+    let F = fits s c o size rlen (Part n) h in
     (leb-true rlen n (and-left (leb rlen n) _ (F .part)), leb-true (n + rlen) size (and-right (leb rlen n) _ (F .part)))
-part-numbers o size rlen (Full n at e) h p = true-not-false p refl
+part-numbers s c o size rlen (Full n at e) h p = true-not-false p refl
 
 module _ (m w : ℕ) (f : File) (S : Sound m w f) where
   pub one-record : 1 ≤ f .rlen
@@ -244,14 +246,10 @@ module _ (m w : ℕ) (f : File) (S : Sound m w f) where
   pub sealed-sound : isSide (partSide f) ≡ true → Sound m w (sealedFile f)
   unfolding sealedFile partLength
   sealed-sound s =
-      let P = part-numbers (f .output) (f .size) (f .rlen) (slotAt f (partSide f)) (slot-fits m w f (partSide f) S) (part-there f s) in
-      filled m w f (partSide f) (partWords (slotAt f (partSide f))) 0 S (own-part m w f S s) (omega (arith, P .0, one-record)) (omega (arith, P .1)) (omega arith) (λ o. refl)
+      let P = part-numbers (f .sequence) (f .check) (f .output) (f .size) (f .rlen) (slotAt f (partSide f)) (slot-fits m w f (partSide f) S) (part-there f s) in
+      filled m w f (partSide f) (partWords (slotAt f (partSide f))) unchecked S (own-part m w f S s) (omega (arith, P .0, one-record)) (omega (arith, P .1)) (unchecked-fits (f .sequence) (f .check)) (λ o. refl)
 
 -- ---- open
-
-empty-opened : (o : Bool) (size rlen : ℕ) → slotFits o size rlen Empty ≡ true
-empty-opened true size rlen = refl
-empty-opened false size rlen = refl
 
 pub opened-sound : (m w : ℕ) (q : Wish) (low high : ℕ) → sizesFit w (q .sequence) (q .check) (q .size) (q .rlen) ≡ true → low < m
     → (q .double ≡ true → (low < high) × (high < m)) → Sound m w (openedFile q low high)
@@ -261,8 +259,8 @@ opened-sound m w q low high fit less two = record {
   number = omega arith;
   first = less;
   second = second-fits (q .double) two;
-  low = empty-opened (q .output) (q .size) (q .rlen);
-  high = empty-opened (q .output) (q .size) (q .rlen);
+  low = empty-slot (q .sequence) (q .check) (q .output) (q .size) (q .rlen);
+  high = empty-slot (q .sequence) (q .check) (q .output) (q .size) (q .rlen);
   taken = omega arith;
   part = omega arith;
   order = λ e. true-not-false e refl;

@@ -10,16 +10,17 @@ use Rattle.file.specs.declared.Slot.{Slot}
 use Rattle.file.specs.declared.Slot.the-variants.{Empty, Taken, Part, Full}
 use Rattle.file.specs.declared.Buffer.{Buffer}
 use Rattle.file.specs.declared.File.{File}
-use Rattle.file.specs.Slots.{isEmpty, isFull, fullError}
+use Rattle.file.specs.Slots.{isEmpty, isFull, fullFound}
 use Rattle.file.specs.Sides.{noBuffer}
 use Rattle.word.specs.CheckWords.{blockNumbers}
+use Rattle.word.specs.Checks.{isChecked}
 use Rattle.file.specs.Sizes.{sizesFit, closedFile}
 use Rattle.state_sound.specs.Files.{inRange, isNoBuffer, hasBuffers, takenCount, takenRight, fullFits, fullRight, partsHeld, partFits, partRight, placeFits, placeRight, isUnread, openSound, isBlank, fileSound}
 use Rattle.area.specs.Lists.{oneIf}
 
--- what one buffer of a file may hold, by the file's direction and sizes
-abbrev pub slotFits : Bool → ℕ → ℕ → Slot → Bool
-slotFits output size rlen x = leb (fullError x) 3 && (fullFits size x && (partFits size rlen x && (placeFits x && (not output || isUnread x))))
+-- what one buffer of a file may hold, by the file's choices, direction and sizes
+abbrev pub slotFits : Bool → Bool → Bool → ℕ → ℕ → Slot → Bool
+slotFits sequence check output size rlen x = isChecked sequence check (fullFound x) && (fullFits size x && (partFits size rlen x && (placeFits x && (not output || isUnread x))))
 
 abbrev pub secondFits : ℕ → File → Bool
 secondFits m f = cond (f .double) (ltb (f .low .number) (f .high .number) && ltb (f .high .number) m) (isNoBuffer (f .high))
@@ -29,8 +30,8 @@ pub record Sound (m w : ℕ) (f : File) : Type 0 where
   pub number : f .block < blockNumbers
   pub first : f .low .number < m
   pub second : secondFits m f ≡ true
-  pub low : slotFits (f .output) (f .size) (f .rlen) (f .low .slot) ≡ true
-  pub high : slotFits (f .output) (f .size) (f .rlen) (f .high .slot) ≡ true
+  pub low : slotFits (f .sequence) (f .check) (f .output) (f .size) (f .rlen) (f .low .slot) ≡ true
+  pub high : slotFits (f .sequence) (f .check) (f .output) (f .size) (f .rlen) (f .high .slot) ≡ true
   pub taken : takenCount f ≤ oneIf (not (f .output))
   pub part : partsHeld f ≤ oneIf (f .output)
   pub order : f .turned ≡ true → (isFull (f .low .slot) && isFull (f .high .slot)) ≡ true
@@ -55,7 +56,7 @@ facts m w f h o =
     let h₆ = both (placeRight f) _ (h₅ .1) in
     let r₁ = both (sizesFit w (f .sequence) (f .check) (f .size) (f .rlen)) _ (h₁ .0) in
     let r₂ = both (ltb (f .block) blockNumbers) _ (r₁ .1) in
-    let r₃ = both (leb (fullError (f .low .slot)) 3) _ (r₂ .1) in
+    let r₃ = both (isChecked (f .sequence) (f .check) (fullFound (f .low .slot))) _ (r₂ .1) in
     let b = both (ltb (f .low .number) m) _ (h₂ .0) in
     let l = both (fullFits (f .size) (f .low .slot)) _ (h₄ .0) in
     let p = both (leb (partsHeld f) (oneIf (f .output))) _ (h₅ .0) in
@@ -69,10 +70,10 @@ facts m w f h o =
       first = ltb-true (f .low .number) m (b .0);
       second = b .1;
       low =
-          all-five (leb (fullError (f .low .slot)) 3) (fullFits (f .size) (f .low .slot)) (partFits (f .size) (f .rlen) (f .low .slot)) (placeFits (f .low .slot)) (not (f .output) || isUnread (f .low .slot))
+          all-five (isChecked (f .sequence) (f .check) (fullFound (f .low .slot))) (fullFits (f .size) (f .low .slot)) (partFits (f .size) (f .rlen) (f .low .slot)) (placeFits (f .low .slot)) (not (f .output) || isUnread (f .low .slot))
           (r₃ .0) (l .0) (q .0) (a .0) (unless-so (f .output) _ (λ e. and-left (isUnread (f .low .slot)) _ (unread e)));
       high =
-          all-five (leb (fullError (f .high .slot)) 3) (fullFits (f .size) (f .high .slot)) (partFits (f .size) (f .rlen) (f .high .slot)) (placeFits (f .high .slot)) (not (f .output) || isUnread (f .high .slot))
+          all-five (isChecked (f .sequence) (f .check) (fullFound (f .high .slot))) (fullFits (f .size) (f .high .slot)) (partFits (f .size) (f .rlen) (f .high .slot)) (placeFits (f .high .slot)) (not (f .output) || isUnread (f .high .slot))
           (r₃ .1) (l .1) (q .1) (a .1) (unless-so (f .output) _ (λ e. and-right (isUnread (f .low .slot)) _ (unread e)));
       taken = leb-true (takenCount f) (oneIf (not (f .output))) (h₃ .0);
       part = leb-true (partsHeld f) (oneIf (f .output)) (p .0);
@@ -142,28 +143,28 @@ blank-closed f h =
     (no-buffer (f .high) (h₆ .0)) (not-true (f .turned) (h₇ .0)) (eqb-true (f .block) 0 (h₈ .0)) (not-true (f .marked) (h₈ .1))
 
 -- the parts of what a buffer may hold
-pub record Fits (output : Bool) (size rlen : ℕ) (x : Slot) : Type 0 where
-  pub error : leb (fullError x) 3 ≡ true
+pub record Fits (sequence check output : Bool) (size rlen : ℕ) (x : Slot) : Type 0 where
+  pub found : isChecked sequence check (fullFound x) ≡ true
   pub full : fullFits size x ≡ true
   pub part : partFits size rlen x ≡ true
   pub place : placeFits x ≡ true
   pub unread : (not output || isUnread x) ≡ true
 
-pub fits : (output : Bool) (size rlen : ℕ) (x : Slot) → slotFits output size rlen x ≡ true → Fits output size rlen x
-fits output size rlen x h =
-    let a = both (leb (fullError x) 3) _ h in
+pub fits : (sequence check output : Bool) (size rlen : ℕ) (x : Slot) → slotFits sequence check output size rlen x ≡ true → Fits sequence check output size rlen x
+fits sequence check output size rlen x h =
+    let a = both (isChecked sequence check (fullFound x)) _ h in
     let b = both (fullFits size x) _ (a .1) in
     let c = both (partFits size rlen x) _ (b .1) in
     let d = both (placeFits x) _ (c .1) in
-    record { error = a .0; full = b .0; part = c .0; place = d .0; unread = d .1 }
+    record { found = a .0; full = b .0; part = c .0; place = d .0; unread = d .1 }
 
 pub sound : (m w : ℕ) (f : File) → f .opened ≡ true → Sound m w f → fileSound m w f ≡ true
 unfolding fileSound openSound
 sound m w f o S =
-    let x = fits (f .output) (f .size) (f .rlen) (f .low .slot) (S .low) in
-    let y = fits (f .output) (f .size) (f .rlen) (f .high .slot) (S .high) in
+    let x = fits (f .sequence) (f .check) (f .output) (f .size) (f .rlen) (f .low .slot) (S .low) in
+    let y = fits (f .sequence) (f .check) (f .output) (f .size) (f .rlen) (f .high .slot) (S .high) in
     cond-true (openSound m w f) (isBlank f) o
-    ∙ and-both (inRange w f) _ (and-both _ _ (S .sizes) (and-both _ _ (lt-ltb (f .block) blockNumbers (S .number)) (and-both _ _ (x .error) (y .error))))
+    ∙ and-both (inRange w f) _ (and-both _ _ (S .sizes) (and-both _ _ (lt-ltb (f .block) blockNumbers (S .number)) (and-both _ _ (x .found) (y .found))))
     (and-both (hasBuffers m f) _ (and-both _ _ (lt-ltb (f .low .number) m (S .first)) (S .second))
     (and-both (takenRight f) _ (le-leb (takenCount f) (oneIf (not (f .output))) (S .taken))
     (and-both (fullRight f) _ (and-both _ _ (x .full) (y .full))

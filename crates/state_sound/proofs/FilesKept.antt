@@ -1,5 +1,5 @@
 -- A sound file with something else in one of its buffers is sound, by what is put there. Assumes nothing.
-use mathlib.Core.Path.{_≡_, refl, sym, _∙_}
+use mathlib.Core.Path.{_≡_, refl, sym, ap, _∙_}
 use mathlib.Core.Bool.{Bool, true, false, not, _&&_, and-comm}
 use Prim.Native.Nat.{ℕ, _+_, _-_, _≤_, _<_}
 use native.Mathlib.Nat.{mod-lt}
@@ -13,11 +13,14 @@ use Rattle.file.specs.declared.Slot.the-variants.{Empty, Full}
 use Rattle.file.specs.declared.Side.{Side}
 use Rattle.file.specs.declared.Side.the-variants.{Low, High, Neither}
 use Rattle.file.specs.declared.File.{File}
-use Rattle.file.specs.Slots.{isEmpty, isTaken, isPart, isFull}
+use Rattle.file.specs.Slots.{isEmpty, isTaken, isPart, isFull, fullPlace, fullFound}
 use Rattle.file.specs.Sides.{slotAt, isSide}
 use Rattle.file.specs.Fills.{withSlot, turnedBy, filledAt, emptiedAt}
+use Rattle.word.specs.declared.Checked.{Checked}
 use Rattle.word.specs.CheckWords.{blockNumbers, nextNumber}
-use Rattle.state_sound.specs.Files.{isNoBuffer, takenCount, partsHeld}
+use Rattle.word.specs.Checks.{unchecked, isChecked, isUnchecked}
+use Rattle.word.proofs.Laws.Checks.{unchecked-fits}
+use Rattle.state_sound.specs.Files.{isNoBuffer, takenCount, partsHeld, fullFits, partFits, placeFits}
 use Rattle.area.specs.Lists.{oneIf}
 use Rattle.state_sound.proofs.FileFacts.{slotFits, Sound}
 
@@ -34,14 +37,21 @@ owns f Neither = false
 
 -- ---- what a sound file has
 
-pub slot-fits : (m w : ℕ) (f : File) (k : Side) → Sound m w f → slotFits (f .output) (f .size) (f .rlen) (slotAt f k) ≡ true
+-- a slot without a block: nothing was found
+pub quiet-slot : (s c o : Bool) (size rlen : ℕ) (x : Slot) → fullFound x ≡ unchecked → fullFits size x ≡ true → partFits size rlen x ≡ true → placeFits x ≡ true
+    → fullPlace x ≡ 0 → slotFits s c o size rlen x ≡ true
+quiet-slot s c o size rlen x none full part place at =
+    and-both (isChecked s c (fullFound x)) _ (ap (isChecked s c) none ∙ unchecked-fits s c)
+    (and-both (fullFits size x) _ full (and-both (partFits size rlen x) _ part (and-both (placeFits x) _ place
+    (unless-so o _ (λ q. and-both (eqb (fullPlace x) 0) _ (eq-eqb (fullPlace x) 0 at) (ap isUnchecked none))))))
+
+pub empty-slot : (s c o : Bool) (size rlen : ℕ) → slotFits s c o size rlen Empty ≡ true
+empty-slot s c o size rlen = quiet-slot s c o size rlen Empty refl refl refl refl refl
+
+pub slot-fits : (m w : ℕ) (f : File) (k : Side) → Sound m w f → slotFits (f .sequence) (f .check) (f .output) (f .size) (f .rlen) (slotAt f k) ≡ true
 slot-fits m w f Low S = S .low
 slot-fits m w f High S = S .high
-slot-fits m w f Neither S = empty-fits (f .output)
-  where
-    empty-fits : (o : Bool) → slotFits o (f .size) (f .rlen) Empty ≡ true
-    empty-fits true = refl
-    empty-fits false = refl
+slot-fits m w f Neither S = empty-slot (f .sequence) (f .check) (f .output) (f .size) (f .rlen)
 
 -- only a double file has something in its second buffer
 pub owns-used : (m w : ℕ) (f : File) (k : Side) → Sound m w f → isSide k ≡ true → isEmpty (slotAt f k) ≡ false → owns f k ≡ true
@@ -72,7 +82,7 @@ owned-side f Neither o = true-not-false o refl
 -- what x must be to stand in buffer k, with the order t and the next block number b
 pub record Change (f : File) (k : Side) (x : Slot) (t : Bool) (b : ℕ) : Type 0 where
   pub own : owns f k ≡ true
-  pub slot : slotFits (f .output) (f .size) (f .rlen) x ≡ true
+  pub slot : slotFits (f .sequence) (f .check) (f .output) (f .size) (f .rlen) x ≡ true
   pub taken : oneIf (isTaken x) + oneIf (isTaken (other f k)) ≤ oneIf (not (f .output))
   pub part : oneIf (isPart x) + oneIf (isPart (other f k)) ≤ oneIf (f .output)
   pub order : t ≡ true → (isFull x && isFull (other f k)) ≡ true
@@ -115,10 +125,6 @@ beside m w f k S o =
 
 -- ---- an empty buffer, and a full one
 
-empty-slot : (o : Bool) (size rlen : ℕ) → slotFits o size rlen Empty ≡ true
-empty-slot true size rlen = refl
-empty-slot false size rlen = refl
-
 pub emptied : (m w : ℕ) (f : File) (k : Side) → Sound m w f → (isSide k ≡ true → owns f k ≡ true) → Sound m w (emptiedAt f k)
 unfolding emptiedAt
 emptied m w f k S o =
@@ -127,7 +133,7 @@ emptied m w f k S o =
     changed m w f k Empty false (f .block) S
     (record {
       own = o s;
-      slot = empty-slot (f .output) (f .size) (f .rlen);
+      slot = empty-slot (f .sequence) (f .check) (f .output) (f .size) (f .rlen);
       taken = omega (arith, beside m w f k S (o s) .0);
       part = omega (arith, beside m w f k S (o s) .1);
       order = λ e. true-not-false e refl;
@@ -140,24 +146,26 @@ emptied m w f k S o =
     none High s = true-not-false refl s
     none Neither s = S
 
-pub full-slot : (o : Bool) (size rlen n at e : ℕ) → 1 ≤ n → n ≤ size → at ≤ n → e ≤ 3 → (o ≡ true → (at ≡ 0) × (e ≡ 0)) → slotFits o size rlen (Full n at e) ≡ true
-full-slot o size rlen n at e some fit place err zero =
-    and-both (leb e 3) _ (le-leb e 3 err)
+pub full-slot : (s c o : Bool) (size rlen n at : ℕ) (e : Checked) → 1 ≤ n → n ≤ size → at ≤ n → isChecked s c e ≡ true → (o ≡ true → (at ≡ 0) × (e ≡ unchecked))
+    → slotFits s c o size rlen (Full n at e) ≡ true
+full-slot s c o size rlen n at e some fit place found zero =
+    and-both (isChecked s c e) _ found
     (and-both (leb 1 n && leb n size) _ (and-both (leb 1 n) _ (le-leb 1 n some) (le-leb n size fit))
-    (and-both (leb at n) _ (le-leb at n place) (unless-so o _ (λ q. and-both (eqb at 0) _ (eq-eqb at 0 (zero q .0)) (eq-eqb e 0 (zero q .1))))))
+    (and-both (leb at n) _ (le-leb at n place) (unless-so o _ (λ q. and-both (eqb at 0) _ (eq-eqb at 0 (zero q .0)) (ap isUnchecked (zero q .1))))))
 
-turned-full : (f : File) (k : Side) (n e : ℕ) → turnedBy f k ≡ true → (isFull (Full n 0 e) && isFull (other f k)) ≡ true
+turned-full : (f : File) (k : Side) (n : ℕ) (e : Checked) → turnedBy f k ≡ true → (isFull (Full n 0 e) && isFull (other f k)) ≡ true
 turned-full f Low n e t = t
 turned-full f High n e t = true-not-false t refl
 turned-full f Neither n e t = true-not-false t refl
 
-pub filled : (m w : ℕ) (f : File) (k : Side) (n e : ℕ) → Sound m w f → owns f k ≡ true → 1 ≤ n → n ≤ f .size → e ≤ 3 → (f .output ≡ true → e ≡ 0) → Sound m w (filledAt f k n e)
+pub filled : (m w : ℕ) (f : File) (k : Side) (n : ℕ) (e : Checked) → Sound m w f → owns f k ≡ true → 1 ≤ n → n ≤ f .size → isChecked (f .sequence) (f .check) e ≡ true
+    → (f .output ≡ true → e ≡ unchecked) → Sound m w (filledAt f k n e)
 unfolding filledAt
 filled m w f k n e S o some fit err zero =
     changed m w f k (Full n 0 e) (turnedBy f k) (nextNumber (f .block)) S
     (record {
       own = o;
-      slot = full-slot (f .output) (f .size) (f .rlen) n 0 e some fit (omega arith) err (λ q. (refl, zero q));
+      slot = full-slot (f .sequence) (f .check) (f .output) (f .size) (f .rlen) n 0 e some fit (omega arith) err (λ q. (refl, zero q));
       taken = omega (arith, beside m w f k S o .0);
       part = omega (arith, beside m w f k S o .1);
       order = turned-full f k n e;

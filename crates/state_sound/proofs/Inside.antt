@@ -9,6 +9,7 @@ use borrow.Author.Tests.{leb-true, ltb-true, eq-eqb}
 use lib.Dec.{leb, ltb, eqb}
 use Rattle.area.proofs.Walks.{true-not-false, and-right, and-both, or-first, or-second}
 use Rattle.area.proofs.Marks.{cond-true}
+use Rattle.word.specs.declared.Checked.{Checked}
 use Rattle.file.specs.declared.Slot.the-variants.{Full}
 use Rattle.file.specs.declared.Side.{Side}
 use Rattle.file.specs.declared.Side.the-variants.{Low, High, Neither}
@@ -85,7 +86,7 @@ module _ (m w : ℕ) (f : File) (S : Sound m w f) where
       none true = omega arith
       none false = omega arith
 
-      within : (start r n at e : ℕ) (s t : Bool) → leb r (n - at) ≡ t → at ≤ n → start + n ≤ m * w
+      within : (start r n at : ℕ) (e : Checked) (s t : Bool) → leb r (n - at) ≡ t → at ≤ n → start + n ≤ m * w
           → gotStart (cond s (Error e) (cond t (Record (start + at) r) (Leftover (start + at) (n - at)))) + gotWords (cond s (Error e) (cond t (Record (start + at) r) (Leftover (start + at) (n - at)))) ≤ m * w
       within start r n at e true t q p l = omega arith
       within start r n at e false true q p l = omega (arith, leb-true r (n - at) q)
@@ -99,7 +100,7 @@ module _ (m w : ℕ) (f : File) (S : Sound m w f) where
           let block : startAt f w k + n ≤ m * w = buffer-inside m w (bufferAt f k .number) n (number-less k (o t)) (omega (arith, size-fits, N .fit)) in
           let g : cond (isSide k) (foundIn (startAt f w k) (f .rlen) (slotAt f k)) (foundNone (f .marked)) ≡ foundIn (startAt f w k) (f .rlen) (Full n at e) =
           cond-true (foundIn (startAt f w k) (f .rlen) (slotAt f k)) (foundNone (f .marked)) t ∙ ap (foundIn (startAt f w k) (f .rlen)) x in
-          subst (λ (z : Got). gotStart z + gotWords z ≤ m * w) (sym g) (within (startAt f w k) (f .rlen) n at e (ltb 0 e) (leb (f .rlen) (n - at)) refl (N .place) block)
+          subst (λ (z : Got). gotStart z + gotWords z ≤ m * w) (sym g) (within (startAt f w k) (f .rlen) n at e (ltb 0 (e .error)) (leb (f .rlen) (n - at)) refl (N .place) block)
 
 pub get-inside : (m w : ℕ) (f : File) → Sound m w f → gotStart (getFrom w f .got) + gotWords (getFrom w f .got) ≤ m * w
 unfolding getFrom lookedAt

@@ -8,6 +8,8 @@ use lib.Dec.{leb, ltb}
 use Rattle.area.proofs.Walks.{true-not-false, and-both}
 use Rattle.area.proofs.Marks.{cond-true}
 use Rattle.file.proofs.SlotLaws.{empty-words}
+use Rattle.word.specs.Checks.{unchecked}
+use Rattle.word.proofs.Laws.Checks.{unchecked-fits}
 use Rattle.file.specs.declared.Slot.the-variants.{Part}
 use Rattle.file.specs.declared.Side.{Side}
 use Rattle.file.specs.declared.Side.the-variants.{Low, High, Neither}
@@ -20,7 +22,7 @@ use Rattle.file_output.specs.Parts.{partLength, isComplete, sealedFile}
 use Rattle.file.proofs.Which.{lower-cases, empty-there, part-there}
 use Rattle.area.specs.Lists.{oneIf}
 use Rattle.state_sound.proofs.FileFacts.{slotFits, Sound}
-use Rattle.state_sound.proofs.FilesKept.{other, owns, slot-fits, part-sides, changed, beside, filled}
+use Rattle.state_sound.proofs.FilesKept.{quiet-slot, other, owns, slot-fits, part-sides, changed, beside, filled}
 use Rattle.state_sound.proofs.Changes.{own-empty, own-part, part-numbers, one-record, within}
 
 -- the buffer k that a put adds to: it is the file's, has room for r words, and the one beside it is not part-filled
@@ -52,7 +54,7 @@ module _ (m w : ℕ) (f : File) (S : Sound m w f) where
       let most : oneIf (f .output) ≤ 1 = one-most (f .output) in
       record {
         own = own-part m w f S s;
-        fit = part-numbers (f .output) (f .size) (f .rlen) (slotAt f (partSide f)) (slot-fits m w f (partSide f) S) (part-there f s) .1;
+        fit = part-numbers (f .sequence) (f .check) (f .output) (f .size) (f .rlen) (slotAt f (partSide f)) (slot-fits m w f (partSide f) S) (part-there f s) .1;
         alone = one-zero (isPart (other f (partSide f))) (omega (arith, part-sides f (partSide f) s, S .part));
       }
     where
@@ -103,20 +105,20 @@ complete-is f k n s a = ap (λ (j : ℕ). ltb (holding f k n .size) (j + holding
     there High = refl
     there Neither = refl
 
-sealed-is : (f : File) (k : Side) (n : ℕ) → isSide k ≡ true → isPart (other f k) ≡ false → sealedFile (holding f k n) ≡ filledAt f k n 0
+sealed-is : (f : File) (k : Side) (n : ℕ) → isSide k ≡ true → isPart (other f k) ≡ false → sealedFile (holding f k n) ≡ filledAt f k n unchecked
 unfolding sealedFile filledAt
 sealed-is f k n s a =
-    ap (λ (j : Side). filledAt (holding f k n) j (partLength (holding f k n)) 0) (part-is f k n s a)
-    ∙ ap (λ (j : ℕ). filledAt (holding f k n) k j 0) (length-is f k n s a) ∙ there k
+    ap (λ (j : Side). filledAt (holding f k n) j (partLength (holding f k n)) unchecked) (part-is f k n s a)
+    ∙ ap (λ (j : ℕ). filledAt (holding f k n) k j unchecked) (length-is f k n s a) ∙ there k
   where
-    there : (k : Side) → filledAt (holding f k n) k n 0 ≡ filledAt f k n 0
+    there : (k : Side) → filledAt (holding f k n) k n unchecked ≡ filledAt f k n unchecked
     there Low = refl
     there High = refl
     there Neither = refl
 
 -- r words more in buffer k; sealed if less than r then remains of B
 pub put-is : (f : File) → isSide (putSide f) ≡ true → PutAt f (putSide f)
-    → afterPut f ≡ cond (ltb (f .size) (wordsAfter f + f .rlen)) (filledAt f (putSide f) (wordsAfter f) 0) (withSlot f (putSide f) (Part (wordsAfter f)) false (f .block))
+    → afterPut f ≡ cond (ltb (f .size) (wordsAfter f + f .rlen)) (filledAt f (putSide f) (wordsAfter f) unchecked) (withSlot f (putSide f) (Part (wordsAfter f)) false (f .block))
 unfolding afterPut added
 put-is f s P =
     let k = putSide f in
@@ -132,8 +134,8 @@ put-sound m w f S o s = subst (Sound m w) (sym (put-is f s P)) (go (ltb (f .size
     P : PutAt f (putSide f)
     P = put-at m w f S s
 
-    go : (t : Bool) → ltb (f .size) (wordsAfter f + f .rlen) ≡ t → Sound m w (cond t (filledAt f (putSide f) (wordsAfter f) 0) (withSlot f (putSide f) (Part (wordsAfter f)) false (f .block)))
-    go true e = filled m w f (putSide f) (wordsAfter f) 0 S (P .own) (omega (arith, one-record m w f S)) (P .fit) (omega arith) (λ q. refl)
+    go : (t : Bool) → ltb (f .size) (wordsAfter f + f .rlen) ≡ t → Sound m w (cond t (filledAt f (putSide f) (wordsAfter f) unchecked) (withSlot f (putSide f) (Part (wordsAfter f)) false (f .block)))
+    go true e = filled m w f (putSide f) (wordsAfter f) unchecked S (P .own) (omega (arith, one-record m w f S)) (P .fit) (unchecked-fits (f .sequence) (f .check)) (λ q. refl)
     go false e =
         let room : wordsAfter f + f .rlen ≤ f .size = ltb-false (f .size) (wordsAfter f + f .rlen) e in
         let one : oneIf (f .output) ≡ 1 = ap oneIf o in
@@ -141,16 +143,17 @@ put-sound m w f S o s = subst (Sound m w) (sym (put-is f s P)) (go (ltb (f .size
         changed m w f (putSide f) (Part (wordsAfter f)) false (f .block) S
         (record {
           own = P .own;
-          slot = part-slot (f .output) (wordsAfter f) (omega arith) room;
+          slot = part-slot (wordsAfter f) (omega arith) room;
           taken = omega (arith, beside m w f (putSide f) S (P .own) .0);
           part = omega arith;
           order = λ q. true-not-false q refl;
           number = S .number;
         })
       where
-        part-slot : (b : Bool) (n : ℕ) → f .rlen ≤ n → n + f .rlen ≤ f .size → slotFits b (f .size) (f .rlen) (Part n) ≡ true
-        part-slot true n h l = and-both _ true (and-both (leb (f .rlen) n) _ (le-leb (f .rlen) n h) (le-leb (n + f .rlen) (f .size) l)) refl
-        part-slot false n h l = and-both _ true (and-both (leb (f .rlen) n) _ (le-leb (f .rlen) n h) (le-leb (n + f .rlen) (f .size) l)) refl
+        part-slot : (n : ℕ) → f .rlen ≤ n → n + f .rlen ≤ f .size → slotFits (f .sequence) (f .check) (f .output) (f .size) (f .rlen) (Part n) ≡ true
+        part-slot n h l =
+            quiet-slot (f .sequence) (f .check) (f .output) (f .size) (f .rlen) (Part n) refl refl
+            (and-both (leb (f .rlen) n) _ (le-leb (f .rlen) n h) (le-leb (n + f .rlen) (f .size) l)) refl refl
 
 -- a block is sealed by the put that leaves less than r of B, and not by the next: in a sound file no part-filled block has less than r left
 pub sealed-in-time : (m w : ℕ) (f : File) → Sound m w f → isComplete f ≡ false

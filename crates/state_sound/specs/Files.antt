@@ -9,20 +9,17 @@ use Rattle.file.specs.declared.Slot.{Slot}
 use Rattle.file.specs.declared.Slot.the-variants.{Empty, Taken, Part, Full}
 use Rattle.file.specs.declared.Buffer.{Buffer}
 use Rattle.file.specs.declared.File.{File}
-use Rattle.file.specs.Slots.{isEmpty, isTaken, isPart, isFull, fullPlace, fullError}
+use Rattle.file.specs.Slots.{isEmpty, isTaken, isPart, isFull, fullPlace, fullFound}
 use Rattle.word.specs.CheckWords.{blockNumbers}
+use Rattle.word.specs.Checks.{isChecked, isUnchecked}
 use Rattle.file.specs.Sizes.{sizesFit}
 use Rattle.pool.specs.Free.{heldBy}
 use Rattle.pool.specs.Serving.{serves}
 
--- "Error 1 is sequence, 2 check sum, 3 both."
-abbrev pub lastError : ℕ
-lastError = 3
-
--- "its numbers are in the ranges here": sizes, block number, check errors
+-- "its numbers are in the ranges here": sizes, block number, and what the check of each full block found, unequal exactly where the error says so
 abbrev pub inRange : ℕ → File → Bool
 inRange w f =
-    sizesFit w (f .sequence) (f .check) (f .size) (f .rlen) && (ltb (f .block) blockNumbers && (leb (fullError (f .low .slot)) lastError && leb (fullError (f .high .slot)) lastError))
+    sizesFit w (f .sequence) (f .check) (f .size) (f .rlen) && (ltb (f .block) blockNumbers && (isChecked (f .sequence) (f .check) (fullFound (f .low .slot)) && isChecked (f .sequence) (f .check) (fullFound (f .high .slot))))
 
 -- what a missing second buffer would hold has no meaning
 abbrev pub isNoBuffer : Buffer → Bool
@@ -73,11 +70,11 @@ placeFits (Full n at e) = leb at n
 abbrev pub placeRight : File → Bool
 placeRight f = placeFits (f .low .slot) && placeFits (f .high .slot)
 
--- a block that has no place of get and no check error
+-- a block that has no place of get, and of which nothing was checked
 abbrev pub isUnread : Slot → Bool
-isUnread x = eqb (fullPlace x) 0 && eqb (fullError x) 0
+isUnread x = eqb (fullPlace x) 0 && isUnchecked (fullFound x)
 
--- What has no meaning is zero: the order of two blocks that are not both full; in an output file the mark, and the places and errors of its blocks.
+-- What has no meaning is zero: the order of two blocks that are not both full; in an output file the mark, and the place and what was found of its blocks.
 abbrev pub restIsZero : File → Bool
 restIsZero f =
     (not (f .turned) || (isFull (f .low .slot) && isFull (f .high .slot)))

@@ -2,9 +2,8 @@
 // back, clause by clause.
 use file::Buffer;
 use file::File;
-use file::LAST_ERROR;
 use file::Slot;
-use file::full_error;
+use file::full_found;
 use file::full_place;
 use file::is_empty;
 use file::is_full;
@@ -15,6 +14,8 @@ use pool::FILES;
 use pool::holds;
 use pool::serves;
 use word::BLOCK_NUMBERS;
+use word::is_checked;
+use word::is_unchecked;
 ghost use mathlib.Core.Path.{_≡_};
 ghost use Prim.Native.Nat.{_≤_};
 ghost use Rattle.state_sound.specs.Files.{isNoBuffer, fullFits, partFits, placeFits, isUnread, inRange, hasBuffers, takenCount, takenRight, fullRight, partsHeld, partRight, placeRight, restIsZero, openSound, isBlank, fileSound, shareBuffer, apart, filesSound};
@@ -50,7 +51,7 @@ fn full_fits(size: u16, x: Slot) -> bool
         Slot::Full {
             words,
             at: _,
-            error: _,
+            found: _,
         } => (1 <= words) & (words <= size),
     }
 }
@@ -69,7 +70,7 @@ fn part_fits(size: u16, rlen: u16, x: Slot) -> bool
         Slot::Full {
             words: _,
             at: _,
-            error: _,
+            found: _,
         } => true,
     }
 }
@@ -85,21 +86,21 @@ fn place_fits(x: Slot) -> bool
         Slot::Full {
             words,
             at,
-            error: _,
+            found: _,
         } => at <= words,
     }
 }
 
-// A block that has no place of get and no check error.
+// A block that has no place of get, and of which nothing was checked.
 fn is_unread(x: Slot) -> bool
     ensures { λ r. ⌜ r ≡ isUnread x ⌝ }
 {
     let at = full_place(x);
-    let error = full_error(x);
-    (at == 0) & (error == 0)
+    let none = is_unchecked(full_found(x));
+    (at == 0) & none
 }
 
-// The sizes, the block number and the check errors are in their ranges.
+// The sizes, the block number and what was found of the blocks are in their ranges.
 fn in_range(w: u16, f: File) -> bool
     ensures { λ r. ⌜ r ≡ inRange w f ⌝ }
 {
@@ -108,9 +109,9 @@ fn in_range(w: u16, f: File) -> bool
     let x = low.slot;
     let y = high.slot;
     let sizes = sizes_fit(w, f.sequence, f.check, f.size, f.rlen);
-    let a = full_error(x);
-    let b = full_error(y);
-    sizes & (((f.block as u32) < BLOCK_NUMBERS) & ((a <= LAST_ERROR) & (b <= LAST_ERROR)))
+    let a = is_checked(f.sequence, f.check, full_found(x));
+    let b = is_checked(f.sequence, f.check, full_found(y));
+    sizes & (((f.block as u32) < BLOCK_NUMBERS) & (a & b))
 }
 
 // The file has its one or two buffers, of m.

@@ -1,3 +1,4 @@
 pub mod Carry
 pub mod Sum
 pub mod CheckWord
+pub mod Checks

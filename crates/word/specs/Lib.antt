@@ -1,3 +1,4 @@
 pub mod Sums
 pub mod Totals
 pub mod CheckWords
+pub mod Checks

@@ -112,7 +112,7 @@ fn play_seal(head: &[u64], block: &mut [u64]) {
     }
 }
 
-// `4 sequence check number len words`: judging a block as delivered, the refusal and the error.
+// `4 sequence check number len words`: judging a block as delivered, the refusal, the error, the sum and the number worked out, and those read.
 fn play_judge(head: &[u64], block: &[u64]) {
     let j = block::judge(
         block,
@@ -121,7 +121,12 @@ fn play_judge(head: &[u64], block: &[u64]) {
         block_number(head, 2),
     );
     say(j.refusal as u64);
-    also(j.error as u64);
+    let found = j.found;
+    also(found.error as u64);
+    also(found.sum as u64);
+    also(found.number as u64);
+    also(found.sumread as u64);
+    also(found.numberread as u64);
 }
 
 // The answer to a case with its words in the first n places of the room.

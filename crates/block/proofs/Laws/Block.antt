@@ -14,7 +14,8 @@ use Rattle.area.proofs.Pastes.{part-all}
 use Rattle.area.proofs.Lowest.{lowest-here, lowest-past, lowest-none, lowest-end}
 use Rattle.word.specs.Sums.{logicalSum}
 use Rattle.word.specs.CheckWords.{chosen, checkWord, extra}
-use Rattle.block.specs.Blocks.{isNumber, blockSealRefusal, withCheckWord, sealedBlock, dataWords, judgeRefusal, errorOf, judgedBlock}
+use Rattle.word.specs.Checks.{unchecked, checkOf}
+use Rattle.block.specs.Blocks.{isNumber, blockSealRefusal, withCheckWord, sealedBlock, dataWords, judgeRefusal, judgedBlock}
 use Rattle.word.proofs.Laws.CheckWord.{check-word-unsummed}
 
 -- ---- sealing
@@ -91,23 +92,23 @@ module _ (block : List ℕ) (n : ℕ) (sequence check : Bool) (number : ℕ) whe
 -- ---- judging
 
 module _ (block : List ℕ) (sequence check : Bool) (number : ℕ) where
-  refusal-is : (refusal : ℕ) → (refusal ≡ 0 → ⊥) → judgeRefusal block sequence check number ≡ refusal → record { refusal = refusal; error = 0 } ≡ judgedBlock block sequence check number
+  refusal-is : (refusal : ℕ) → (refusal ≡ 0 → ⊥) → judgeRefusal block sequence check number ≡ refusal → record { refusal = refusal; found = unchecked } ≡ judgedBlock block sequence check number
   unfolding judgedBlock
   refusal-is refusal nz e = rw (e, ne-eqb refusal 0 nz)
 
-  pub judge-bad-number : 2 ^ 15 ≤ number → record { refusal = 1; error = 0 } ≡ judgedBlock block sequence check number
+  pub judge-bad-number : 2 ^ 15 ≤ number → record { refusal = 1; found = unchecked } ≡ judgedBlock block sequence check number
   unfolding judgeRefusal
   judge-bad-number h = refusal-is 1 (λ z. omega arith) (lowest-here _ _ _ (ap not (le-ltb number (2 ^ 15) h)))
 
   module _ (hn : number < 2 ^ 15) where
-    pub judge-spoilt : allOf isWord block ≡ false → record { refusal = 2; error = 0 } ≡ judgedBlock block sequence check number
+    pub judge-spoilt : allOf isWord block ≡ false → record { refusal = 2; found = unchecked } ≡ judgedBlock block sequence check number
     unfolding judgeRefusal
     judge-spoilt tall =
         refusal-is 2 (λ z. omega arith)
         (lowest-past _ _ _ (ap not (lt-ltb number (2 ^ 15) hn)) ∙ lowest-here _ _ _ (ap not tall))
 
     module _ (all : allOf isWord block ≡ true) where
-      pub judge-short : length block < 1 + extra sequence check → record { refusal = 13; error = 0 } ≡ judgedBlock block sequence check number
+      pub judge-short : length block < 1 + extra sequence check → record { refusal = 13; found = unchecked } ≡ judgedBlock block sequence check number
       unfolding judgeRefusal
       judge-short h =
           refusal-is 13 (λ z. omega arith)
@@ -118,13 +119,13 @@ module _ (block : List ℕ) (sequence check : Bool) (number : ℕ) where
       judge-accepted h =
           lowest-past _ _ _ (ap not (lt-ltb number (2 ^ 15) hn)) ∙ lowest-past _ _ _ (ap not all) ∙ lowest-past _ _ _ (le-ltb _ _ h) ∙ lowest-end
 
-      -- what is judged is the sum s of the data words, by the word w after them
-      pub judge-error : (s w : ℕ) → 1 + extra sequence check ≤ length block
+      -- what is checked is the sum s of the data words, by the word w after them
+      pub judge-found : (s w : ℕ) → 1 + extra sequence check ≤ length block
           → s ≡ logicalSum (take (dataWords block sequence check) block) → w ≡ getD block (dataWords block sequence check) 0
-          → record { refusal = 0; error = errorOf sequence check s number w } ≡ judgedBlock block sequence check number
+          → record { refusal = 0; found = checkOf sequence check s number w } ≡ judgedBlock block sequence check number
       unfolding judgedBlock
-      judge-error s w h es ew =
-          rw (judge-accepted h) (ap₂ (λ (x y : ℕ). record { refusal = 0; error = errorOf sequence check x number y }) es ew)
+      judge-found s w h es ew =
+          rw (judge-accepted h) (ap₂ (λ (x y : ℕ). record { refusal = 0; found = checkOf sequence check x number y }) es ew)
 
 -- the data words and what is left of a block are the block
 pub block-words : (block : List ℕ) (n : ℕ) → (allOf isWord (take n block) && allOf isWord (take (length block - n) (drop n block))) ≡ allOf isWord block

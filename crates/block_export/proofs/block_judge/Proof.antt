@@ -22,7 +22,7 @@ add-result : tie.Need-add-result
 add-result c = search needs
 
 returns : tie.Need-returns
-returns c = ap (λ (j : Judged). j .refusal * 256 + j .error) (c .before .before .judge .ensures)
+returns c = ap (λ (j : Judged). j .refusal * 256 + j .found .error) (c .before .before .judge .ensures)
 
 pub block-judge-spec : {M : Type 1} → statement M
 block-judge-spec =

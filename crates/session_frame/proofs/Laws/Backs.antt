@@ -18,7 +18,7 @@ use Rattle.session_frame.proofs.Laws.Trips.{bytes-back, words-back, wor
 use Rattle.session_frame.specs.declared.Answer.{Answer}
 use Rattle.session_frame.specs.Answers.{answerBytes, answerText, answerLine}
 use Rattle.session_frame.specs.Leads.{leadOf, leadBytes, shownOf}
-use Rattle.session_frame.proofs.Laws.Texts.{leads, text-length}
+use Rattle.session_frame.proofs.Laws.Texts.{Leads, leads, text-length}
 
 -- ---- the longest
 
@@ -27,9 +27,16 @@ shown-most true ws = omega arith
 shown-most false ws = omega arith
 
 pub answer-longest : (a : Answer) (ws : List ℕ) → length ws ≤ 1024 → length (answerText a ws) ≤ 10249
-answer-longest a ws h =
-    let is = leads a (leadOf a) refl in
-    omega (arith, text-length a (leadOf a) ws (shownOf (leadOf a .worded) ws) is refl, shown-most (leadOf a .worded) ws, is .most)
+answer-longest a ws h = go (leadOf a .worded) refl
+  where
+    is : Leads a (leadOf a)
+    is = leads a (leadOf a) refl
+
+    go : (t : Bool) → leadOf a .worded ≡ t → length (answerText a ws) ≤ 10249
+    go true e = omega (arith, text-length a (leadOf a) ws (shownOf (leadOf a .worded) ws) is refl, shown-most (leadOf a .worded) ws, is .worded-most e)
+    go false e =
+        let none : length (shownOf (leadOf a .worded) ws) ≡ 0 = ap (λ (t : Bool). length (shownOf t ws)) e in
+        omega (arith, text-length a (leadOf a) ws (shownOf (leadOf a .worded) ws) is refl, is .most)
 
 -- so an area of 10,249 characters takes every answer of at most 1,024 words
 pub answer-fits : (a : Answer) (ws xs : List ℕ) → length ws ≤ 1024 → 10249 ≤ length xs

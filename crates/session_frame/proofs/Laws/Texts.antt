@@ -10,13 +10,14 @@ use lib.ListN.{length, set, length-append}
 use Rattle.area.specs.Parts.{paste, pastedIn}
 use Rattle.area.proofs.Pastes.{paste-fitting, length-paste}
 use Rattle.area.proofs.Joins.{set-paste}
+use Rattle.area.proofs.Walks.{true-not-false}
 use Rattle.session_frame.specs.Digits.{byteDigits, concatMap}
-use Rattle.session_frame.specs.Fields.{wordBytes, wordDigits}
+use Rattle.session_frame.specs.Fields.{wordBytes, wordDigits, sizeBytes, sumBytes}
 use Rattle.session_frame.specs.Writes.{placeAfter}
 use Rattle.session_frame.proofs.Laws.Writes.{length-byte, length-word, length-concat, written, unwritten, paste-more, words-left}
 use Rattle.session_frame.proofs.Laws.Trips.{concat-append, words-by-bytes}
 use Rattle.session_frame.specs.declared.Answer.{Answer}
-use Rattle.session_frame.specs.declared.Answer.the-variants.{Refused, Done, Asked, Reported, Got, GotError}
+use Rattle.session_frame.specs.declared.Answer.the-variants.{Refused, Done, Asked, Reported, Delivered, Got, GotError}
 use Rattle.session_frame.specs.declared.Lead.{Lead}
 use Rattle.session_frame.specs.Answers.{answerBytes, answerText}
 use Rattle.session_frame.specs.Leads.{leadOf, leadBytes, shownOf}
@@ -24,66 +25,24 @@ use Rattle.session_frame.specs.Leads.{leadOf, leadBytes, shownOf}
 -- a lead and the words that follow it are the answer's bytes
 pub record Leads (a : Answer) (l : Lead) : Type 0 where
   pub some : 0 < l .count
-  pub most : l .count ≤ 4
+  pub most : l .count ≤ 16
+  pub worded-most : l .worded ≡ true → l .count ≤ 4
+  pub long : length (l .bytes) ≡ 16
   pub counts : length (leadBytes l) ≡ l .count
   pub whole : (ws : List ℕ) → answerBytes a ws ≡ leadBytes l ++ concatMap wordBytes (shownOf (l .worded) ws)
 
 leads-is : (a : Answer) → Leads a (leadOf a)
-unfolding leadBytes answerBytes concatMap
-leads-is (Refused n) = record { some = omega arith; most = omega arith; counts = refl; whole = λ ws. refl }
-leads-is Done = record { some = omega arith; most = omega arith; counts = refl; whole = λ ws. refl }
-leads-is (Asked u) = record { some = omega arith; most = omega arith; counts = refl; whole = λ ws. refl }
-leads-is (Reported r e u) = record { some = omega arith; most = omega arith; counts = refl; whole = λ ws. refl }
-leads-is (Got n) = record { some = omega arith; most = omega arith; counts = refl; whole = λ ws. refl }
-leads-is (GotError n e) = record { some = omega arith; most = omega arith; counts = refl; whole = λ ws. refl }
+unfolding leadBytes answerBytes concatMap sumBytes sizeBytes
+leads-is (Refused n) = record { some = omega arith; most = omega arith; worded-most = λ e. omega arith; long = refl; counts = refl; whole = λ ws. refl }
+leads-is Done = record { some = omega arith; most = omega arith; worded-most = λ e. omega arith; long = refl; counts = refl; whole = λ ws. refl }
+leads-is (Asked u) = record { some = omega arith; most = omega arith; worded-most = λ e. omega arith; long = refl; counts = refl; whole = λ ws. refl }
+leads-is (Reported r u) = record { some = omega arith; most = omega arith; worded-most = λ e. omega arith; long = refl; counts = refl; whole = λ ws. refl }
+leads-is (Delivered r c u) = record { some = omega arith; most = omega arith; worded-most = λ e. true-not-false e refl; long = refl; counts = refl; whole = λ ws. refl }
+leads-is (Got n) = record { some = omega arith; most = omega arith; worded-most = λ e. omega arith; long = refl; counts = refl; whole = λ ws. refl }
+leads-is (GotError n c) = record { some = omega arith; most = omega arith; worded-most = λ e. true-not-false e refl; long = refl; counts = refl; whole = λ ws. refl }
 
 pub leads : (a : Answer) (l : Lead) → l ≡ leadOf a → Leads a l
 leads a l e = subst (λ (x : Lead). Leads a x) (sym e) (leads-is a)
-
--- ---- the lead, byte by byte
-
-module _ (n b : ℕ) (ys xs o p : List ℕ) where
-  put-more : length ys ≡ n → n + 2 ≤ length xs → o ≡ paste 0 ys xs → p ≡ pastedIn n (byteDigits b) o → p ≡ paste 0 (ys ++ byteDigits b) xs
-  put-more long room e f =
-      let h : 0 + length ys ≤ length xs = omega arith in
-      let same : length o ≡ length xs = ap length e ∙ length-paste 0 ys xs h in
-      let k : n + length (byteDigits b) ≤ length o = omega (arith, length-byte b) in
-      let z : 0 + n ≡ n = omega arith in
-      let g : p ≡ paste (0 + n) (byteDigits b) o = f ∙ paste-fitting n (byteDigits b) o k ∙ ap (λ (m : ℕ). paste m (byteDigits b) o) (sym z) in
-      paste-more 0 n ys (byteDigits b) xs o p long (omega arith) e g
-
-module _ (l : Lead) (xs o : List ℕ) (wrote : o ≡ pastedIn 0 (byteDigits (l .first)) xs) (some : 0 < l .count) (room : 2 * l .count ≤ length xs) where
-  lead-first : o ≡ paste 0 (byteDigits (l .first)) xs
-  lead-first =
-      let k : 0 + length (byteDigits (l .first)) ≤ length xs = omega (arith, length-byte (l .first)) in
-      wrote ∙ paste-fitting 0 (byteDigits (l .first)) xs k
-
-  pub lead-one : l .count ≡ 1 → o ≡ paste 0 (concatMap byteDigits (leadBytes l)) xs
-  unfolding leadBytes concatMap byteDigits
-  lead-one e = rw e lead-first
-
-  pub lead-two : (p : List ℕ) → l .count ≡ 2 → p ≡ pastedIn 2 (byteDigits (l .second)) o → p ≡ paste 0 (concatMap byteDigits (leadBytes l)) xs
-  unfolding leadBytes concatMap byteDigits
-  lead-two p e f =
-      let w = put-more 2 (l .second) (byteDigits (l .first)) xs o p refl (omega arith) lead-first f in
-      rw e w
-
-  pub lead-three : (p q : List ℕ) → l .count ≡ 3 → p ≡ pastedIn 2 (byteDigits (l .second)) o → q ≡ pastedIn 4 (byteDigits (l .third)) p
-      → q ≡ paste 0 (concatMap byteDigits (leadBytes l)) xs
-  unfolding leadBytes concatMap byteDigits
-  lead-three p q e f g =
-      let v = put-more 2 (l .second) (byteDigits (l .first)) xs o p refl (omega arith) lead-first f in
-      let w = put-more 4 (l .third) (byteDigits (l .first) ++ byteDigits (l .second)) xs p q refl (omega arith) v g in
-      rw e w
-
-  pub lead-four : (p q r : List ℕ) → l .count ≡ 4 → p ≡ pastedIn 2 (byteDigits (l .second)) o → q ≡ pastedIn 4 (byteDigits (l .third)) p
-      → r ≡ pastedIn 6 (byteDigits (l .fourth)) q → r ≡ paste 0 (concatMap byteDigits (leadBytes l)) xs
-  unfolding leadBytes concatMap byteDigits
-  lead-four p q r e f g h =
-      let u = put-more 2 (l .second) (byteDigits (l .first)) xs o p refl (omega arith) lead-first f in
-      let v = put-more 4 (l .third) (byteDigits (l .first) ++ byteDigits (l .second)) xs p q refl (omega arith) u g in
-      let w = put-more 6 (l .fourth) ((byteDigits (l .first) ++ byteDigits (l .second)) ++ byteDigits (l .third)) xs q r refl (omega arith) v h in
-      rw e w
 
 -- ---- the whole line: the lead, the words that are shown, the line feed
 
@@ -166,7 +125,3 @@ pub line-room : (len count n : ℕ) → 2 * count + 1 ≤ len → leb n ((len - 
 line-room len count n h =
     let e : 2 * count + 1 + 10 * n ≡ 2 * count + 10 * n + 1 = omega arith in
     words-left len (2 * count + 1) n h ∙ ap (λ (k : ℕ). leb k len) e
-
--- what is left of one to four
-pub four-left : (n : ℕ) → 0 < n → n ≤ 4 → (n ≡ 1 → ⊥) → (n ≡ 2 → ⊥) → (n ≡ 3 → ⊥) → n ≡ 4
-four-left n low high a b c = omega (arith, a, b, c)

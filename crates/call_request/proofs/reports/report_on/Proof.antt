@@ -58,21 +58,24 @@ returns c =
 put-words-requires : tie.Need-put-words-requires
 put-words-requires c κs = search needs
 
+delivery-of-requires : tie.Need-delivery-of-requires
+delivery-of-requires c κs = search needs
+
 reported-file-requires : tie.Need-reported-file-requires
 reported-file-requires c κs =
-    let a = c .before .before .before .before .before .before .before .before .before .before .before .before .before .before .before .before .before .args in
+    let a = c .before .before .before .before .before .before .before .before .before .before .before .before .before .before .before .before .before .before .before .args in
     let S : Seen (a .f) (a .c) (a .unit) (a .outcome) (a .w) (a .area .now) (a .words .now) _ _ _ _ _ _ _ _ =
     record {
-      work = c .before .before .before .before .before .before .before .before .before .before .before .before .before .operation-of .ensures;
-      verdict = c .before .before .before .before .before .before .before .before .before .before .before .before .before .before .judge .ensures;
-      effect = c .before .before .before .before .before .before .before .before .before .before .before .before .effect-of .ensures;
-      given = c .before .before .before .before .before .before .before .before .before .before .before .look .ensures .0;
-      from = c .before .before .before .before .before .before .before .before .before .before .shown-start .ensures .0;
-      many = c .before .before .before .before .before .before .before .before .before .shown-count .ensures .0;
-      handed = c .before .before .before .before .before .before .before .part-are-words .ensures;
-      space = c .before .before .before .before .before .before .block-fits .ensures;
+      work = c .before .before .before .before .before .before .before .before .before .before .before .before .before .before .before .operation-of .ensures;
+      verdict = c .before .before .before .before .before .before .before .before .before .before .before .before .before .before .before .before .judge .ensures;
+      effect = c .before .before .before .before .before .before .before .before .before .before .before .before .before .before .effect-of .ensures;
+      given = c .before .before .before .before .before .before .before .before .before .before .before .before .before .look .ensures .0;
+      from = c .before .before .before .before .before .before .before .before .before .before .before .before .shown-start .ensures .0;
+      many = c .before .before .before .before .before .before .before .before .before .before .before .shown-count .ensures .0;
+      handed = c .before .before .before .before .before .before .before .before .before .part-are-words .ensures;
+      space = c .before .before .before .before .before .before .before .before .block-fits .ensures;
     } in
-    room-found (a .wrong) (a .frozen) S (sym (c .before .before .before .before .before .report-refusal .ensures) ∙ c .before .before .before .before .if1 .left)
+    room-found (a .wrong) (a .frozen) S (sym (c .before .before .before .before .before .before .before .report-refusal .ensures) ∙ c .before .before .before .before .before .before .if1 .left)
 
 book-requires : tie.Need-book-requires
 book-requires c κs = search needs
@@ -88,21 +91,21 @@ same-length-2 c = search needs
 
 returns-2 : tie.Need-returns-2
 returns-2 c =
-    let a = c .before .before .before .before .before .before .before .before .before .before .before .before .before .before .before .before .before .before .before .before .before .args in
+    let a = c .before .before .before .before .before .before .before .before .before .before .before .before .before .before .before .before .before .before .before .before .before .before .before .args in
     let S : Seen (a .f) (a .c) (a .unit) (a .outcome) (a .w) (a .area .now) (a .words .now) _ _ _ _ _ _ _ _ =
     record {
-      work = c .before .before .before .before .before .before .before .before .before .before .before .before .before .before .before .before .before .operation-of .ensures;
-      verdict = c .before .before .before .before .before .before .before .before .before .before .before .before .before .before .before .before .before .before .judge .ensures;
-      effect = c .before .before .before .before .before .before .before .before .before .before .before .before .before .before .before .before .effect-of .ensures;
-      given = c .before .before .before .before .before .before .before .before .before .before .before .before .before .before .before .look .ensures .0;
-      from = c .before .before .before .before .before .before .before .before .before .before .before .before .before .before .shown-start .ensures .0;
-      many = c .before .before .before .before .before .before .before .before .before .before .before .before .before .shown-count .ensures .0;
-      handed = c .before .before .before .before .before .before .before .before .before .before .before .part-are-words .ensures;
-      space = c .before .before .before .before .before .before .before .before .before .before .block-fits .ensures;
+      work = c .before .before .before .before .before .before .before .before .before .before .before .before .before .before .before .before .before .before .before .operation-of .ensures;
+      verdict = c .before .before .before .before .before .before .before .before .before .before .before .before .before .before .before .before .before .before .before .before .judge .ensures;
+      effect = c .before .before .before .before .before .before .before .before .before .before .before .before .before .before .before .before .before .before .effect-of .ensures;
+      given = c .before .before .before .before .before .before .before .before .before .before .before .before .before .before .before .before .before .look .ensures .0;
+      from = c .before .before .before .before .before .before .before .before .before .before .before .before .before .before .before .before .shown-start .ensures .0;
+      many = c .before .before .before .before .before .before .before .before .before .before .before .before .before .before .before .shown-count .ensures .0;
+      handed = c .before .before .before .before .before .before .before .before .before .before .before .before .before .part-are-words .ensures;
+      space = c .before .before .before .before .before .before .before .before .before .before .before .before .block-fits .ensures;
     } in
-    let found = c .before .before .before .before .before .before .before .before .before .report-refusal .ensures ∙ refusal-found (a .wrong) (a .frozen) S in (
-      report-booked (a .wrong) (a .frozen) S _ found (c .before .before .before .before .before .before .before .before .if1 .left) _ _ _ _ _ (c .before .before .before .before .before .before .before .before .before .before .before .before .before .before .before .look .ensures .1) (c .result-number .ensures) (c .before .before .before .reported-file .ensures) (c .before .before .book .ensures) (c .before .working-number .ensures),
-      c .before .before .before .before .before .before .put-words .ensures ∙ booked-area (a .wrong) (a .frozen) S _ found (c .before .before .before .before .before .before .before .before .if1 .left),
+    let found = c .before .before .before .before .before .before .before .before .before .before .before .report-refusal .ensures ∙ refusal-found (a .wrong) (a .frozen) S in (
+      report-booked (a .wrong) (a .frozen) S _ found (c .before .before .before .before .before .before .before .before .before .before .if1 .left) _ _ _ _ _ _ (c .before .before .before .before .before .before .before .before .before .before .before .before .before .before .before .before .before .look .ensures .1) (c .before .before .before .before .delivery-of .ensures) (c .result-number .ensures) (c .before .before .before .reported-file .ensures) (c .before .before .book .ensures) (c .before .working-number .ensures),
+      c .before .before .before .before .before .before .before .before .put-words .ensures ∙ booked-area (a .wrong) (a .frozen) S _ found (c .before .before .before .before .before .before .before .before .before .before .if1 .left),
     )
 
 pub report-on-spec : {M : Type 1} → statement M
@@ -122,6 +125,7 @@ report-on-spec =
     same-length
     returns
     put-words-requires
+    delivery-of-requires
     reported-file-requires
     book-requires
     working-number-requires

@@ -1,73 +1,77 @@
--- `session_frame::answers::write_lead` meets its contract: one to four bytes, one right after the other. Assumes nothing.
+-- `session_frame::answers::write_lead` meets its contract. What is left of the bytes, written from where the loop stands, gives the whole. Assumes nothing.
 use borrow.Author.Needs.{needs}
-use mathlib.Core.Path.{_≡_}
+use mathlib.Core.Path.{_≡_, refl, ap, _∙_}
+use Prim.Native.Nat.{ℕ, _+_, _*_, _-_, _≤_, _<_}
 use native.Mathlib.Omega.{arith}
-use Rattle.session_frame.proofs.Laws.Texts.{four-left, lead-one, lead-two, lead-three, lead-four}
+use lib.ListN.{length, drop}
+use Rattle.area.specs.Parts.{paste}
+use Rattle.session_frame.specs.Digits.{byteDigits, concatMap}
+use Rattle.session_frame.proofs.Laws.Writes.{length-byte, write-one, write-length, write-all}
 use Rattle.session_frame.proofs.answers.write_lead.Statement.{statement}
 use Rattle.session_frame.proofs.answers.write_lead.Tie as tie
 
-put-byte-requires : tie.Need-put-byte-requires
-put-byte-requires c κs = search needs
+abbrev Inv-loop : tie.InvT-loop
+Inv-loop bytes out₀ to₀ i₀ out to i =
+    (i ≤ length bytes) × (to ≡ 2 * i) × (length out ≡ length out₀) × (2 * length bytes ≤ length out₀)
+    × (paste to (concatMap byteDigits (drop i bytes)) out ≡ paste 0 (concatMap byteDigits bytes) out₀)
 
-same-length : tie.Need-same-length
-same-length c = search needs
+abbrev μ-loop : tie.MeasureT-loop
+μ-loop bytes out₀ to₀ i₀ out to i = length bytes - i
 
-returns : tie.Need-returns
+loop-holds : tie.Need-loop-holds Inv-loop μ-loop
+loop-holds c = (omega arith, refl, refl, c .before .before .pre, refl)
+
+shared-slice-read-write-byte : tie.Need-shared-slice-read-write-byte Inv-loop μ-loop
+shared-slice-read-write-byte c = search needs
+
+write-byte-requires : tie.Need-write-byte-requires Inv-loop μ-loop
+write-byte-requires c κs = search needs
+
+add-to : tie.Need-add-to Inv-loop μ-loop
+add-to c = search needs
+
+add-i : tie.Need-add-i Inv-loop μ-loop
+add-i c = search needs
+
+loop-less : tie.Need-loop-less Inv-loop μ-loop
+loop-less c = search needs
+
+loop-again : tie.Need-loop-again Inv-loop μ-loop
+loop-again c =
+    let write-byte = c .before .before .write-byte in
+    let t = c .before .before .before .before .before .before .loop in
+    let a = c .before .before .before .before .before .before .before .before .before .args in
+    let h : t .i < length (a .bytes .now) = c .before .before .before .before .before .loop-test .taken in
+    let r : t .to + 2 ≤ length (t .out) = omega arith in (
+      omega arith,
+      omega arith,
+      write-length byteDigits 2 length-byte (a .out .now) (a .bytes .now) (t .out) (t .to) (t .i) r _ (write-byte .ensures) ∙ t .inv .2,
+      t .inv .3,
+      write-one byteDigits 2 length-byte (a .out .now) (a .bytes .now) (t .out) (t .to) (t .i) 0 h r (t .inv .4) _ (write-byte .ensures),
+    )
+
+same-length : tie.Need-same-length Inv-loop μ-loop
+same-length c = c .before .loop .inv .2
+
+returns : tie.Need-returns Inv-loop μ-loop
 returns c =
-    let a = c .before .before .before .before .before .before .before .args in
-    let pre = c .before .before .before .before .before .before .before .pre in
-    (omega (arith, c .if1 .taken), lead-one (a .l) (a .out .now) _ (c .before .before .before .before .put-byte .ensures .1) (pre .0) (pre .2) (c .if1 .taken))
-
-put-byte-requires-2 : tie.Need-put-byte-requires-2
-put-byte-requires-2 c κs = search needs
-
-same-length-2 : tie.Need-same-length-2
-same-length-2 c = search needs
-
-returns-2 : tie.Need-returns-2
-returns-2 c =
-    let a = c .before .before .before .before .before .before .before .before .before .before .before .before .before .args in
-    let pre = c .before .before .before .before .before .before .before .before .before .before .before .before .before .pre in
-    (omega (arith, c .if2 .taken), lead-two (a .l) (a .out .now) _ (c .before .before .before .before .before .before .before .before .before .before .put-byte .ensures .1) (pre .0) (pre .2) _ (c .if2 .taken) (c .before .before .before .before .put-byte2 .ensures .1))
-
-put-byte-requires-3 : tie.Need-put-byte-requires-3
-put-byte-requires-3 c κs = search needs
-
-same-length-3 : tie.Need-same-length-3
-same-length-3 c = search needs
-
-returns-3 : tie.Need-returns-3
-returns-3 c =
-    let a = c .before .before .before .before .before .before .before .before .before .before .before .before .before .before .before .before .before .before .before .args in
-    let pre = c .before .before .before .before .before .before .before .before .before .before .before .before .before .before .before .before .before .before .before .pre in
-    (omega (arith, c .if3 .taken), lead-three (a .l) (a .out .now) _ (c .before .before .before .before .before .before .before .before .before .before .before .before .before .before .before .before .put-byte .ensures .1) (pre .0) (pre .2) _ _ (c .if3 .taken) (c .before .before .before .before .before .before .before .before .before .before .put-byte2 .ensures .1) (c .before .before .before .before .put-byte3 .ensures .1))
-
-put-byte-requires-4 : tie.Need-put-byte-requires-4
-put-byte-requires-4 c κs = search needs
-
-same-length-4 : tie.Need-same-length-4
-same-length-4 c = search needs
-
-returns-4 : tie.Need-returns-4
-returns-4 c =
-    let a = c .before .before .before .before .before .before .before .before .before .before .before .before .before .before .before .before .before .before .before .before .before .before .before .args in
-    let pre = c .before .before .before .before .before .before .before .before .before .before .before .before .before .before .before .before .before .before .before .before .before .before .before .pre in
-    let four : a .l .count ≡ 4 = four-left (a .l .count) (pre .0) (pre .1) (c .before .before .before .before .before .before .before .before .before .before .before .before .before .before .before .before .if1 .left) (c .before .before .before .before .before .before .before .before .before .before .if2 .left) (c .before .before .before .before .if3 .left) in
-    (omega arith, lead-four (a .l) (a .out .now) _ (c .before .before .before .before .before .before .before .before .before .before .before .before .before .before .before .before .before .before .before .before .put-byte .ensures .1) (pre .0) (pre .2) _ _ _ four (c .before .before .before .before .before .before .before .before .before .before .before .before .before .before .put-byte2 .ensures .1) (c .before .before .before .before .before .before .before .before .put-byte3 .ensures .1) (c .before .before .put-byte4 .ensures .1))
+    let t = c .before .loop in
+    let a = c .before .before .before .before .args in
+    let n : t .i ≡ length (a .bytes .now) = omega (arith, c .loop-test .left) in
+    (t .inv .1 ∙ ap (λ (k : ℕ). 2 * k) n, write-all byteDigits 2 length-byte (a .out .now) (a .bytes .now) (t .out) (t .to) (t .i) 0 (c .loop-test .left) (t .inv .4))
 
 pub write-lead-spec : {M : Type 1} → statement M
 write-lead-spec =
     tie.close
     (tie.spec
-    put-byte-requires
+    Inv-loop
+    μ-loop
+    loop-holds
+    shared-slice-read-write-byte
+    write-byte-requires
+    add-to
+    add-i
+    loop-less
+    loop-again
     same-length
-    returns
-    put-byte-requires-2
-    same-length-2
-    returns-2
-    put-byte-requires-3
-    same-length-3
-    returns-3
-    put-byte-requires-4
-    same-length-4
-    returns-4)
+    returns)

@@ -1,8 +1,8 @@
--- `block::blocks::mismatch` meets its contract. Assumes nothing.
+-- `word::checks::mismatch` meets its contract. Assumes nothing.
 use borrow.Author.Needs.{needs}
 use borrow.Author.Tests.{eq-eqb, ne-eqb}
-use Rattle.block.proofs.blocks.mismatch.Statement.{statement}
-use Rattle.block.proofs.blocks.mismatch.Tie as tie
+use Rattle.word.proofs.checks.mismatch.Statement.{statement}
+use Rattle.word.proofs.checks.mismatch.Tie as tie
 
 returns : tie.Need-returns
 returns c = (simp (c .before .if1 .taken, eq-eqb _ _ (c .if2 .taken)), search needs)
