@@ -113,9 +113,7 @@ fn put_words(out: &mut [u8], at: usize, words: &[u64]) -> usize
 fn brief(count: usize, first: u8, second: u8, fourth: u8, worded: bool) -> Lead
     ensures { λ r. ⌜ r ≡ briefLead count first second fourth worded ⌝ }
 {
-    let bytes = [
-        first, second, 0, fourth, 0, 0, 0, 0, 0, 0, 0, 0, 0, 0, 0, 0,
-    ];
+    let bytes = [first, second, 0, fourth, 0, 0, 0, 0, 0, 0, 0, 0, 0, 0, 0, 0];
     Lead {
         count,
         bytes,
