@@ -35,14 +35,15 @@ turnAt c u = unitAt c u .turn
 
 -- the channel with another turn at unit u
 unfoldable pub withTurn : Channel → ℕ → Turn → Channel
-withTurn c u t = record { units = set (c .units) u (record { declared = declaredAt c u; turn = t }); mark = c .mark }
+withTurn c u t = record { units = set (c .units) u (record { declared = declaredAt c u; turn = t }); mark = c .mark; urgent = c .urgent }
 
-abbrev pub withScanMark : Channel → ℕ → Channel
-withScanMark c m = record { units = c .units; mark = m }
+-- the channel with other marks: of the scan for ordinary requests, and of that for priority requests
+abbrev pub withMarks : Channel → ℕ → ℕ → Channel
+withMarks c m p = record { units = c .units; mark = m; urgent = p }
 
 -- "A fresh start .. drops all requests .. and resets the scans"; the units of the list are declared
 unfoldable pub freshWith : List Bool → Channel
-freshWith declared = record { units = map idleUnit declared; mark = 0 }
+freshWith declared = record { units = map idleUnit declared; mark = 0; urgent = 0 }
 
 -- "bit u for unit u", of n units from u on
 unfoldable pub bitsFrom : ℕ → ℕ → ℕ → List Bool

@@ -41,10 +41,11 @@ pub struct Unit {
     pub turn: Turn,
 }
 
-// `mark` is the unit at which the next scan for ordinary requests begins.
+// `mark` is the unit at which the next scan for ordinary requests begins, `urgent` that of the next scan for priority requests.
 pub struct Channel {
     pub units: [Unit; UNITS],
     pub mark: u8,
+    pub urgent: u8,
 }
 
 // The operation that a unit is worked for, if it is.

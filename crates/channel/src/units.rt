@@ -25,7 +25,11 @@ pub fn fresh(mask: u16) -> Channel
         units[i] = u;
         i = i + 1;
     }
-    Channel { units, mark: 0 }
+    Channel {
+        units,
+        mark: 0,
+        urgent: 0,
+    }
 }
 
 // Whether the unit is declared.

@@ -68,7 +68,7 @@ fn declared(c: Channel, unit: usize) {
     }
 }
 
-// Six numbers for each unit, then the mark, then whether the channel is frozen.
+// Six numbers for each unit, then the two marks, then whether the channel is frozen.
 pub fn whole(c: Channel, frozen: bool) {
     let mut u = 0;
     while u < UNITS {
@@ -78,6 +78,7 @@ pub fn whole(c: Channel, frozen: bool) {
         u += 1;
     }
     number(c.mark as u64);
+    number(c.urgent as u64);
     number(flag(frozen));
     end_line();
 }

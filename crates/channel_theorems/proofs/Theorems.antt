@@ -13,6 +13,8 @@ pub mod Race
 pub mod Budget
 pub mod Raced
 pub mod Demand
+pub mod Urged
+pub mod Urgent
 pub mod Limits
 pub mod Lift
 pub mod Machine

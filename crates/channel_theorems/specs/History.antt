@@ -6,8 +6,6 @@ use Prim.Native.Nat.{ℕ, _+_, _*_, _≤_, _<_}
 use lib.Dec.{eqb}
 use Rattle.area.specs.Lists.{oneIf, countOf, isFound}
 use Rattle.channel.specs.declared.Op.{Op}
-use Rattle.channel.specs.declared.Turn.{Turn}
-use Rattle.channel.specs.declared.Turn.the-variants.{Idle, Waiting, Displaced, Working}
 use Rattle.channel.specs.declared.Unit.{Unit}
 use Rattle.channel.specs.declared.Channel.{Channel}
 use Rattle.channel_outcomes.specs.declared.Verdict.{Verdict}
@@ -17,7 +15,7 @@ use Rattle.channel_turns.specs.declared.Reported.{Reported}
 use Rattle.channel_outcomes.specs.Rules.{mostReports}
 use Rattle.channel.specs.Units.{freshWith}
 use Rattle.channel_turns.specs.Scans.{workingIn}
-use Rattle.channel_turns.specs.Turns.{reportOf}
+use Rattle.channel_turns.specs.Turns.{holdsPriority, reportOf}
 use Rattle.channel_turns.specs.Starts.{thawOf, askOf}
 
 -- ---- what is done to a channel
@@ -137,12 +135,6 @@ anAnswerTo u thaw a = false
 abbrev pub isAlive : Station → Bool
 isAlive s = s .frozen || isFound (workingIn (s .channel))
 
-abbrev pub holdsPriority : Turn → Bool
-holdsPriority Idle = false
-holdsPriority (Waiting q) = q .priority
-holdsPriority (Displaced q) = q .priority
-holdsPriority (Working q) = q .priority
-
 -- the priority requests without an answer
 unfoldable pub urgentIn : Channel → ℕ
 urgentIn c = countOf (λ (x : Unit). holdsPriority (x .turn)) (c .units)
@@ -151,15 +143,24 @@ urgentIn c = countOf (λ (x : Unit). holdsPriority (x .turn)) (c .units)
 unfoldable pub declaredIn : List Bool → ℕ
 declaredIn declared = countOf (λ (b : Bool). b) declared
 
--- Demand 3, of an ordinary request of unit u on a channel with U declared units: s is the state when the request was accepted, d the
--- state which that call left, and `later` is any calls after it.
-pub record Kept (U u : ℕ) (s d : Station) (later : List Event) : Type 0 where
+-- A request of unit u is answered by the time that `most` reports have been accepted: d is the state which the call left that was
+-- accepted, and `later` is any calls after it.
+pub record KeptWithin (most u : ℕ) (d : Station) (later : List Event) : Type 0 where
   -- it is answered at most once: a second answer to the unit is to a later request of it
   pub once : count (anAnswerTo u) d later ≤ 1 + count (aRequestOf u) d later
   -- until it is answered the channel is working or frozen,
   pub alive : count (anAnswerTo u) d later ≡ 0 → isAlive (run d later) ≡ true
   -- no other request of the unit is accepted,
   pub sole : count (anAnswerTo u) d later ≡ 0 → count (aRequestOf u) d later ≡ 0
-  -- and fewer than 101 × (U + P) reports have been accepted, where P counts the priority requests that had no answer when it was
-  -- accepted and those that were accepted since: so it is answered by the time that so many reports have been accepted
-  pub soon : count (anAnswerTo u) d later ≡ 0 → count aReport d later < mostReports * (U + (urgentIn (s .channel) + count aPriority d later))
+  -- and fewer reports than that have been accepted
+  pub soon : count (anAnswerTo u) d later ≡ 0 → count aReport d later < most
+
+-- Demand 3, of an ordinary request on a channel with U declared units: s is the state when the request was accepted. It is answered by the
+-- time that 101 × (U + P) reports have been accepted, where P counts the priority requests that had no answer when it was accepted and
+-- those that were accepted since.
+abbrev pub Kept : ℕ → ℕ → Station → Station → List Event → Type 0
+Kept U u s d later = KeptWithin (mostReports * (U + (urgentIn (s .channel) + count aPriority d later))) u d later
+
+-- M-112, of a priority request: "answered by the time 101 × U + 1 reports have been accepted on its channel"
+abbrev pub KeptUrgent : ℕ → ℕ → Station → List Event → Type 0
+KeptUrgent U u d later = KeptWithin (mostReports * U + 1) u d later

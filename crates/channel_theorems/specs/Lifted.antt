@@ -1,4 +1,4 @@
--- Demand 3 in a system of which the channel is a part: each call of the system is, to the channel, nothing or one event.
+-- Demand 3, and M-112, in a system of which the channel is a part: each call of the system is, to the channel, nothing or one event.
 -- Assumes nothing.
 use mathlib.Core.Path.{_≡_}
 use mathlib.Core.Bool.{Bool, true}
@@ -41,10 +41,16 @@ unfoldable pub countIn : (S : System) → (Event → Answer → Bool) → S .Sta
 countIn S kind s [] = 0
 countIn S kind s (k ∷ h) = countShown kind (S .shown s k) + countIn S kind (S .next s k) h
 
--- demand 3 of the system's own history: the four promises of `Kept`
-pub record KeptIn (S : System) (U u : ℕ) (s d : S .State) (later : List (S .Call)) : Type 0 where
+-- the four promises of `KeptWithin`, of the system's own history
+pub record KeptWithinIn (S : System) (most u : ℕ) (d : S .State) (later : List (S .Call)) : Type 0 where
   pub once : countIn S (anAnswerTo u) d later ≤ 1 + countIn S (aRequestOf u) d later
   pub alive : countIn S (anAnswerTo u) d later ≡ 0 → isAlive (S .part (runIn S d later)) ≡ true
   pub sole : countIn S (anAnswerTo u) d later ≡ 0 → countIn S (aRequestOf u) d later ≡ 0
-  pub soon : countIn S (anAnswerTo u) d later ≡ 0
-      → countIn S aReport d later < mostReports * (U + (urgentIn (S .part s .channel) + countIn S aPriority d later))
+  pub soon : countIn S (anAnswerTo u) d later ≡ 0 → countIn S aReport d later < most
+
+-- demand 3, and M-112 of a priority request
+abbrev pub KeptIn : (S : System) → ℕ → ℕ → S .State → S .State → List (S .Call) → Type 0
+KeptIn S U u s d later = KeptWithinIn S (mostReports * (U + (urgentIn (S .part s .channel) + countIn S aPriority d later))) u d later
+
+abbrev pub KeptUrgentIn : (S : System) → ℕ → ℕ → S .State → List (S .Call) → Type 0
+KeptUrgentIn S U u d later = KeptWithinIn S (mostReports * U + 1) u d later

@@ -1,4 +1,4 @@
--- "the lowest unit goes first. The scan for ordinary ones begins .." (document 01, "Requests, reports, turns"). Assumes nothing.
+-- "The scan for ordinary ones begins .." (document 01, "Requests, reports, turns"), and the same scan for priority ones (document 02, M-112). Assumes nothing.
 use mathlib.Core.Path.{_≡_}
 use Prim.Native.Nat.{ℕ, _+_, _≤_, _<_}
 use mathlib.Core.Bool.{Bool, true, false, cond}
@@ -57,9 +57,9 @@ scanFrom c want u = firstAlong (nextUnit (size c)) (stands c want) (size c) (beg
 unfoldable pub workingIn : Channel → Found
 workingIn c = scanFrom c working 0
 
--- "Among priority requests the lowest unit goes first."
+-- "Priority requests are now scanned as ordinary ones are, with a mark of their own on each channel."
 unfoldable pub priorityIn : Channel → Found
-priorityIn c = scanFrom c priority 0
+priorityIn c = scanFrom c priority (c .urgent)
 
 -- "The scan for ordinary ones begins one unit above that of the last ordinary operation to end on the channel, wraps after 9,
 -- and comes to that unit last; it begins at 0 at first."

@@ -11,7 +11,7 @@ use Rattle.channel_turns.specs.declared.Reported.{Reported}
 use Rattle.channel_outcomes.specs.Rules.{verdictOf}
 use Rattle.channel_turns.specs.Scans.{nextUnit, priorityIn}
 use Rattle.area.specs.Lists.{isFound}
-use Rattle.channel.specs.Units.{size, turnAt, withTurn, withScanMark}
+use Rattle.channel.specs.Units.{size, turnAt, withTurn, withMarks}
 use Rattle.channel_turns.specs.Starts.{startOf}
 
 -- "11 | report: the channel is not working for that unit"
@@ -44,12 +44,26 @@ isOrdinary (Waiting q) = not (q .priority)
 isOrdinary (Displaced q) = not (q .priority)
 isOrdinary (Working q) = not (q .priority)
 
--- the end of an ordinary operation moves the mark to the unit above
+abbrev pub holdsPriority : Turn → Bool
+holdsPriority Idle = false
+holdsPriority (Waiting q) = q .priority
+holdsPriority (Displaced q) = q .priority
+holdsPriority (Working q) = q .priority
+
+-- "one unit above that of the last .. operation to end": an end moves a mark to the unit above, of n, if it is of the mark's own kind
+abbrev pub markMoved : Bool → ℕ → ℕ → ℕ → ℕ
+markMoved own n u mark = cond own (nextUnit n u) mark
+
+-- the end of an ordinary operation moves the mark of the ordinary ones,
 unfoldable pub markAfter : Channel → ℕ → ℕ
-markAfter c u = cond (isOrdinary (turnAt c u)) (nextUnit (size c) u) (c .mark)
+markAfter c u = markMoved (isOrdinary (turnAt c u)) (size c) u (c .mark)
+
+-- and that of a priority operation the mark of the priority ones, "a mark of their own"
+unfoldable pub urgentAfter : Channel → ℕ → ℕ
+urgentAfter c u = markMoved (holdsPriority (turnAt c u)) (size c) u (c .urgent)
 
 unfoldable pub endOf : Channel → ℕ → Bool → Channel
-endOf c u frozen = startOf (withScanMark (withTurn c u Idle) (markAfter c u)) frozen
+endOf c u frozen = startOf (withMarks (withTurn c u Idle) (markAfter c u) (urgentAfter c u)) frozen
 
 -- "the report is booked", and the channel goes on
 unfoldable pub bookOf : Channel → ℕ → Verdict → Bool → Channel

@@ -1,4 +1,4 @@
-// Which unit comes first: the one that is worked for, the lowest with a priority request, the next with an ordinary one.
+// Which unit comes first: the one that is worked for, the next with a priority request, the next with an ordinary one.
 use crate::LAST;
 use area::Found;
 use channel::Channel;
@@ -77,14 +77,14 @@ pub fn working_unit(c: Channel) -> Found
     scan(c, WORKING, 0)
 }
 
-// The lowest unit whose priority request waits.
+// The first unit, from the channel's mark for them on, whose priority request waits.
 pub fn first_priority(c: Channel) -> Found
     ensures { λ r. ⌜ r ≡ priorityIn c ⌝ }
 {
-    scan(c, PRIORITY, 0)
+    scan(c, PRIORITY, c.urgent)
 }
 
-// The first unit, from the channel's mark on, whose ordinary request waits.
+// The first unit, from the channel's mark for them on, whose ordinary request waits.
 fn first_ordinary(c: Channel) -> Found
     ensures { λ r. ⌜ r ≡ ordinaryIn c ⌝ }
 {

@@ -12,7 +12,8 @@ use channel::with_turn;
 use channel_outcomes::Verdict;
 use channel_outcomes::verdict_of;
 ghost use mathlib.Core.Path.{_≡_};
-ghost use Rattle.channel_turns.specs.Turns.{judgeOf, goesOn, incompleteTurn, repeatOf, isOrdinary, markAfter, endOf, bookOf, reportOf};
+ghost use Rattle.channel.specs.Units.{unitCount};
+ghost use Rattle.channel_turns.specs.Turns.{judgeOf, goesOn, incompleteTurn, repeatOf, isOrdinary, holdsPriority, markMoved, endOf, bookOf, reportOf};
 
 // What a report of the unit comes to: refused 11 where it is not worked for.
 pub fn judge(c: Channel, unit: usize, outcome: u8) -> Verdict
@@ -65,23 +66,37 @@ fn is_ordinary(t: Turn) -> bool
     }
 }
 
-// Where the scan begins once the unit's operation has ended.
-fn mark_after(c: Channel, unit: usize) -> u8
-    ensures { λ r. ⌜ r ≡ markAfter c unit ⌝ }
+fn holds_priority(t: Turn) -> bool
+    ensures { λ r. ⌜ r ≡ holdsPriority t ⌝ }
 {
-    let t = turn_of(c, unit);
-    if is_ordinary(t) {
+    match t {
+        Turn::Idle => false,
+        Turn::Waiting(q) => q.priority,
+        Turn::Displaced(q) => q.priority,
+        Turn::Working(q) => q.priority,
+    }
+}
+
+// Where a scan begins once the unit's operation has ended: above it, if the operation is of the mark's own kind.
+fn mark_moved(own: bool, unit: usize, mark: u8) -> u8
+    ensures { λ r. ⌜ r ≡ markMoved own unitCount unit mark ⌝ }
+{
+    if own {
         return next_unit(unit) as u8;
     }
-    c.mark
+    mark
 }
 
 // The unit's operation has ended.
 fn end(c: Channel, unit: usize, frozen: bool) -> Channel
     ensures { λ r. ⌜ r ≡ endOf c unit frozen ⌝ }
 {
+    let t = turn_of(c, unit);
+    let ordinary = is_ordinary(t);
+    let priority = holds_priority(t);
     let mut d = with_turn(c, unit, Turn::Idle);
-    d.mark = mark_after(c, unit);
+    d.mark = mark_moved(ordinary, unit, c.mark);
+    d.urgent = mark_moved(priority, unit, c.urgent);
     start(d, frozen)
 }
 

@@ -1,10 +1,10 @@
--- Demand 3 from what the system around a channel keeps: the same counts, in the pack's own words. Assumes nothing.
+-- Demand 3 and M-112's bound from what the system around a channel keeps: the same counts, in the pack's own words. Assumes nothing.
 use mathlib.Core.Path.{_≡_, refl, sym, ap, subst, _∙_}
 use mathlib.Core.Logic.{inl, inr}
 use mathlib.Core.Bool.{Bool, true, false, cond}
 use mathlib.Core.Option.{Option, none, some}
 use mathlib.Core.List.{List}
-use Prim.Native.Nat.{ℕ, _+_, _*_, _<_}
+use Prim.Native.Nat.{ℕ, _+_, _*_}
 use native.Mathlib.Omega.{arith}
 use borrow.Author.Tests.{eq-eqb}
 use Rattle.area.specs.Lists.{countOf, isFound}
@@ -17,9 +17,10 @@ use Rattle.channel.specs.declared.Channel.{Channel}
 use Rattle.channel.specs.Units.{unitCount, size, idleUnit, turnAt}
 use Rattle.channel_outcomes.specs.Rules.{mostReports}
 use Rattle.channel_turns.specs.Scans.{workingIn}
+use Rattle.channel_turns.specs.Turns.{holdsPriority}
 use Rattle.channel_theorems.specs.History as history
-use Rattle.channel_theorems.specs.History.{accepted, aReport, aPriority, aRequestOf, anAnswerTo, holdsPriority, urgentIn, isAlive}
-use Rattle.channel_theorems.specs.Lifted.{runIn, countIn, KeptIn}
+use Rattle.channel_theorems.specs.History.{accepted, aReport, aPriority, aRequestOf, anAnswerTo, urgentIn, declaredIn, isAlive}
+use Rattle.channel_theorems.specs.Lifted.{runIn, countIn, KeptWithinIn, KeptIn, KeptUrgentIn}
 use Rattle.channel_theorems.proofs.Laws.Sums.{sum, sum-le, count-sum}
 use Rattle.channel_theorems.proofs.Theorems.Turning.{held}
 use Rattle.channel_theorems.proofs.Theorems.Bookings.{urgentHeld, found-busy}
@@ -36,9 +37,9 @@ use Rattle.pack.proofs.Kept.{Good, good-start, history-kept, call-kept}
 use Rattle.pack.proofs.Seen.{stationAt, seen, nextOf}
 use Rattle.pack.proofs.Around.{packAround, run-same, count-same}
 use Rattle.pack.proofs.Counted.{report-matches, answer-matches, priority-matches, request-matches}
-use Rattle.pack.proofs.Turns.{fresh-declared, turns-kept}
+use Rattle.pack.proofs.Turns.{bitsOf, fresh-declared, turns-kept, urgent-kept}
 use Rattle.pack.proofs.Booking.{asHeld, Shows, shows-start, shows-after}
-use Rattle.demands.specs.Demands.{unanswered, WorkingOrFrozen, Answers}
+use Rattle.demands.specs.Demands.{unanswered, WorkingOrFrozen, AnswersWithin, Answers, AnswersUrgent}
 
 -- ---- the priority requests without an answer, by the history
 
@@ -79,38 +80,46 @@ works-or s c e =
 
 -- ---- in the pack's words
 
-in-words : (U c u : ℕ) (s d : State) (b : Book) (later : List Lent) → Good d → Shows (stationAt c s) b → count freshStart d later ≡ 0
-    → KeptIn (packAround c) U u s d later → Answers U c u b d later
-in-words U c u s d b later g S z K =
+in-words : (most c u : ℕ) (d : State) (later : List Lent) → Good d → count freshStart d later ≡ 0
+    → KeptWithinIn (packAround c) most u d later → AnswersWithin most c u d later
+in-words most c u d later g z K =
     let a = count-same c (isAnswerFor c u) (anAnswerTo u) (answer-matches c u) d later g z in
     let r = count-same c (isRequestOf c u) (aRequestOf u) (request-matches c u) d later g z in
     let n = count-same c (isReportOn c) aReport (report-matches c) d later g z in
-    let p = count-same c (isPriorityOn c) aPriority (priority-matches c) d later g z in
     record {
       once = let k = K .once in omega arith;
       alive = λ e. works-or (after d later) c (subst (λ (t : State). isAlive (stationAt c t) ≡ true) (run-same c d later z) (K .alive (a ∙ e)));
       sole = λ e. let k = K .sole (a ∙ e) in omega arith;
-      soon =
-          λ e. let k = K .soon (a ∙ e) in
-          subst (λ (i : ℕ). count (isReportOn c) d later < mostReports * (U + (unanswered b + i))) p
-          (subst (λ (i : ℕ). count (isReportOn c) d later < mostReports * (U + (i + countIn (packAround c) aPriority d later)))
-          (urgent-counted (channelAt s c) b (S .holds) (S .long)) (omega arith));
+      soon = λ e. let k = K .soon (a ∙ e) in omega arith;
     }
 
--- in the states that the calls lead to
-module _ (c m w : ℕ) (masks : Masks) (u : ℕ) (op : Op) (x : Lent) (before later : List Lent) where
+-- the bound of an ordinary request
+ordinary-words : (U c u : ℕ) (s d : State) (b : Book) (later : List Lent) → Good d → Shows (stationAt c s) b → count freshStart d later ≡ 0
+    → KeptIn (packAround c) U u s d later → Answers U c u b d later
+ordinary-words U c u s d b later g S z K =
+    subst (λ (i : ℕ). AnswersWithin (mostReports * (U + (unanswered b + i))) c u d later)
+    (count-same c (isPriorityOn c) aPriority (priority-matches c) d later g z)
+    (subst (λ (i : ℕ). AnswersWithin (mostReports * (U + (i + countIn (packAround c) aPriority d later))) c u d later)
+    (urgent-counted (channelAt s c) b (S .holds) (S .long)) (in-words _ c u d later g z K))
+
+-- in the states that the calls lead to: what an accepted request of kind k is promised, of U units, the state of its acceptance and the one after it
+module _ (c m w : ℕ) (masks : Masks) (u : ℕ) (op : Op) (k : Bool) (x : Lent) (before : List Lent) (P : ℕ → State → State → Type 0)
+    (law : Good (freshState m w masks)
+    → seen c (runIn (packAround c) (freshState m w masks) before) (x .area) (x .call) ≡ some (record { event = history.ask u op k; answer = accepted })
+    → P (declaredIn (bitsOf masks c)) (runIn (packAround c) (freshState m w masks) before)
+    (nextOf (runIn (packAround c) (freshState m w masks) before) (x .area) (x .call))) where
   Kept : State → Type 0
-  Kept start = seen c (after start before) (x .area) (x .call) ≡ some (record { event = history.ask u op false; answer = accepted })
-      → KeptIn (packAround c) (declaredOn start c) u (after start before) (nextOf (after start before) (x .area) (x .call)) later
+  Kept start = seen c (after start before) (x .area) (x .call) ≡ some (record { event = history.ask u op k; answer = accepted })
+      → P (declaredOn start c) (after start before) (nextOf (after start before) (x .area) (x .call))
 
   from-fresh : Good (freshState m w masks) → count freshStart (freshState m w masks) before ≡ 0 → Kept (freshState m w masks)
   unfolding Kept
   from-fresh g z q =
       let r = run-same c (freshState m w masks) before z in
-      subst (λ (t : State). KeptIn (packAround c) (declaredOn (freshState m w masks) c) u t (nextOf t (x .area) (x .call)) later) r
-      (subst (λ (U : ℕ). KeptIn (packAround c) U u (runIn (packAround c) (freshState m w masks) before)
-      (nextOf (runIn (packAround c) (freshState m w masks) before) (x .area) (x .call)) later) (sym (fresh-declared m w masks c))
-      (turns-kept c m w masks g before u op x later (ap (λ (t : State). seen c t (x .area) (x .call)) r ∙ q)))
+      subst (λ (t : State). P (declaredOn (freshState m w masks) c) t (nextOf t (x .area) (x .call))) r
+      (subst (λ (U : ℕ). P U (runIn (packAround c) (freshState m w masks) before)
+      (nextOf (runIn (packAround c) (freshState m w masks) before) (x .area) (x .call))) (sym (fresh-declared m w masks c))
+      (law g (ap (λ (t : State). seen c t (x .area) (x .call)) r ∙ q)))
 
   from-start : (start : State) → start ≡ freshState m w masks → Good start → count freshStart start before ≡ 0 → Kept start
   from-start start e = subst (λ (t : State). Good t → count freshStart t before ≡ 0 → Kept t) (sym e) from-fresh
@@ -128,22 +137,39 @@ module _ (s₀ : State) (area₀ : List ℕ) (m w : ℕ) (masks : Masks) (starte
     unfolding answerOf
     start-is = fresh-accepted s₀ _ m w masks started
 
-    module _ (noSecond : count freshStart start before ≡ 0) (file op priority : ℕ) (area : List ℕ) (ordinary : isPriority priority ≡ false)
-        (asked : answerOf s area (ask file op priority) .refusal ≡ 0) (later : List Lent)
-        (noLater : count freshStart (answerOf s area (ask file op priority) .state) later ≡ 0) where
-      seen-ask : seen (fileAt s file .channel) s area (ask file op priority)
-          ≡ some (record { event = history.ask (fileAt s file .unit) (opOf op) false; answer = accepted })
-      seen-ask =
-          rw (eq-eqb (answerOf s area (ask file op priority) .refusal) 0 asked, eq-eqb (fileAt s file .channel) (fileAt s file .channel) refl, ordinary)
+    module _ (noSecond : count freshStart start before ≡ 0) (file op priority : ℕ) (area : List ℕ) where
+      seen-ask : (k : Bool) → isPriority priority ≡ k → answerOf s area (ask file op priority) .refusal ≡ 0
+          → seen (fileAt s file .channel) s area (ask file op priority)
+          ≡ some (record { event = history.ask (fileAt s file .unit) (opOf op) k; answer = accepted })
+      seen-ask k kind asked =
+          rw (eq-eqb (answerOf s area (ask file op priority) .refusal) 0 asked, eq-eqb (fileAt s file .channel) (fileAt s file .channel) refl, kind)
 
-      pub answered : Answers (declaredOn start (fileAt s file .channel)) (fileAt s file .channel) (fileAt s file .unit)
+      pub answered : isPriority priority ≡ false → answerOf s area (ask file op priority) .refusal ≡ 0 → (later : List Lent)
+          → count freshStart (answerOf s area (ask file op priority) .state) later ≡ 0
+          → Answers (declaredOn start (fileAt s file .channel)) (fileAt s file .channel) (fileAt s file .unit)
           (bookAfter (fileAt s file .channel) start blankBook before) (answerOf s area (ask file op priority) .state) later
       unfolding Kept
-      answered =
+      answered ordinary asked later noLater =
           let g = good-start s₀ area₀ m w masks started in
-          in-words (declaredOn start (fileAt s file .channel)) (fileAt s file .channel) (fileAt s file .unit) s
-          (answerOf s area (ask file op priority) .state) (bookAfter (fileAt s file .channel) start blankBook before) later
+          let c = fileAt s file .channel in
+          let u = fileAt s file .unit in
+          let x : Lent = record { call = ask file op priority; area = area } in
+          ordinary-words (declaredOn start c) c u s (answerOf s area (ask file op priority) .state) (bookAfter c start blankBook before) later
           (call-kept s area (history-kept start before g) (ask file op priority))
-          (shows-after (fileAt s file .channel) start blankBook before g (shows-start (fileAt s file .channel) s₀ area₀ m w masks started)) noLater
-          (from-start (fileAt s file .channel) m w masks (fileAt s file .unit) (opOf op) (record { call = ask file op priority; area = area }) before
-          later start start-is g noSecond seen-ask)
+          (shows-after c start blankBook before g (shows-start c s₀ area₀ m w masks started)) noLater
+          (from-start c m w masks u (opOf op) false x before (λ U t d. KeptIn (packAround c) U u t d later)
+          (λ g₁. turns-kept c m w masks g₁ before u (opOf op) x later) start start-is g noSecond (seen-ask false ordinary asked))
+
+      pub urgent-answered : isPriority priority ≡ true → answerOf s area (ask file op priority) .refusal ≡ 0 → (later : List Lent)
+          → count freshStart (answerOf s area (ask file op priority) .state) later ≡ 0
+          → AnswersUrgent (declaredOn start (fileAt s file .channel)) (fileAt s file .channel) (fileAt s file .unit)
+          (answerOf s area (ask file op priority) .state) later
+      unfolding Kept
+      urgent-answered urgent asked later noLater =
+          let g = good-start s₀ area₀ m w masks started in
+          let c = fileAt s file .channel in
+          let u = fileAt s file .unit in
+          let x : Lent = record { call = ask file op priority; area = area } in
+          in-words _ c u (answerOf s area (ask file op priority) .state) later (call-kept s area (history-kept start before g) (ask file op priority)) noLater
+          (from-start c m w masks u (opOf op) true x before (λ U t d. KeptUrgentIn (packAround c) U u d later)
+          (λ g₁. urgent-kept c m w masks g₁ before u (opOf op) x later) start start-is g noSecond (seen-ask true urgent asked))

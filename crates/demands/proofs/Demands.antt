@@ -14,6 +14,7 @@ use Rattle.file.specs.declared.File.{File}
 use Rattle.file_input.specs.declared.Got.{Got}
 use Rattle.file_input.specs.Gets.{gotNumber, gotFound}
 use Rattle.pool.specs.Serving.{serves}
+use Rattle.pool.specs.Free.{fileCount}
 use Rattle.state.specs.declared.State.{State}
 use Rattle.state.specs.Places.{beforeStart, fileAt}
 use Rattle.state_sound.specs.Soundness.{sound}
@@ -34,7 +35,7 @@ use Rattle.demands.specs.Results.{Results, Forbids}
 use Rattle.demands.specs.Marks.{Marks}
 use Rattle.demands.specs.Turns.{worksFor, isPending, Turns, Continues, toldWorking, Tells}
 use Rattle.demands_ledger.proofs.Asks.{Asked, always-asked, started-asked}
-use Rattle.demands.specs.Demands.{Refuses, Holds, Frees, Takes, Books, dataIn, Writes, Reads, Answers}
+use Rattle.demands.specs.Demands.{Refuses, Holds, Frees, Takes, Books, dataIn, Writes, Reads, Answers, AnswersUrgent}
 use Rattle.demands.specs.Records.{Gives, Drops}
 use Rattle.demands.specs.Written.{Cuts, Due, HandsOut}
 use Rattle.demands.proofs.Refusals.{refuses}
@@ -43,7 +44,9 @@ use Rattle.demands.proofs.Blocks.{ledger-writes, ledger-closed, ledger-
 use Rattle.demands.proofs.Results.{reported-results, refused-forbids}
 use Rattle.demands.proofs.Marks.{asked-marks}
 use Rattle.demands.proofs.Turns.{call-turns, report-continues, ask-tells, report-tells, ask-single, report-idle, ask-holding}
-use Rattle.demands.proofs.Answering.{answered}
+use Rattle.demands.specs.Orders.{Requests, On, EitherOrder}
+use Rattle.demands.proofs.Orders.{either-order}
+use Rattle.demands.proofs.Answering.{answered, urgent-answered}
 use Rattle.demands.proofs.Records.{gives-one, ledger-got, ledger-skipped}
 use Rattle.demands.proofs.Written.{due-one, ledger-cuts, ledger-sent}
 
@@ -75,6 +78,12 @@ demand2-before calls = good-holds (after beforeStart calls) (history-kept before
 -- "a state passed back is unsound": a fresh start is refused such a state as every call is
 pub demand1-start : (s : State) (area : List ℕ) (m w : ℕ) (masks : Masks) → answerOf s area (fresh m w masks) .refusal ≡ 0 → sound s ≡ true
 demand1-start = start-judged
+
+-- M-112: "an ask or a report on one channel and one on another give the same answers and the same state, area and all, in either order,
+-- refused ones too": of every state of sixteen files, sound or not, and every area
+pub demand3-order : (s : State) (area : List ℕ) (x y : Call) → length (s .files) ≡ fileCount → Requests x → Requests y
+    → ((c : ℕ) → On s c x → On s c y → ⊥) → EitherOrder s area x y
+demand3-order = either-order
 
 -- From here on: a fresh start that is accepted; then any calls, each given the state that the last one left.
 module _ (s₀ : State) (area₀ : List ℕ) (m w : ℕ) (masks : Masks) (started : answerOf s₀ area₀ (fresh m w masks) .refusal ≡ 0) where
@@ -267,3 +276,12 @@ module _ (s₀ : State) (area₀ : List ℕ) (m w : ℕ) (masks : Masks) (starte
       (fileAt (after start before) file .unit) (bookAfter (fileAt (after start before) file .channel) start blankBook before)
       (answerOf (after start before) area (ask file op priority) .state) later
   demand3 = answered s₀ area₀ m w masks started
+
+  -- M-112: "With that and demand 3's premises, an accepted priority request is answered by the time 101 × U + 1 reports have been accepted on
+  -- its channel"; and answered at most once, its channel working or frozen until then
+  pub demand3-urgent : (before : List Lent) → count freshStart start before ≡ 0
+      → (file op priority : ℕ) (area : List ℕ) → isPriority priority ≡ true → answerOf (after start before) area (ask file op priority) .refusal ≡ 0
+      → (later : List Lent) → count freshStart (answerOf (after start before) area (ask file op priority) .state) later ≡ 0
+      → AnswersUrgent (declaredOn start (fileAt (after start before) file .channel)) (fileAt (after start before) file .channel)
+      (fileAt (after start before) file .unit) (answerOf (after start before) area (ask file op priority) .state) later
+  demand3-urgent = urgent-answered s₀ area₀ m w masks started

@@ -12,7 +12,7 @@ use Rattle.word.specs.Checks as checks
 use Rattle.channel_outcomes.specs.Rules.{rowOf, isAllowed, isPermanent, nextAttempt, endingOf, verdictOf}
 use Rattle.channel.specs.Units.{withTurn, freshWith, bitsFrom, freshOf, hasRequest, acceptsAt, operationAt}
 use Rattle.channel_turns.specs.Scans.{scanFrom, workingIn, priorityIn, ordinaryIn, nextTurn}
-use Rattle.channel_turns.specs.Turns.{judgeOf, goesOn, repeatOf, markAfter, endOf, bookOf}
+use Rattle.channel_turns.specs.Turns.{judgeOf, goesOn, repeatOf, markAfter, urgentAfter, endOf, bookOf}
 use Rattle.channel_turns.specs.Starts.{startOf, askOf}
 use Rattle.file.specs.Sides.{emptySide, takenSide, partSide, oldest}
 use Rattle.file.specs.Fills.{filledAt, emptiedAt, withoutOldest}
@@ -43,5 +43,5 @@ use Rattle.pack.specs.Calls.{answerOf}
 use Rattle.demands.specs.Examples.{play, repeatedFrom, table, allShown, allWanted}
 
 pub examples : allShown table ≡ allWanted table
-unfolding play repeatedFrom table anyOf allOf allPairs countOf firstAlong countAlong paste pastedIn lowest allFrom carryBack sumFrom logicalSum firstHalf lastHalf folded address checkWord blocks.blockSealRefusal blocks.withCheckWord blocks.sealedBlock blocks.judgeRefusal checks.errorOf checks.checkOf checks.isChecked blocks.judgedBlock rowOf isAllowed isPermanent nextAttempt endingOf verdictOf withTurn freshWith bitsFrom freshOf hasRequest acceptsAt operationAt scanFrom workingIn priorityIn ordinaryIn nextTurn startOf askOf judgeOf goesOn repeatOf markAfter endOf bookOf emptySide takenSide partSide oldest filledAt emptiedAt withoutOldest tookBuffer delivered gaveBack metMark putSide putStart added partStart partLength isComplete sealedFile afterPut sendStart sendWords afterWrite openedFile lowestFree freeCount servingFile isBlank beforeStart withFile withChannel numbersInRange noBufferHeldTwice eachHasItsOwn requestsFit channelsWork readsAloneTake writesHaveBlocks fullBlocksRight partBuffersRight placesRight attemptsInLimit sound freshRows freshState freshBy freeOf openRows openOn openBy changedState opOf askRefusal askedFile askedChannel askOn askBy reportRefusal reportedFile reportedArea reportOn reportOnArea reportBy reportByArea sealedIn sealedArea putRows putRefusal filledArea putArea putOn putOnArea putBy putByArea answerOf freeMaskRight freeAfter maskAlong
+unfolding play repeatedFrom table anyOf allOf allPairs countOf firstAlong countAlong paste pastedIn lowest allFrom carryBack sumFrom logicalSum firstHalf lastHalf folded address checkWord blocks.blockSealRefusal blocks.withCheckWord blocks.sealedBlock blocks.judgeRefusal checks.errorOf checks.checkOf checks.isChecked blocks.judgedBlock rowOf isAllowed isPermanent nextAttempt endingOf verdictOf withTurn freshWith bitsFrom freshOf hasRequest acceptsAt operationAt scanFrom workingIn priorityIn ordinaryIn nextTurn startOf askOf judgeOf goesOn repeatOf markAfter urgentAfter endOf bookOf emptySide takenSide partSide oldest filledAt emptiedAt withoutOldest tookBuffer delivered gaveBack metMark putSide putStart added partStart partLength isComplete sealedFile afterPut sendStart sendWords afterWrite openedFile lowestFree freeCount servingFile isBlank beforeStart withFile withChannel numbersInRange noBufferHeldTwice eachHasItsOwn requestsFit channelsWork readsAloneTake writesHaveBlocks fullBlocksRight partBuffersRight placesRight attemptsInLimit sound freshRows freshState freshBy freeOf openRows openOn openBy changedState opOf askRefusal askedFile askedChannel askOn askBy reportRefusal reportedFile reportedArea reportOn reportOnArea reportBy reportByArea sealedIn sealedArea putRows putRefusal filledArea putArea putOn putOnArea putBy putByArea answerOf freeMaskRight freeAfter maskAlong
 examples = refl

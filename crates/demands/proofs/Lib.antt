@@ -6,6 +6,7 @@ pub mod Rows
 pub mod Results
 pub mod Marks
 pub mod Turns
+pub mod Orders
 pub mod Records
 pub mod Written
 pub mod Demands

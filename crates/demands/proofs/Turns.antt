@@ -30,7 +30,7 @@ use Rattle.channel_theorems.specs.History.{Station, station, Step, stepTo, repo
 use Rattle.channel_theorems.specs.Lifted.{Shown, Agrees}
 use Rattle.channel_theorems.proofs.Theorems.Order as order
 use Rattle.channel_theorems.proofs.Theorems.Order.{Next, next-is}
-use Rattle.channel_theorems.proofs.Theorems.Turning.{held, busy-inside}
+use Rattle.channel_theorems.proofs.Theorems.Turning.{held, markAs, busy-inside}
 use Rattle.channel_theorems.proofs.Theorems.Calls.{Took, took}
 use Rattle.channel_theorems.proofs.Theorems.Fresh.{units-step}
 use Rattle.channel_theorems.proofs.Theorems.Sound.{OneWorks}
@@ -52,7 +52,7 @@ use Rattle.pack.proofs.Kept as kept
 use Rattle.pack.proofs.Kept.{call-kept}
 use Rattle.pack.proofs.Seen.{stationAt, eventIf, seen, call-agrees}
 use Rattle.pack.proofs.Counted.{result-is}
-use Rattle.pack.proofs.Booking.{asHeld, MarkIs, Shows, call-shows}
+use Rattle.pack.proofs.Booking.{asHeld, lastAs, MarkIs, Shows, call-shows}
 use Rattle.demands.specs.Turns as turns
 use Rattle.demands.specs.Turns.{worksFor, NoneWorks, SomeWorks, Earlier, fromZero, above, below, Starts, isPending, Begins, asks, thaws, Changes, reports, begins, afresh, Turns, Continues, toldWorking, Tells}
 use Rattle.demands.proofs.Rows.{row-past, row-given, none-gives, not-gives}
@@ -88,6 +88,12 @@ ordinary-book : (h : Option Pending) → ordinaryHeld (asHeld h) ≡ isOrdinary 
 ordinary-book none = refl
 ordinary-book (some p) = refl
 
+urgent-busy : (t : Turn) → urgentHeld (held t) ≡ true → isIdle t ≡ false
+urgent-busy Idle e = true-not-false e refl
+urgent-busy (Waiting q) e = refl
+urgent-busy (Displaced q) e = refl
+urgent-busy (Working q) e = refl
+
 ordinary-busy : (t : Turn) → ordinaryHeld (held t) ≡ true → isIdle t ≡ false
 ordinary-busy Idle e = true-not-false e refl
 ordinary-busy (Waiting q) e = refl
@@ -101,12 +107,14 @@ module _ (t : State) (c : ℕ) (b : Book) (D : Shows (stationAt c t) b) where
   starts-from X = record {
     priority = λ x p.
         ap (λ (d : Channel). isWorking (turnAt d x)) (sym (X .is))
-        ∙ start-urgent e (X .quiet) x (urgent x ∙ p .0) (λ y l. urgent y ∙ p .1 y l);
+        ∙ start-urgent e (X .quiet) x (urgent x ∙ p .0)
+        (λ y l o. urgent y ∙ p .1 y (earlier (b .lastUrgent) (e .urgent) (mark true) x y (inside x (urgent-busy (turnAt e x) (urgent x ∙ p .0)))
+        (subst (λ (n : ℕ). y < n) long l) (subst (λ (n : ℕ). Before (beginOf n (e .urgent)) x y) long o)));
     ordinary = λ no x p.
         ap (λ (d : Channel). isWorking (turnAt d x)) (sym (X .is))
         ∙ start-ordinary e (X .quiet) (λ y. urgent y ∙ no y) x (ordinary x ∙ p .0)
-        (λ y l o. ordinary y ∙ p .1 y (earlier (b .last) (e .mark) mark x y (within x (ordinary x ∙ p .0)) (subst (λ (n : ℕ). y < n) long l)
-        (subst (λ (n : ℕ). Before (beginOf n (e .mark)) x y) long o)));
+        (λ y l o. ordinary y ∙ p .1 y (earlier (b .last) (e .mark) (mark false) x y (inside x (ordinary-busy (turnAt e x) (ordinary x ∙ p .0)))
+        (subst (λ (n : ℕ). y < n) long l) (subst (λ (n : ℕ). Before (beginOf n (e .mark)) x y) long o)));
   }
     where
       e : Channel
@@ -121,16 +129,16 @@ module _ (t : State) (c : ℕ) (b : Book) (D : Shows (stationAt c t) b) where
       ordinary : (y : ℕ) → ordinaryHeld (held (turnAt e y)) ≡ isOrdinary (b .requests y)
       ordinary y = ap ordinaryHeld (holds y) ∙ ordinary-book (b .requests y)
 
-      mark : MarkIs (b .last) (e .mark)
-      mark = subst (MarkIs (b .last)) (sym (ap (λ (d : Channel). d .mark) (X .is)) ∙ mark-start e false) (D .mark)
+      mark : (j : Bool) → MarkIs (lastAs j b) (markAs j e)
+      mark j = subst (MarkIs (lastAs j b)) (sym (ap (markAs j) (X .is)) ∙ mark-start j e false) (D .mark j)
 
       long : size e ≡ unitCount
       long =
           sym (units-step (station e false) history.thaw (step (station e false) history.thaw) (took (station e false) history.thaw) .long)
           ∙ ap (λ (d : Channel). size d) (X .is) ∙ D .long
 
-      within : (y : ℕ) → ordinaryHeld (held (turnAt e y)) ≡ true → y < unitCount
-      within y o = subst (λ (n : ℕ). y < n) long (busy-inside e y (ordinary-busy (turnAt e y) o))
+      inside : (y : ℕ) → isIdle (turnAt e y) ≡ false → y < unitCount
+      inside y o = subst (λ (n : ℕ). y < n) long (busy-inside e y o)
 
   module _ (G : kept.Good t) where
     facts : ChannelFacts (t .m) (t .frozen) (channelAt t c)

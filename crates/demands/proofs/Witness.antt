@@ -11,7 +11,7 @@ use Rattle.word.specs.Checks as checks
 use Rattle.channel_outcomes.specs.Rules.{rowOf, isAllowed, isPermanent, nextAttempt, endingOf, verdictOf}
 use Rattle.channel.specs.Units.{withTurn, freshWith, bitsFrom, freshOf, hasRequest, acceptsAt, operationAt}
 use Rattle.channel_turns.specs.Scans.{scanFrom, workingIn, priorityIn, ordinaryIn, nextTurn}
-use Rattle.channel_turns.specs.Turns.{judgeOf, goesOn, repeatOf, markAfter, endOf, bookOf}
+use Rattle.channel_turns.specs.Turns.{judgeOf, goesOn, repeatOf, markAfter, urgentAfter, endOf, bookOf}
 use Rattle.channel_turns.specs.Starts.{startOf, askOf, thawOf}
 use Rattle.file.specs.Sides.{emptySide, takenSide, partSide, oldest}
 use Rattle.file.specs.Fills.{filledAt, emptiedAt, withoutOldest}
@@ -53,5 +53,5 @@ use Rattle.demands_ledger.specs.Ledgers.{ledgerAfter}
 use Rattle.demands.specs.Witness.{toldBy, steps1, steps2, steps3, midway, readAll, wroteAll, played, wanted}
 
 pub witness : played ≡ wanted
-unfolding toldBy ledgerAfter steps1 steps2 steps3 midway readAll wroteAll anyOf allOf allPairs countOf firstAlong countAlong paste pastedIn lowest allFrom carryBack sumFrom logicalSum firstHalf lastHalf folded address checkWord blocks.blockSealRefusal blocks.withCheckWord blocks.sealedBlock blocks.judgeRefusal checks.errorOf checks.checkOf checks.isChecked blocks.judgedBlock rowOf isAllowed isPermanent nextAttempt endingOf verdictOf withTurn freshWith bitsFrom freshOf hasRequest acceptsAt operationAt scanFrom workingIn priorityIn ordinaryIn nextTurn startOf askOf judgeOf goesOn repeatOf markAfter endOf bookOf emptySide takenSide partSide oldest filledAt emptiedAt withoutOldest tookBuffer delivered gaveBack metMark putSide putStart added partStart partLength isComplete sealedFile afterPut sendStart sendWords afterWrite openedFile lowestFree freeCount servingFile isBlank beforeStart withFile withChannel numbersInRange noBufferHeldTwice eachHasItsOwn requestsFit channelsWork readsAloneTake writesHaveBlocks fullBlocksRight partBuffersRight placesRight attemptsInLimit sound freshRows freshState freshBy freeOf openRows openOn openBy changedState opOf askRefusal askedFile askedChannel askOn askBy reportRefusal reportedFile reportedArea reportOn reportOnArea reportBy reportByArea sealedIn sealedArea putRows putRefusal filledArea putArea putOn putOnArea putBy putByArea answerOf passed lookedAt found afterFound getFrom getRows getRefusal getOn getBy getWords skipRows skipRefusal skipOn skipBy sealRows sealRefusal sealOn sealOnArea sealBy sealByArea closeRows closeOn closeBy stateRows frozenState thawedState freezeBy thawBy thawOf freeMaskRight freeAfter maskAlong
+unfolding toldBy ledgerAfter steps1 steps2 steps3 midway readAll wroteAll anyOf allOf allPairs countOf firstAlong countAlong paste pastedIn lowest allFrom carryBack sumFrom logicalSum firstHalf lastHalf folded address checkWord blocks.blockSealRefusal blocks.withCheckWord blocks.sealedBlock blocks.judgeRefusal checks.errorOf checks.checkOf checks.isChecked blocks.judgedBlock rowOf isAllowed isPermanent nextAttempt endingOf verdictOf withTurn freshWith bitsFrom freshOf hasRequest acceptsAt operationAt scanFrom workingIn priorityIn ordinaryIn nextTurn startOf askOf judgeOf goesOn repeatOf markAfter urgentAfter endOf bookOf emptySide takenSide partSide oldest filledAt emptiedAt withoutOldest tookBuffer delivered gaveBack metMark putSide putStart added partStart partLength isComplete sealedFile afterPut sendStart sendWords afterWrite openedFile lowestFree freeCount servingFile isBlank beforeStart withFile withChannel numbersInRange noBufferHeldTwice eachHasItsOwn requestsFit channelsWork readsAloneTake writesHaveBlocks fullBlocksRight partBuffersRight placesRight attemptsInLimit sound freshRows freshState freshBy freeOf openRows openOn openBy changedState opOf askRefusal askedFile askedChannel askOn askBy reportRefusal reportedFile reportedArea reportOn reportOnArea reportBy reportByArea sealedIn sealedArea putRows putRefusal filledArea putArea putOn putOnArea putBy putByArea answerOf passed lookedAt found afterFound getFrom getRows getRefusal getOn getBy getWords skipRows skipRefusal skipOn skipBy sealRows sealRefusal sealOn sealOnArea sealBy sealByArea closeRows closeOn closeBy stateRows frozenState thawedState freezeBy thawBy thawOf freeMaskRight freeAfter maskAlong
 witness = refl

@@ -115,12 +115,20 @@ unanswered b = countOf (λ u. isUrgent (b .requests u)) allUnits
 abbrev pub priorities : ℕ → Book → State → List Lent → ℕ
 priorities c b d later = unanswered b + count (isPriorityOn c) d later
 
--- of any calls `later` after its acceptance
-pub record Answers (U c u : ℕ) (b : Book) (d : State) (later : List Lent) : Type 0 where
+-- of any calls `later` after the acceptance of a request, by a bound on the reports
+pub record AnswersWithin (most c u : ℕ) (d : State) (later : List Lent) : Type 0 where
   -- "is answered at most once;": a second answer to the unit is to a later request of it
   pub once : count (isAnswerFor c u) d later ≤ 1 + count (isRequestOf c u) d later
   -- "until then its channel is working or frozen;" and no other request of the unit is accepted
   pub alive : count (isAnswerFor c u) d later ≡ 0 → WorkingOrFrozen (after d later) c
   pub sole : count (isAnswerFor c u) d later ≡ 0 → count (isRequestOf c u) d later ≡ 0
-  -- "its answer comes by the time 101 x (U + P) reports have been accepted on that channel since": until then there are fewer
-  pub soon : count (isAnswerFor c u) d later ≡ 0 → count (isReportOn c) d later < 101 * (U + priorities c b d later)
+  -- its answer comes by the time that so many reports have been accepted on that channel since: until then there are fewer
+  pub soon : count (isAnswerFor c u) d later ≡ 0 → count (isReportOn c) d later < most
+
+-- "its answer comes by the time 101 x (U + P) reports have been accepted on that channel since"
+abbrev pub Answers : ℕ → ℕ → ℕ → Book → State → List Lent → Type 0
+Answers U c u b d later = AnswersWithin (101 * (U + priorities c b d later)) c u d later
+
+-- M-112: "an accepted priority request is answered by the time 101 × U + 1 reports have been accepted on its channel"
+abbrev pub AnswersUrgent : ℕ → ℕ → ℕ → State → List Lent → Type 0
+AnswersUrgent U c u d later = AnswersWithin (101 * U + 1) c u d later

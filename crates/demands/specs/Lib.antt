@@ -4,5 +4,6 @@ pub mod Demands
 pub mod Results
 pub mod Marks
 pub mod Turns
+pub mod Orders
 pub mod Examples
 pub mod Witness

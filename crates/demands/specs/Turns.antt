@@ -30,7 +30,8 @@ pub record SomeWorks (s : State) (c : ℕ) : Type 0 where
 -- ---- whose turn it is, among the requests of a book, while the channel works for none of them
 
 -- "The scan for ordinary ones begins one unit above that of the last ordinary operation to end on the channel, wraps after 9, and comes to that
--- unit last; it begins at 0 at first.": it comes to unit y before it comes to unit x
+-- unit last; it begins at 0 at first."; and "Priority requests are now scanned as ordinary ones are, with a mark of their own on each channel.":
+-- a scan, by the last one of its kind to end, comes to unit y before it comes to unit x
 pub data Earlier : Option ℕ → ℕ → ℕ → Type 0 where
   -- none has ended: from 0 upward
   fromZero : {y x : ℕ} → y < x → Earlier none y x
@@ -41,11 +42,11 @@ pub data Earlier : Option ℕ → ℕ → ℕ → Type 0 where
   -- from 0 upward, the last one at the end
   below : {last y x : ℕ} → y < x → x ≤ last → Earlier (some last) y x
 
--- "Among priority requests the lowest unit goes first."
+-- the first unit with a waiting priority request, in the order of their scan
 abbrev pub PriorityTurn : Book → ℕ → Type 0
-PriorityTurn b x = (isUrgent (b .requests x) ≡ true) × ((y : ℕ) → y < x → isUrgent (b .requests y) ≡ false)
+PriorityTurn b x = (isUrgent (b .requests x) ≡ true) × ((y : ℕ) → Earlier (b .lastUrgent) y x → isUrgent (b .requests y) ≡ false)
 
--- the first unit with a waiting or displaced ordinary request, in the order of the scan
+-- the first unit with a waiting or displaced ordinary request, in the order of theirs
 abbrev pub OrdinaryTurn : Book → ℕ → Type 0
 OrdinaryTurn b x = (isOrdinary (b .requests x) ≡ true) × ((y : ℕ) → Earlier (b .last) y x → isOrdinary (b .requests y) ≡ false)
 

@@ -61,9 +61,9 @@ no-op e = let z : _≡_ {A = ℕ} 0 1 = cc in omega arith
 same-op : {a b : Op} → At a ≡ At b → a ≡ b
 same-op e = cc
 
-incomplete-op : (q : Request) (t : Turn) → Incomplete q t → requested t ≡ At (q .op)
-incomplete-op q t onward = refl
-incomplete-op q t aside = refl
+incomplete-op : {c : Channel} {frozen : Bool} (q : Request) (t : Turn) → Incomplete c frozen q t → requested t ≡ At (q .op)
+incomplete-op q t (onward g) = refl
+incomplete-op q t (aside g) = refl
 
 abbrev isAsk : Event → Bool
 isAsk (history.ask u op p) = true

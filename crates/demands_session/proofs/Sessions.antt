@@ -17,15 +17,17 @@ use Rattle.call_request.specs.Ask.{isPriority}
 use Rattle.pack.specs.Calls.{Call, fresh, opening, close, ask, report, get, skip, answerOf}
 use Rattle.pack.specs.Histories.{after, count, freshStart, declaredOn}
 use Rattle.pack.specs.Books.{Book, Opened, toldResult, blankBook, bookedAt as inBook, bookAfter, openedAfter}
+use Rattle.pack.proofs.Kept.{good-start, history-kept}
 use Rattle.demands_ledger.specs.Ledgers.{Ledger, blankLedger, toldDelivery, isOn, noted, stateAfter, areaAfter, ledgerAfter}
 use Rattle.demands_ledger.specs.Blocks.{blocksIn, unreadOf, joined}
-use Rattle.demands.specs.Demands.{Refuses, Holds, Frees, Takes, Books, dataIn, Writes, Reads, Answers}
+use Rattle.demands.specs.Demands.{Refuses, Holds, Frees, Takes, Books, dataIn, Writes, Reads, Answers, AnswersUrgent}
 use Rattle.demands.specs.Results.{Results, Forbids}
 use Rattle.demands.specs.Turns.{worksFor, isPending, Turns, Continues, toldWorking, Tells}
+use Rattle.demands.specs.Orders.{Requests, On, EitherOrder}
 use Rattle.demands.specs.Marks.{Marks}
 use Rattle.demands.specs.Records.{Gives, Drops}
 use Rattle.demands.specs.Written.{Cuts, HandsOut}
-use Rattle.demands.proofs.Demands.{demand1, demand2-before, demand2-freed, demand2-taken, demand2-booked, demand2-results, demand2-forbidden, demand2-idle, demand2-turns, demand2-continues, demand2-asked, demand2-reported, demand2-single, demand2-holding, demand2-marks, demand2-writes, demand2-closed, demand2-reads, demand2-judged, demand2-got, demand2-skipped, demand2-cut, demand2-sent, demand3}
+use Rattle.demands.proofs.Demands.{demand1, demand2-before, demand2-freed, demand2-taken, demand2-booked, demand2-results, demand2-forbidden, demand2-idle, demand2-turns, demand2-continues, demand2-asked, demand2-reported, demand2-single, demand2-holding, demand2-marks, demand2-writes, demand2-closed, demand2-reads, demand2-judged, demand2-got, demand2-skipped, demand2-cut, demand2-sent, demand3, demand3-urgent, demand3-order}
 use Rattle.session.specs.Session.{Course, withText, playLines}
 use Rattle.session.proofs.Counting.{lines-append}
 use Rattle.demands_session.specs.Played.{callIn, callsIn, lineOf, lineFor, stateFor, areaFor, zeros, stateIn, areaIn, lentFrom}
@@ -301,3 +303,29 @@ module _ (ks : List (List ℕ)) (l : List ℕ) (m w : ℕ) (masks : Masks) (isFr
       (lentFrom (answerOf s xs (ask file op priority) .state) (answerOf s xs (ask file op priority) .area) (callsIn later))) before
       (λ z. demand3 (stateIn ks) (areaIn ks) m w masks started (lentFrom start (areaIn ks) (callsIn before)) first file op priority _ ordinary z _)
       accepted
+
+  -- M-112, of a priority request
+  pub session3-urgent : (before : List (List ℕ)) → count freshStart start (lentFrom start (areaIn ks) (callsIn before)) ≡ 0
+      → (file op priority : ℕ) → isPriority priority ≡ true
+      → answerOf (stateThen before) (areaThen before) (ask file op priority) .refusal ≡ 0
+      → (later : List (List ℕ))
+      → let d = answerOf (stateThen before) (areaThen before) (ask file op priority) in
+      count freshStart (d .state) (lentFrom (d .state) (d .area) (callsIn later)) ≡ 0
+      → AnswersUrgent (declaredOn start (fileAt (stateThen before) file .channel)) (fileAt (stateThen before) file .channel)
+      (fileAt (stateThen before) file .unit) (d .state) (lentFrom (d .state) (d .area) (callsIn later))
+  session3-urgent before first file op priority urgent accepted later =
+      so-lent (λ s xs. answerOf s xs (ask file op priority) .refusal ≡ 0
+      → count freshStart (answerOf s xs (ask file op priority) .state)
+      (lentFrom (answerOf s xs (ask file op priority) .state) (answerOf s xs (ask file op priority) .area) (callsIn later)) ≡ 0
+      → AnswersUrgent (declaredOn start (fileAt s file .channel)) (fileAt s file .channel) (fileAt s file .unit)
+      (answerOf s xs (ask file op priority) .state)
+      (lentFrom (answerOf s xs (ask file op priority) .state) (answerOf s xs (ask file op priority) .area) (callsIn later))) before
+      (λ z. demand3-urgent (stateIn ks) (areaIn ks) m w masks started (lentFrom start (areaIn ks) (callsIn before)) first file op priority _ urgent z _)
+      accepted
+
+  -- and of an ask or a report on one channel and one on another
+  pub session3-order : (later : List (List ℕ)) (x y : Call) → Requests x → Requests y → ((c : ℕ) → On (stateThen later) c x → On (stateThen later) c y → ⊥)
+      → EitherOrder (stateThen later) (areaThen later) x y
+  session3-order later x y =
+      so-lent (λ s xs. Requests x → Requests y → ((c : ℕ) → On s c x → On s c y → ⊥) → EitherOrder s xs x y) later
+      (demand3-order _ _ x y (history-kept start (lentFrom start (areaIn ks) (callsIn later)) (good-start (stateIn ks) (areaIn ks) m w masks started) .sixteen))

@@ -1,4 +1,4 @@
--- What each unit of a channel holds, where its scan begins and whether the pack is frozen are what the channel's book says, after every
+-- What each unit of a channel holds, where its scans begin and whether the pack is frozen are what the channel's book says, after every
 -- call. Assumes nothing.
 use mathlib.Core.Path.{_≡_, refl, sym, ap, subst, _∙_}
 use mathlib.Core.Bool.{Bool, true, false, not, cond, _&&_}
@@ -22,13 +22,12 @@ use Rattle.channel_outcomes.specs.declared.Verdict.{Verdict}
 use Rattle.channel_outcomes.specs.declared.Verdict.the-variants.{Repeats, Ends}
 use Rattle.channel_outcomes.specs.Rules.{nextAttempt, resultNumber, endingNumber}
 use Rattle.channel_turns.specs.Scans.{nextUnit}
-use Rattle.channel_turns.specs.Starts.{thawOf}
-use Rattle.channel_turns.specs.Turns as turns
-use Rattle.channel_turns.specs.Turns.{judgeTurn, judgeOf, markAfter, bookOf, reportOf}
+use Rattle.channel_turns.specs.Starts.{startOf, thawOf}
+use Rattle.channel_turns.specs.Turns.{judgeTurn, judgeOf, markMoved, bookOf, reportOf}
 use Rattle.channel_theorems.specs.History as history
 use Rattle.channel_theorems.specs.History.{Station, Step, stepTo, reportAnswer, step}
 use Rattle.channel_theorems.specs.Lifted.{Agrees}
-use Rattle.channel_theorems.proofs.Theorems.Turning.{held, busy-inside}
+use Rattle.channel_theorems.proofs.Theorems.Turning.{heldAs, held, markAs, busy-inside}
 use Rattle.channel_theorems.proofs.Theorems.Calls.{Took, took}
 use Rattle.channel_theorems.proofs.Theorems.Sound.{verdict-next}
 use Rattle.channel_theorems.proofs.Theorems.Fresh.{fresh-unit, fresh-size, units-step}
@@ -44,7 +43,7 @@ use Rattle.pack_request.proofs.ReportTheorems.{Booked, again, ended, report-exa
 use Rattle.pack.specs.Calls.{Call, fresh, opening, close, ask, report, get, put, seal, skip, freeze, thaw, Answer, answerOf}
 use Rattle.pack.specs.Histories.{Lent, answerTo, after, isAccepted}
 use Rattle.pack.specs.Tables.{rowsOf}
-use Rattle.pack.specs.Books.{toldResult, Pending, Book, blankBook, isOrdinary, newPending, failed, withRequest, withAnswer, withFreeze, booked, bookedAt, bookAfter}
+use Rattle.pack.specs.Books.{toldResult, Pending, Book, blankBook, isUrgent, isOrdinary, newPending, failed, withRequest, withAnswer, withFreeze, booked, bookedAt, bookAfter}
 use Rattle.pack.proofs.Refused.{call-alone}
 use Rattle.pack.proofs.Kept as kept
 use Rattle.pack.proofs.Kept.{call-kept}
@@ -68,14 +67,23 @@ pub held-by : (r : Request) (h : Option Pending) → some r ≡ asHeld h → Hel
 held-by r none e = absurd (let z : _≡_ {A = ℕ} 0 1 = cc in omega arith)
 held-by r (some p) e = holding p (let same : r ≡ asRequest p = cc in same)
 
--- the scan's mark is the unit above that of the last ordinary answer, and 0 if there was none
+-- the last answer of a kind: to priority requests, or to ordinary ones
+abbrev pub lastAs : Bool → Book → Option ℕ
+lastAs true b = b .lastUrgent
+lastAs false b = b .last
+
+abbrev pendingAs : Bool → Option Pending → Bool
+pendingAs true = isUrgent
+pendingAs false = isOrdinary
+
+-- a scan's mark is the unit above that of the last answer of its kind, and 0 if there was none
 abbrev pub MarkIs : Option ℕ → ℕ → Type 0
 MarkIs none m = m ≡ 0
 MarkIs (some u) m = (m ≡ nextUnit unitCount u) × (u < unitCount)
 
 pub record Shows (k : Station) (b : Book) : Type 0 where
   pub holds : (u : ℕ) → held (turnAt (k .channel) u) ≡ asHeld (b .requests u)
-  pub mark : MarkIs (b .last) (k .channel .mark)
+  pub mark : (j : Bool) → MarkIs (lastAs j b) (markAs j (k .channel))
   pub frozen : k .frozen ≡ b .frozen
   pub long : size (k .channel) ≡ unitCount
 
@@ -92,10 +100,14 @@ shows-fresh c m w masks =
     subst (λ (k : Station). Shows k blankBook) (sym (fresh-station m w masks c))
     (record {
       holds = λ u. ap (λ (x : Unit). held (x .turn)) (fresh-unit (bitsOf masks c) u);
-      mark = refl;
+      mark = first;
       frozen = refl;
       long = fresh-size (bitsOf masks c) ∙ bits-long _ 0 unitCount;
     })
+  where
+    first : (j : Bool) → MarkIs (lastAs j blankBook) (markAs j (freshWith (bitsOf masks c)))
+    first true = refl
+    first false = refl
 
 -- an accepted one
 pub shows-start : (c : ℕ) (s : State) (area : List ℕ) (m w : ℕ) (masks : Masks) → answerOf s area (fresh m w masks) .refusal ≡ 0
@@ -121,7 +133,7 @@ module _ (k d : Station) (b : Book) (S : Shows k b) (u : ℕ) where
   unfolding step opOf
   shows-ask op priority A = record {
     holds = λ y. ask-held k u (opOf op) (isPriority priority) (stepTo history.accepted d) T refl y ∙ others (some (newPending op priority)) y;
-    mark = subst (MarkIs (b .last)) (sym (ask-mark k u (opOf op) (isPriority priority) (stepTo history.accepted d) T)) (S .mark);
+    mark = marks;
     frozen = sym (ap (λ (r : Step). r .after .frozen) A) ∙ S .frozen;
     long = units-step k (history.ask u (opOf op) (isPriority priority)) (stepTo history.accepted d) T .long ∙ S .long;
   }
@@ -129,14 +141,21 @@ module _ (k d : Station) (b : Book) (S : Shows k b) (u : ℕ) where
       T : Took k (history.ask u (opOf op) (isPriority priority)) (stepTo history.accepted d)
       T = subst (Took k (history.ask u (opOf op) (isPriority priority))) A (took k (history.ask u (opOf op) (isPriority priority)))
 
-  module _ (outcome : ℕ) (r : Request) (i : turnAt (k .channel) u ≡ Working r)
+      stays : (j : Bool) → MarkIs (lastAs j b) (markAs j (d .channel))
+      stays j = subst (MarkIs (lastAs j b)) (sym (ask-mark j k u (opOf op) (isPriority priority) (stepTo history.accepted d) T)) (S .mark j)
+
+      marks : (j : Bool) → MarkIs (lastAs j (withRequest u (some (newPending op priority)) b)) (markAs j (d .channel))
+      marks true = stays true
+      marks false = stays false
+
+  module _ (outcome : ℕ) (r : Request) (turn : turnAt (k .channel) u ≡ Working r)
       (A : Agrees k (some (record { event = history.report u outcome; answer = reportAnswer (judgeOf (k .channel) u outcome) })) d) where
     -- the request that the report is for
     for : Held r (b .requests u)
-    for = held-by r (b .requests u) (sym (ap held i) ∙ S .holds u)
+    for = held-by r (b .requests u) (sym (ap held turn) ∙ S .holds u)
 
     inside : u < size (k .channel)
-    inside = busy-inside (k .channel) u (ap isIdle i)
+    inside = busy-inside (k .channel) u (ap isIdle turn)
 
     became : (v : Verdict) → judgeOf (k .channel) u outcome ≡ v → d .channel ≡ bookOf (k .channel) u v (k .frozen)
     unfolding step reportOf
@@ -157,15 +176,13 @@ module _ (k d : Station) (b : Book) (S : Shows k b) (u : ℕ) where
       holds = λ y.
           ap (λ (x : Channel). held (turnAt x y)) (became (Repeats q) j) ∙ repeat-held (k .channel) u inside (k .frozen) q y
           ∙ ap (λ (h : Option Request). cond (eqb y u) h (held (turnAt (k .channel) y))) same ∙ others (failed outcome (b .requests u)) y;
-      mark =
-          subst (MarkIs (b .last)) (sym (ap (λ (x : Channel). x .mark) (became (Repeats q) j) ∙ repeat-mark (k .channel) u inside (k .frozen) q))
-          (S .mark);
+      mark = marks;
       frozen = frozen-same;
       long = long-same;
     }
       where
         next : nextAttempt r outcome ≡ q
-        next = verdict-next r outcome q (sym (ap (λ (t : Turn). judgeTurn t outcome) i) ∙ j)
+        next = verdict-next r outcome q (sym (ap (λ (t : Turn). judgeTurn t outcome) turn) ∙ j)
 
         same : some q ≡ asHeld (failed outcome (b .requests u))
         same = go (b .requests u) for
@@ -173,30 +190,45 @@ module _ (k d : Station) (b : Book) (S : Shows k b) (u : ℕ) where
             go : (h : Option Pending) → Held r h → some q ≡ asHeld (failed outcome h)
             go h (holding p e) = ap some (sym next ∙ ap (λ (x : Request). nextAttempt x outcome) e)
 
+        stays : (i : Bool) → MarkIs (lastAs i b) (markAs i (d .channel))
+        stays i = subst (MarkIs (lastAs i b)) (sym (ap (markAs i) (became (Repeats q) j) ∙ repeat-mark (k .channel) u inside (k .frozen) i q)) (S .mark i)
+
+        marks : (i : Bool) → MarkIs (lastAs i (withRequest u (failed outcome (b .requests u)) b)) (markAs i (d .channel))
+        marks true = stays true
+        marks false = stays false
+
     shows-ended : (e : Ending) → judgeOf (k .channel) u outcome ≡ Ends e → Shows d (withAnswer u b)
-    unfolding bookOf markAfter
+    unfolding bookOf
     shows-ended e j = record {
       holds = λ y. ap (λ (x : Channel). held (turnAt x y)) (became (Ends e) j) ∙ end-held (k .channel) u inside (k .frozen) y ∙ others none y;
-      mark =
-          subst (MarkIs (cond (isOrdinary (b .requests u)) (some u) (b .last)))
-          (sym (ap (λ (x : Channel). x .mark) (became (Ends e) j) ∙ end-mark (k .channel) u inside (k .frozen) ∙ mark-is))
-          (moved (isOrdinary (b .requests u)));
+      mark = marks;
       frozen = frozen-same;
       long = long-same;
     }
       where
-        mark-is : markAfter (k .channel) u ≡ cond (isOrdinary (b .requests u)) (nextUnit unitCount u) (k .channel .mark)
-        mark-is =
-            ap (λ (t : Turn). cond (turns.isOrdinary t) (nextUnit (size (k .channel)) u) (k .channel .mark)) i
-            ∙ ap (λ (n : ℕ). cond (not (r .priority)) (nextUnit n u) (k .channel .mark)) (S .long)
-            ∙ ap (λ (t : Bool). cond t (nextUnit unitCount u) (k .channel .mark)) (go (b .requests u) for)
+        -- the request that has ended is of the book's kind
+        kind : (i : Bool) → heldAs i (turnAt (k .channel) u) ≡ pendingAs i (b .requests u)
+        kind i = ap (heldAs i) turn ∙ go i (b .requests u) for
           where
-            go : (h : Option Pending) → Held r h → not (r .priority) ≡ isOrdinary h
-            go h (holding p e) = ap (λ (x : Request). not (x .priority)) e
+            go : (i : Bool) (h : Option Pending) → Held r h → heldAs i (Working r) ≡ pendingAs i h
+            go true h (holding p e) = ap (λ (x : Request). x .priority) e
+            go false h (holding p e) = ap (λ (x : Request). not (x .priority)) e
 
-        moved : (t : Bool) → MarkIs (cond t (some u) (b .last)) (cond t (nextUnit unitCount u) (k .channel .mark))
-        moved true = (refl, subst (λ (n : ℕ). u < n) (S .long) inside)
-        moved false = S .mark
+        moved : (i t : Bool) → MarkIs (cond t (some u) (lastAs i b)) (markMoved t unitCount u (markAs i (k .channel)))
+        moved i true = (refl, subst (λ (n : ℕ). u < n) (S .long) inside)
+        moved i false = S .mark i
+
+        ended-as : (i : Bool) → MarkIs (cond (pendingAs i (b .requests u)) (some u) (lastAs i b)) (markAs i (d .channel))
+        ended-as i =
+            subst (MarkIs (cond (pendingAs i (b .requests u)) (some u) (lastAs i b)))
+            (sym (ap (markAs i) (became (Ends e) j) ∙ end-mark (k .channel) u inside (k .frozen) i
+            ∙ ap (λ (t : Bool). markMoved t (size (k .channel)) u (markAs i (k .channel))) (kind i)
+            ∙ ap (λ (n : ℕ). markMoved (pendingAs i (b .requests u)) n u (markAs i (k .channel))) (S .long)))
+            (moved i (pendingAs i (b .requests u)))
+
+        marks : (i : Bool) → MarkIs (lastAs i (withAnswer u b)) (markAs i (d .channel))
+        marks true = ended-as true
+        marks false = ended-as false
 
 -- ---- one call
 
@@ -282,8 +314,12 @@ module _ (c : ℕ) (s : State) (area : List ℕ) (g : kept.Good s) (b : Book) (S
   unfolding step
   freeze-shows z =
       subst (λ (x : Station). Shows x (withFreeze true b)) (ap (λ (r : Step). r .after) seen-as)
-      (record { holds = S .holds; mark = S .mark; frozen = refl; long = S .long })
+      (record { holds = S .holds; mark = marks; frozen = refl; long = S .long })
     where
+      marks : (j : Bool) → MarkIs (lastAs j (withFreeze true b)) (markAs j (channelAt s c))
+      marks true = S .mark true
+      marks false = S .mark false
+
       seen-as : Agrees (stationAt c s) (eventIf true history.freeze history.accepted) (stationAt c (answerOf s area freeze .state))
       seen-as =
           subst (λ (t : Bool). Agrees (stationAt c s) (eventIf t history.freeze history.accepted) (stationAt c (answerOf s area freeze .state)))
@@ -295,11 +331,18 @@ module _ (c : ℕ) (s : State) (area : List ℕ) (g : kept.Good s) (b : Book) (S
       subst (λ (x : Station). Shows x (withFreeze false b)) (ap (λ (r : Step). r .after) seen-as)
       (record {
         holds = λ u. held-start (channelAt s c) false u ∙ S .holds u;
-        mark = subst (MarkIs (b .last)) (sym (mark-start (channelAt s c) false)) (S .mark);
+        mark = marks;
         frozen = refl;
         long = units-step (stationAt c s) history.thaw (step (stationAt c s) history.thaw) (took (stationAt c s) history.thaw) .long ∙ S .long;
       })
     where
+      stays : (j : Bool) → MarkIs (lastAs j b) (markAs j (startOf (channelAt s c) false))
+      stays j = subst (MarkIs (lastAs j b)) (sym (mark-start j (channelAt s c) false)) (S .mark j)
+
+      marks : (j : Bool) → MarkIs (lastAs j (withFreeze false b)) (markAs j (startOf (channelAt s c) false))
+      marks true = stays true
+      marks false = stays false
+
       seen-as : Agrees (stationAt c s) (eventIf true history.thaw history.accepted) (stationAt c (answerOf s area thaw .state))
       seen-as =
           subst (λ (t : Bool). Agrees (stationAt c s) (eventIf t history.thaw history.accepted) (stationAt c (answerOf s area thaw .state)))

@@ -1,6 +1,6 @@
 -- Demand 3 in the system around a channel, from a fresh start on. Assumes nothing.
 use mathlib.Core.Path.{_≡_, refl, ap, _∙_}
-use mathlib.Core.Bool.{Bool, false, cond}
+use mathlib.Core.Bool.{Bool, true, false, cond}
 use mathlib.Core.Option.{some}
 use mathlib.Core.List.{List, [], _∷_}
 use Prim.Native.Nat.{ℕ, zero, suc, _+_}
@@ -11,8 +11,8 @@ use Rattle.channel.specs.declared.Channel.{Channel}
 use Rattle.channel.specs.Units.{unitCount, freshWith, bitsFrom, freshOf}
 use Rattle.channel_theorems.specs.History as history
 use Rattle.channel_theorems.specs.History.{station, accepted, declaredIn}
-use Rattle.channel_theorems.specs.Lifted.{runIn, KeptIn}
-use Rattle.channel_theorems.proofs.Theorems.Lift.{demand3-lifted}
+use Rattle.channel_theorems.specs.Lifted.{runIn, KeptIn, KeptUrgentIn}
+use Rattle.channel_theorems.proofs.Theorems.Lift.{demand3-lifted, urgent-lifted}
 use Rattle.state.specs.Places.{channelAt}
 use Rattle.pack_start.specs.declared.Masks.{Masks}
 use Rattle.pack_start.specs.Fresh.{freshState}
@@ -68,4 +68,13 @@ pub turns-kept : (c m w : ℕ) (k : Masks) → kept.Good (freshState m w k) → 
     (packAround c .next (runIn (packAround c) (freshState m w k) before) x) later
 turns-kept c m w k g before u op x later =
     demand3-lifted (packAround c) kept.Good good-next (λ s y z. call-agrees c s (y .area) z (y .call)) (bitsOf k c) (freshState m w k) g
+    (fresh-station m w k c) before u op x later
+
+-- M-112's bound for a priority request, likewise
+pub urgent-kept : (c m w : ℕ) (k : Masks) → kept.Good (freshState m w k) → (before : List Lent) (u : ℕ) (op : Op) (x : Lent) (later : List Lent)
+    → seen c (runIn (packAround c) (freshState m w k) before) (x .area) (x .call)
+    ≡ some (record { event = history.ask u op true; answer = accepted })
+    → KeptUrgentIn (packAround c) (declaredIn (bitsOf k c)) u (packAround c .next (runIn (packAround c) (freshState m w k) before) x) later
+urgent-kept c m w k g before u op x later =
+    urgent-lifted (packAround c) kept.Good good-next (λ s y z. call-agrees c s (y .area) z (y .call)) (bitsOf k c) (freshState m w k) g
     (fresh-station m w k c) before u op x later

@@ -33,15 +33,16 @@ pub record Pending : Type 0 where
   pub incomplete : ℕ
 
 -- of a channel: the request of each unit that has no answer yet; the unit of the last ordinary request that was answered, if any was since the
--- fresh start; and whether the pack is frozen
+-- fresh start; that of the last priority request that was; and whether the pack is frozen
 pub record Book : Type 0 where
   pub requests : ℕ → Option Pending
   pub last : Option ℕ
+  pub lastUrgent : Option ℕ
   pub frozen : Bool
 
 -- as a fresh start leaves it
 abbrev pub blankBook : Book
-blankBook = record { requests = λ u. none; last = none; frozen = false }
+blankBook = record { requests = λ u. none; last = none; lastUrgent = none; frozen = false }
 
 abbrev pub isUrgent : Option Pending → Bool
 isUrgent none = false
@@ -70,17 +71,18 @@ failed outcome (some p) = some (failedOnce outcome p)
 
 -- the book with r for unit u, and the book with an answer to unit u
 abbrev pub withRequest : ℕ → Option Pending → Book → Book
-withRequest u r b = record { requests = λ y. cond (eqb y u) r (b .requests y); last = b .last; frozen = b .frozen }
+withRequest u r b = record { requests = λ y. cond (eqb y u) r (b .requests y); last = b .last; lastUrgent = b .lastUrgent; frozen = b .frozen }
 
 abbrev pub withAnswer : ℕ → Book → Book
 withAnswer u b = record {
   requests = λ y. cond (eqb y u) none (b .requests y);
   last = cond (isOrdinary (b .requests u)) (some u) (b .last);
+  lastUrgent = cond (isUrgent (b .requests u)) (some u) (b .lastUrgent);
   frozen = b .frozen;
 }
 
 abbrev pub withFreeze : Bool → Book → Book
-withFreeze frozen b = record { requests = b .requests; last = b .last; frozen = frozen }
+withFreeze frozen b = record { requests = b .requests; last = b .last; lastUrgent = b .lastUrgent; frozen = frozen }
 
 -- the book of channel c after an accepted call in the state s; "results are 00 repeated, ..": every other result answers the request
 abbrev pub booked : ℕ → State → Call → Answer → Book → Book

@@ -1,6 +1,6 @@
 // Plays calls on a state that a caller changes between them and an area that it lends, and prints an answer line for each: what a session cannot
 // show. Commands 0 to 10 are the calls in document 01's order; 11 lends fewer words, 12 sets one of them, 13 to 16 change a file, a unit,
-// a channel's mark, or m, W, the freeze and the free mask; 17 starts over; 18, 19 and 20 print the words, the state, and whether it is sound.
+// a channel's mark of either kind, or m, W, the freeze and the free mask; 17 starts over; 18, 19 and 20 print the words, the state, and whether it is sound.
 // The stored output is that of the second program.
 mod calls;
 mod pokes;
@@ -62,7 +62,7 @@ fn head_count(kind: u64) -> usize {
         12 => 2,
         13 => 3,
         14 => 4,
-        15 => 2,
+        15 => 3,
         16 => 2,
         _ => 0,
     }

@@ -258,9 +258,14 @@ fn channel_with(c: Channel, unit: usize, field: u64, v: u64) -> Channel {
     d
 }
 
-fn mark_with(c: Channel, v: u64) -> Channel {
+// The channel with another mark: 0 is that of ordinary requests, 1 that of priority requests.
+fn mark_with(c: Channel, which: u64, v: u64) -> Channel {
     let mut d = c;
-    d.mark = byte(v);
+    if which == 0 {
+        d.mark = byte(v);
+    } else {
+        d.urgent = byte(v);
+    }
     d
 }
 
@@ -302,7 +307,7 @@ pub fn poked(kind: u64, s: State, a: u64, b: u64, c: u64, d: u64) -> State {
     let y = if kind == 14 {
         channel_with(x, place(b), c, d)
     } else {
-        mark_with(x, b)
+        mark_with(x, b, c)
     };
     with_channel(s, i, y)
 }

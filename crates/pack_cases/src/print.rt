@@ -104,6 +104,7 @@ fn unit(c: Channel, u: usize) {
 
 fn one_channel(c: Channel) {
     number(c.mark as u64);
+    number(c.urgent as u64);
     let mut u = 0;
     while u < UNITS {
         unit(c, u);

@@ -2,7 +2,7 @@
 -- Assumes nothing.
 use mathlib.Core.Path.{_≡_, refl, sym, ap, subst, _∙_}
 use mathlib.Core.Logic.{_≢_}
-use mathlib.Core.Bool.{Bool, true, false, not, cond, _&&_, _||_}
+use mathlib.Core.Bool.{Bool, true, false, not, _&&_, _||_}
 use mathlib.Core.Option.{Option, none, some}
 use mathlib.Core.List.{List}
 use Prim.Native.Nat.{ℕ, _+_, _≤_, _<_}
@@ -22,17 +22,17 @@ use Rattle.channel_outcomes.specs.declared.Ending.{Ending}
 use Rattle.channel_outcomes.specs.declared.Verdict.{Verdict}
 use Rattle.channel_outcomes.specs.declared.Verdict.the-variants.{Refused, Repeats, Ends}
 use Rattle.channel_outcomes.specs.Rules.{verdictOf}
-use Rattle.channel.specs.Units.{size, idleUnit, unitAt, declaredAt, turnAt, withTurn, withScanMark, isIdle, acceptsAt}
-use Rattle.channel_turns.specs.Scans.{nextUnit, workingIn}
+use Rattle.channel.specs.Units.{size, idleUnit, unitAt, declaredAt, turnAt, withTurn, isIdle, acceptsAt}
+use Rattle.channel_turns.specs.Scans.{workingIn}
 use Rattle.area.specs.Lists.{isFound}
-use Rattle.channel_turns.specs.Turns.{judgeTurn, judgeOf, goesOn, incompleteTurn, repeatOf, isOrdinary, markAfter, endOf, bookOf, reportOf}
+use Rattle.channel_turns.specs.Turns.{judgeTurn, judgeOf, goesOn, incompleteTurn, repeatOf, markMoved, endOf, bookOf, reportOf}
 use Rattle.channel_turns.specs.Starts.{startOf, thawOf, newRequest, askOf}
 use Rattle.channel_theorems.specs.History.{Station, station, Event, ask, report, freeze, thaw, Step, step}
 use Rattle.channel_turns.proofs.Laws.Scans.{next-below}
 use Rattle.channel_turns.proofs.Laws.Starts.{ask-taken}
-use Rattle.channel_theorems.proofs.Theorems.Turning.{held, size-with, at-set, busy-inside, declared-inside}
+use Rattle.channel_theorems.proofs.Theorems.Turning.{heldAs, held, markAs, mark-with, size-with, at-set, busy-inside, declared-inside}
 use Rattle.channel_theorems.proofs.Theorems.Starts.{Begins, Started, isFrozen, isBusy, isQuiet, begins, started, start-alive}
-use Rattle.channel_theorems.proofs.Theorems.Calls.{endedAt, Took, refuses, asks, repeats, ends, freezes, thaws, took}
+use Rattle.channel_theorems.proofs.Theorems.Calls.{endedAt, ended-mark, Took, refuses, asks, repeats, ends, freezes, thaws, took}
 use Rattle.channel_theorems.proofs.Theorems.Sound.{Again, verdict-again, one-kept, ranges-kept}
 use Rattle.state_sound.specs.Requests.{requested}
 use Rattle.state_sound.proofs.ChannelFacts.{ChannelFacts}
@@ -66,15 +66,14 @@ start-alike c frozen y = go (startOf c frozen) (started c frozen)
         at-set c x t (b .within) (Alike c)
         (requested-held t ∙ ap opHeld (b .same) ∙ sym (requested-held (turnAt c x)), refl) (λ z ne. (refl, refl)) y
 
-pub start-mark : (c : Channel) (frozen : Bool) → (startOf c frozen .mark ≡ c .mark) × (size (startOf c frozen) ≡ size c)
-unfolding withTurn
-start-mark c frozen = go (startOf c frozen) (started c frozen)
+pub start-mark : (k : Bool) (c : Channel) (frozen : Bool) → (markAs k (startOf c frozen) ≡ markAs k c) × (size (startOf c frozen) ≡ size c)
+start-mark k c frozen = go (startOf c frozen) (started c frozen)
   where
-    go : (d : Channel) → Started c frozen d → (d .mark ≡ c .mark) × (size d ≡ size c)
+    go : (d : Channel) → Started c frozen d → (markAs k d ≡ markAs k c) × (size d ≡ size c)
     go d (isFrozen e) = (refl, refl)
     go d (isBusy x e) = (refl, refl)
     go d (isQuiet q) = (refl, refl)
-    go d (begins x t b) = (refl, size-with c x t)
+    go d (begins x t b) = (mark-with k c x t, size-with c x t)
 
 start-works : (c : Channel) (frozen : Bool) → frozen ≡ false → (u : ℕ) → isIdle (turnAt (startOf c frozen) u) ≡ false → isFound (workingIn (startOf c frozen)) ≡ true
 start-works c frozen f u i = or-either frozen _ (start-alive c frozen (startOf c frozen) u (started c frozen) i) (λ e. true-not-false e f) (λ e. e)
@@ -84,9 +83,10 @@ start-works c frozen f u i = or-either frozen _ (start-alive c frozen (startOf c
 with-declared : (c : Channel) (x : ℕ) (t : Turn) → x < size c → (y : ℕ) → declaredAt (withTurn c x t) y ≡ declaredAt c y
 with-declared c x t l = at-set c x t l (λ y k. k .declared ≡ declaredAt c y) refl (λ y ne. refl)
 
-mark-below : (c : Channel) (u : ℕ) → c .mark < size c → markAfter c u < size c
-unfolding markAfter
-mark-below c u h = by-test (λ b. cond b (nextUnit (size c) u) (c .mark) < size c) (isOrdinary (turnAt c u)) (λ e. next-below (size c) u (omega arith)) (λ e. h)
+mark-below : (k : Bool) (c : Channel) (u : ℕ) → markAs k c < size c → markAs k (endedAt c u) < size c
+mark-below k c u h =
+    let below = by-test (λ b. markMoved b (size c) u (markAs k c) < size c) (heldAs k (turnAt c u)) (λ e. next-below (size c) u (omega arith)) (λ e. h) in
+    subst (λ (n : ℕ). n < size c) (sym (ended-mark k c u)) below
 
 module _ (m : ℕ) (s : Station) (F : ChannelFacts m (s .frozen) (s .channel)) where
   took-declared : (e : Event) (o : Step) → Took s e o → (y : ℕ) → declaredAt (o .after .channel) y ≡ declaredAt (s .channel) y
@@ -97,14 +97,20 @@ module _ (m : ℕ) (s : Station) (F : ChannelFacts m (s .frozen) (s .channel)) w
   took-declared e o freezes y = refl
   took-declared e o thaws y = start-alike (s .channel) false y .1
 
-  took-mark : (e : Event) (o : Step) → Took s e o → o .after .channel .mark < size (o .after .channel)
-  unfolding withTurn
-  took-mark e o refuses = F .mark
-  took-mark e o (asks u op p d i) = let k = start-mark (withTurn (s .channel) u (Waiting (newRequest op p))) (s .frozen) in omega (arith, k .0, k .1, size-with (s .channel) u (Waiting (newRequest op p)), F .mark)
-  took-mark e o (repeats u oc r q t i j n) = let k = start-mark (withTurn (s .channel) u t) (s .frozen) in omega (arith, k .0, k .1, size-with (s .channel) u t, F .mark)
-  took-mark e o (ends u oc r i) = let k = start-mark (endedAt (s .channel) u) (s .frozen) in omega (arith, k .0, k .1, size-with (s .channel) u Idle, mark-below (s .channel) u (F .mark))
-  took-mark e o freezes = F .mark
-  took-mark e o thaws = let k = start-mark (s .channel) false in omega (arith, k .0, k .1, F .mark)
+  took-mark : (k : Bool) (e : Event) (o : Step) → Took s e o → markAs k (o .after .channel) < size (o .after .channel)
+  took-mark k e o refuses = F .mark k
+  took-mark k e o (asks u op p d i) =
+      let c = withTurn (s .channel) u (Waiting (newRequest op p)) in
+      let a = start-mark k c (s .frozen) in
+      omega (arith, a .0, a .1, size-with (s .channel) u (Waiting (newRequest op p)), mark-with k (s .channel) u (Waiting (newRequest op p)), F .mark k)
+  took-mark k e o (repeats u oc r q t i j n) =
+      let a = start-mark k (withTurn (s .channel) u t) (s .frozen) in
+      omega (arith, a .0, a .1, size-with (s .channel) u t, mark-with k (s .channel) u t, F .mark k)
+  took-mark k e o (ends u oc r i) =
+      let a = start-mark k (endedAt (s .channel) u) (s .frozen) in
+      omega (arith, a .0, a .1, size-with (s .channel) u Idle, mark-below k (s .channel) u (F .mark k))
+  took-mark k e o freezes = F .mark k
+  took-mark k e o thaws = let a = start-mark k (s .channel) false in omega (arith, a .0, a .1, F .mark k)
 
   took-alive : (e : Event) (o : Step) → Took s e o → o .after .frozen ≡ false → (u : ℕ) → isIdle (turnAt (o .after .channel) u) ≡ false → isFound (workingIn (o .after .channel)) ≡ true
   took-alive e o refuses = F .alive
@@ -116,7 +122,7 @@ module _ (m : ℕ) (s : Station) (F : ChannelFacts m (s .frozen) (s .channel)) w
 
   pub step-facts : (e : Event) → ChannelFacts m (step s e .after .frozen) (step s e .after .channel)
   step-facts e = record {
-    mark = took-mark e (step s e) (took s e);
+    mark = λ k. took-mark k e (step s e) (took s e);
     one = one-kept s e (step s e) (F .one) (took s e);
     ranges = ranges-kept s e (step s e) (F .ranges) (took s e);
     pool = λ u h. F .pool u (sym (took-declared e (step s e) (took s e) u) ∙ h);

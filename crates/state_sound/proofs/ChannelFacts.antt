@@ -22,18 +22,18 @@ use Rattle.channel.specs.declared.Channel.{Channel}
 use Rattle.channel_outcomes.specs.Rules.{rowOf}
 use Rattle.channel.specs.Units.{size, idleUnit, unitAt, declaredAt, turnAt, freshWith, bitsFrom, freshOf, isIdle, isWorking, unitWorks}
 use Rattle.channel_turns.specs.Scans.{beginOf, workingIn, Scanned, finds, misses}
-use Rattle.channel_theorems.proofs.Theorems.Turning.{held, working-scan}
+use Rattle.channel_theorems.proofs.Theorems.Turning.{held, markAs, working-scan}
 use Rattle.channel_theorems.proofs.Theorems.Starts.{works-found}
 use Rattle.channel_theorems.proofs.Theorems.Sound.{Counted, OneWorks, HoldOk, InRanges}
 use Rattle.state.specs.Places.{noChannel}
 use Rattle.state_sound.specs.Requests.{requested, isNone, isWaiting}
-use Rattle.state_sound.specs.Soundness.{unitWaits, worksRight, inLimit}
+use Rattle.state_sound.specs.Soundness.{marksRight, unitWaits, worksRight, inLimit}
 use Rattle.state_sound.specs.Judged.{isCounted, turnRight, unitRight}
 use Rattle.state_sound.proofs.Everywhere.{by-place, all-places, place-inside, count-some, some-place, count-one-place, one-place-count}
 
 pub record ChannelFacts (m : ℕ) (frozen : Bool) (c : Channel) : Type 0 where
-  -- the scan's mark is a unit's number
-  pub mark : c .mark < size c
+  -- the mark of either scan is a unit's number
+  pub mark : (k : Bool) → markAs k c < size c
   -- it works for at most one request
   pub one : OneWorks c
   -- a unit that has a request is declared, and the request's counts are within their limits
@@ -137,9 +137,13 @@ module _ (m : ℕ) (frozen : Bool) (c : Channel) where
           let n : countOf unitWorks (c .units) ≡ 1 = eqb-true (countOf unitWorks (c .units)) 1 (unless (anyOf unitWaits (c .units)) _ rest (waits (busy-turn (turnAt c u) i w))) in
           works-somewhere (omega arith)
 
-  pub channel-facts : ltb (c .mark) (size c) ≡ true → allOf (unitRight m) (c .units) ≡ true → worksRight frozen (c .units) ≡ true → ChannelFacts m frozen c
+  marks-of : marksRight c ≡ true → (k : Bool) → markAs k c < size c
+  marks-of a true = ltb-true (c .urgent) (size c) (and-right (ltb (c .mark) (size c)) _ a)
+  marks-of a false = ltb-true (c .mark) (size c) (and-left (ltb (c .mark) (size c)) _ a)
+
+  pub channel-facts : marksRight c ≡ true → allOf (unitRight m) (c .units) ≡ true → worksRight frozen (c .units) ≡ true → ChannelFacts m frozen c
   channel-facts a b w = record {
-    mark = ltb-true (c .mark) (size c) a;
+    mark = marks-of a;
     one = one-of (leb-true (countOf unitWorks (c .units)) 1 (and-left (leb (countOf unitWorks (c .units)) 1) _ w));
     ranges = ranges-of b;
     pool = pool-of b;
@@ -149,8 +153,8 @@ module _ (m : ℕ) (frozen : Bool) (c : Channel) where
   -- ---- and back
 
   module _ (F : ChannelFacts m frozen c) where
-    pub mark-right : ltb (c .mark) (size c) ≡ true
-    mark-right = lt-ltb (c .mark) (size c) (F .mark)
+    pub mark-right : marksRight c ≡ true
+    mark-right = and-both (ltb (c .mark) (size c)) _ (lt-ltb (c .mark) (size c) (F .mark false)) (lt-ltb (c .urgent) (size c) (F .mark true))
 
     pub units-right : allOf (unitRight m) (c .units) ≡ true
     unfolding unitRight
@@ -185,7 +189,7 @@ module _ (m : ℕ) (frozen : Bool) (c : Channel) where
 
 -- ---- a channel without requests
 
-pub idle-facts : (m : ℕ) (frozen : Bool) (c : Channel) → c .mark < size c → ((u : ℕ) → turnAt c u ≡ Idle) → ((u : ℕ) → declaredAt c u ≡ true → 0 < m) → ChannelFacts m frozen c
+pub idle-facts : (m : ℕ) (frozen : Bool) (c : Channel) → ((k : Bool) → markAs k c < size c) → ((u : ℕ) → turnAt c u ≡ Idle) → ((u : ℕ) → declaredAt c u ≡ true → 0 < m) → ChannelFacts m frozen c
 idle-facts m frozen c mark quiet pool = record {
   mark = mark;
   one = λ x y p q. true-not-false p (ap isWorking (quiet x));
@@ -210,9 +214,10 @@ pub no-declared : (u : ℕ) → declaredAt noChannel u ≡ false
 unfolding freshOf bitsFrom anyOf
 no-declared u = fresh-declared _ u ∙ by-place (bitsFrom 0 0 10) false (λ b. b ≡ false) u (none-at (λ (b : Bool). b) false (bitsFrom 0 0 10) refl u) refl
 
-no-mark : noChannel .mark < size noChannel
+no-mark : (k : Bool) → markAs k noChannel < size noChannel
 unfolding freshOf freshWith bitsFrom
-no-mark = omega arith
+no-mark true = omega arith
+no-mark false = omega arith
 
 pub no-facts : (m : ℕ) (frozen : Bool) → ChannelFacts m frozen noChannel
 no-facts m frozen = idle-facts m frozen noChannel no-mark no-idle (λ u e. true-not-false e (no-declared u))

@@ -35,7 +35,7 @@ use Rattle.state_sound.proofs.FileFacts as file
 use Rattle.state.specs.declared.State.{State}
 use Rattle.state.specs.Places.{noChannel, fileAt, channelIn, channelAt}
 use Rattle.state_sound.specs.Requests.{requested, isNone, isRead, isWrite, fitsOutput}
-use Rattle.state_sound.specs.Soundness.{ifOpen, channelOf, requestOf, fileInRange, turnInRange, unitInRange, channelInRange, numbersInRange, buffersApart, noBufferHeldTwice, hasItsOwn, unitsApart, eachHasItsOwn, unitFits, channelFits, requestsFit, worksRight, channelsWork, takenByRead, readsAloneTake, writeHasBlock, writesHaveBlocks, fullBlocksRight, partBuffersRight, placesRight, inLimit, turnInLimit, channelInLimit, attemptsInLimit, freeMaskRight, sound}
+use Rattle.state_sound.specs.Soundness.{ifOpen, channelOf, requestOf, fileInRange, turnInRange, unitInRange, marksRight, channelInRange, numbersInRange, buffersApart, noBufferHeldTwice, hasItsOwn, unitsApart, eachHasItsOwn, unitFits, channelFits, requestsFit, worksRight, channelsWork, takenByRead, readsAloneTake, writeHasBlock, writesHaveBlocks, fullBlocksRight, partBuffersRight, placesRight, inLimit, turnInLimit, channelInLimit, attemptsInLimit, freeMaskRight, sound}
 use Rattle.state_sound.specs.Judged.{fileReady, fileFits, turnRight, unitRight, unitServed, channelRight, judgedState}
 use Rattle.state_sound.proofs.Everywhere.{by-place, all-places, from-places, place-inside, pair-places}
 use Rattle.state_sound.proofs.Apart.{buffers-swap, units-swap, apart-swap, buffers-closed, units-closed, apart-closed}
@@ -182,13 +182,13 @@ module _ (s : State) where
     where
       own : (c : ℕ) (x : Channel) → channelRight (s .m) (s .frozen) (s .files) c x ≡ true → ChannelFacts (s .m) (s .frozen) x
       own c x k =
-          let k₁ = both {a = ltb (x .mark) (size x)} k in
+          let k₁ = both {a = marksRight x} k in
           let k₂ = both {a = allOf (unitRight (s .m)) (x .units)} (k₁ .1) in
           channel-facts (s .m) (s .frozen) x (k₁ .0) (k₂ .0) (and-left (worksRight (s .frozen) (x .units)) _ (k₂ .1))
 
       unit : (c u : ℕ) (x : Channel) → channelRight (s .m) (s .frozen) (s .files) c x ≡ true → isNone (requested (turnAt x u)) ≡ false → Served (s .files) c u
       unit c u x k n =
-          let k₁ = both {a = ltb (x .mark) (size x)} k in
+          let k₁ = both {a = marksRight x} k in
           let k₂ = both {a = allOf (unitRight (s .m)) (x .units)} (k₁ .1) in
           let all = and-right (worksRight (s .frozen) (x .units)) _ (k₂ .1) in
           let here : (isNone (requested (turnAt x u)) || anyOf (serves c u) (s .files)) ≡ true = from-places (x .units) (idleUnit false) (unitServed (s .files) c) (λ i. refl) all u in
@@ -223,7 +223,7 @@ module _ (s : State) where
         unless-so (fileAt s i .opened) _ (λ o. and-both (declaredAt (channelOf (s .channels) (fileAt s i)) (fileAt s i .unit)) _ (F .declared i o) (F .ready i o))))
         (and-both (allFrom (channelRight (s .m) (s .frozen) (s .files)) 0 (s .channels)) _
         (at-from (channelRight (s .m) (s .frozen) (s .files)) noChannel (s .channels) (λ c l.
-        and-both (ltb (channelAt s c .mark) (size (channelAt s c))) _ (mark-right (s .m) (s .frozen) (channelAt s c) (F .channels c))
+        and-both (marksRight (channelAt s c)) _ (mark-right (s .m) (s .frozen) (channelAt s c) (F .channels c))
         (and-both (allOf (unitRight (s .m)) (channelAt s c .units)) _ (units-right (s .m) (s .frozen) (channelAt s c) (F .channels c))
         (and-both (worksRight (s .frozen) (channelAt s c .units)) _ (works-right (s .m) (s .frozen) (channelAt s c) (F .channels c))
         (at-from (unitServed (s .files) c) (idleUnit false) (channelAt s c .units) (λ u k. unit c u (isNone (requested (turnAt (channelAt s c) u))) refl))))))
@@ -378,8 +378,8 @@ module _ (s : State) where
       where
         inside : (x : Channel) → channelInRange (s .m) x ≡ true → channelInLimit x ≡ true → worksRight (s .frozen) (x .units) ≡ true → ChannelFacts (s .m) (s .frozen) x
         inside x a b w =
-            channel-facts (s .m) (s .frozen) x (and-left (ltb (x .mark) (size x)) _ a)
-            (all-right (s .m) (x .units) (and-right (ltb (x .mark) (size x)) _ a) b) w
+            channel-facts (s .m) (s .frozen) x (and-left (marksRight x) _ a)
+            (all-right (s .m) (x .units) (and-right (marksRight x) _ a) b) w
 
     pub sound-facts : SoundFacts s
     unfolding apart fileReady numbersInRange freeMaskRight
@@ -422,7 +422,7 @@ module _ (s : State) where
         and-both (poolSound (s .m) (s .w)) _ (F .pool)
         (and-both (allOf (fileInRange (s .w)) (s .files)) _ (at-all (fileInRange (s .w)) closedFile (s .files) (λ i l. one i (fileAt s i .opened) refl))
         (at-all (channelInRange (s .m)) noChannel (s .channels) (λ c l.
-        and-both (ltb (channelAt s c .mark) (size (channelAt s c))) _ (mark-right (s .m) (s .frozen) (channelAt s c) (F .channels c))
+        and-both (marksRight (channelAt s c)) _ (mark-right (s .m) (s .frozen) (channelAt s c) (F .channels c))
         (all-each (s .m) (channelAt s c .units) (units-right (s .m) (s .frozen) (channelAt s c) (F .channels c)) .0))))
       where
         one : (i : ℕ) (t : Bool) → fileAt s i .opened ≡ t → fileInRange (s .w) (fileAt s i) ≡ true

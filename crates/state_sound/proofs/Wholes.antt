@@ -14,6 +14,7 @@ use Rattle.channel.specs.declared.Channel.{Channel}
 use Rattle.channel.specs.declared.Work.{Work}
 use Rattle.channel.specs.Units.{size, declaredAt, turnAt, freshWith, bitsFrom, freshOf}
 use Rattle.channel_turns.specs.Starts.{thawOf}
+use Rattle.channel_theorems.proofs.Theorems.Turning.{markAs}
 use Rattle.file.specs.declared.File.{File}
 use Rattle.file.specs.Sizes.{closedFile}
 use Rattle.pool.specs.Free.{fileCount, poolSound}
@@ -71,9 +72,10 @@ before-start-sound =
 abbrev pub freshState : ℕ → ℕ → List ℕ → ℕ → State
 freshState m w masks n = record { m = m; w = w; frozen = false; channels = map freshOf masks; files = replicate n closedFile; free = allFree m }
 
-fresh-mark : (mask : ℕ) → freshOf mask .mark < size (freshOf mask)
+fresh-mark : (mask : ℕ) (k : Bool) → markAs k (freshOf mask) < size (freshOf mask)
 unfolding freshOf freshWith bitsFrom
-fresh-mark mask = omega arith
+fresh-mark mask true = omega arith
+fresh-mark mask false = omega arith
 
 fresh-quiet : (mask u : ℕ) → turnAt (freshOf mask) u ≡ Idle
 unfolding freshOf

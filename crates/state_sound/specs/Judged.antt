@@ -22,7 +22,7 @@ use Rattle.pool.specs.Serving.{serves}
 use Rattle.state_sound.specs.Files.{takenCount, filesSound}
 use Rattle.state.specs.declared.State.{State}
 use Rattle.state_sound.specs.Requests.{requested, isNone, isRead, isWrite, fitsOutput}
-use Rattle.state_sound.specs.Soundness.{channelOf, requestOf, worksRight, inLimit}
+use Rattle.state_sound.specs.Soundness.{channelOf, requestOf, marksRight, worksRight, inLimit}
 
 -- ---- a file with its unit
 
@@ -52,7 +52,7 @@ unfoldable pub unitServed : List File → ℕ → ℕ → Unit → Bool
 unitServed fs c u x = isNone (requested (x .turn)) || anyOf (serves c u) fs
 
 unfoldable pub channelRight : ℕ → Bool → List File → ℕ → Channel → Bool
-channelRight m frozen fs c x = ltb (x .mark) (size x) && (allOf (unitRight m) (x .units) && (worksRight frozen (x .units) && allFrom (unitServed fs c) 0 (x .units)))
+channelRight m frozen fs c x = marksRight x && (allOf (unitRight m) (x .units) && (worksRight frozen (x .units) && allFrom (unitServed fs c) 0 (x .units)))
 
 unfoldable pub judgedState : State → Bool
 judgedState s =

@@ -54,9 +54,12 @@ turnInRange declared (Working q) = declared && leb 1 (q .attempts)
 abbrev pub unitInRange : ℕ → Unit → Bool
 unitInRange m x = (not (x .declared) || ltb 0 m) && turnInRange (x .declared) (x .turn)
 
--- the scan's mark is a unit's number
+-- the marks of both scans are units' numbers
+abbrev pub marksRight : Channel → Bool
+marksRight c = ltb (c .mark) (size c) && ltb (c .urgent) (size c)
+
 abbrev pub channelInRange : ℕ → Channel → Bool
-channelInRange m c = ltb (c .mark) (size c) && allOf (unitInRange m) (c .units)
+channelInRange m c = marksRight c && allOf (unitInRange m) (c .units)
 
 -- "m from 1 to 32, W from 1 to 1,024"; "Before the first fresh start: no buffers (m and W are 0)"
 unfoldable pub numbersInRange : State → Bool

@@ -338,10 +338,11 @@ fn channel_right(m: u8, frozen: bool, files: [File; FILES], number: u8, c: Chann
 {
     let units = c.units;
     let mark = (c.mark as usize) < UNITS;
+    let urgent = (c.urgent as usize) < UNITS;
     let right = units_right(m, units);
     let works = works_right(frozen, units);
     let served = units_served(files, number, units);
-    mark & (right & (works & served))
+    (mark & urgent) & (right & (works & served))
 }
 
 // Whether every channel is.

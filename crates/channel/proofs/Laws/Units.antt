@@ -27,7 +27,7 @@ module _ (c : Channel) (u : ℕ) (beyond : size c ≤ u) where
 
   pub with-beyond : (t : Turn) → withTurn c u t ≡ c
   unfolding withTurn
-  with-beyond t = ap (λ (us : List Unit). record { units = us; mark = c .mark }) (set-out (c .units) u (record { declared = declaredAt c u; turn = t }) beyond)
+  with-beyond t = ap (λ (us : List Unit). record { units = us; mark = c .mark; urgent = c .urgent }) (set-out (c .units) u (record { declared = declaredAt c u; turn = t }) beyond)
 
 -- ---- a fresh start: the units before i are made, and the rest follow
 

@@ -46,6 +46,11 @@ unfolding sum
 sum-mul zero k f g = omega arith
 sum-mul (suc n) k f g = let a = sum-mul n k f g in omega arith
 
+pub sum-times : (n k : ℕ) (f : ℕ → ℕ) → sum n (λ x. k * f x) ≡ k * sum n f
+unfolding sum
+sum-times zero k f = omega arith
+sum-times (suc n) k f = let a = sum-times n k f in omega arith
+
 -- a term is at most the sum
 pub sum-term : (n : ℕ) (f : ℕ → ℕ) (j : ℕ) → j < n → f j ≤ sum n f
 unfolding sum

@@ -20,16 +20,15 @@ use Rattle.channel.specs.declared.Turn.the-variants.{Idle, Waiting, Displaced, 
 use Rattle.channel.specs.declared.Unit.{Unit}
 use Rattle.channel.specs.declared.Channel.{Channel}
 use Rattle.channel.specs.Units.{size, turnAt, withTurn, isIdle, isWorking}
-use Rattle.channel_turns.specs.Scans.{workingIn, priorityIn, ordinaryIn, nextTurn, orElse, beginOf, Before, Scanned, finds, misses, upward, unwrapped, wrapped}
+use Rattle.channel_turns.specs.Scans.{workingIn, priorityIn, ordinaryIn, nextTurn, orElse, beginOf, Before, Scanned, finds, misses}
 use Rattle.channel_turns.specs.Starts.{begunTurn, startOf, newRequest}
-use Rattle.channel_turns.specs.Turns.{incompleteTurn, goesOn, repeatOf, markAfter, endOf}
-use Rattle.channel_turns.proofs.Laws.Scans.{begin-here}
+use Rattle.channel_turns.specs.Turns.{incompleteTurn, goesOn, repeatOf, markMoved, endOf}
 use Rattle.channel_turns.proofs.Laws.Starts.{start-stays, start-begins}
 use Rattle.channel_theorems.specs.History.{Station, ask, accepted, Step}
 use Rattle.channel_theorems.proofs.Theorems.Scan.{scan-unique}
-use Rattle.channel_theorems.proofs.Theorems.Turning.{wantsPriority, wantsTurn, held, beginIn, working-scan, priority-scan, ordinary-scan, at-set, everywhere, busy-inside, declared-inside}
-use Rattle.channel_theorems.proofs.Theorems.Starts.{Started, isFrozen, isBusy, isQuiet, begins, started, works-found}
-use Rattle.channel_theorems.proofs.Theorems.Calls.{endedAt, Took, refuses, asks}
+use Rattle.channel_theorems.proofs.Theorems.Turning.{wantsPriority, wantsTurn, heldAs, held, markAs, mark-with, beginAs, working-scan, priority-scan, ordinary-scan, at-set, everywhere, busy-inside, declared-inside}
+use Rattle.channel_theorems.proofs.Theorems.Starts.{Started, isFrozen, isBusy, isQuiet, begins, started, works-found, urgent-found}
+use Rattle.channel_theorems.proofs.Theorems.Calls.{endedAt, ended-mark, Took, refuses, asks}
 use Rattle.channel_theorems.proofs.Theorems.Sound.{OneWorks}
 
 -- ---- what each unit holds
@@ -50,15 +49,15 @@ held-set c x t y l =
     (sym (cond-true (held t) (held (turnAt c x)) (eq-eqb x x refl)))
     (λ z ne. sym (cond-false (held t) (held (turnAt c z)) (ne-eqb z x ne))) y
 
-pub mark-start : (c : Channel) (f : Bool) → startOf c f .mark ≡ c .mark
-unfolding withTurn
-mark-start c f = go (startOf c f) (started c f)
+-- a start leaves both marks
+pub mark-start : (k : Bool) (c : Channel) (f : Bool) → markAs k (startOf c f) ≡ markAs k c
+mark-start k c f = go (startOf c f) (started c f)
   where
-    go : (d : Channel) → Started c f d → d .mark ≡ c .mark
+    go : (d : Channel) → Started c f d → markAs k d ≡ markAs k c
     go d (isFrozen e) = refl
     go d (isBusy x e) = refl
     go d (isQuiet g) = refl
-    go d (begins x t b) = refl
+    go d (begins x t b) = mark-with k c x t
 
 -- an accepted ask
 pub ask-held : (s : Station) (u : ℕ) (op : Op) (p : Bool) (o : Step) → Took s (ask u op p) o → o .answer ≡ accepted → (y : ℕ)
@@ -68,10 +67,10 @@ ask-held s u op p o (asks x q b d i) e y =
     held-start (withTurn (s .channel) x (Waiting (newRequest q b))) (s .frozen) y
     ∙ held-set (s .channel) x (Waiting (newRequest q b)) y (declared-inside (s .channel) x d)
 
-pub ask-mark : (s : Station) (u : ℕ) (op : Op) (p : Bool) (o : Step) → Took s (ask u op p) o → o .after .channel .mark ≡ s .channel .mark
-unfolding withTurn
-ask-mark s u op p o refuses = refl
-ask-mark s u op p o (asks x q b d i) = mark-start (withTurn (s .channel) x (Waiting (newRequest q b))) (s .frozen)
+pub ask-mark : (k : Bool) (s : Station) (u : ℕ) (op : Op) (p : Bool) (o : Step) → Took s (ask u op p) o → markAs k (o .after .channel) ≡ markAs k (s .channel)
+ask-mark k s u op p o refuses = refl
+ask-mark k s u op p o (asks x q b d i) =
+    mark-start k (withTurn (s .channel) x (Waiting (newRequest q b))) (s .frozen) ∙ mark-with k (s .channel) x (Waiting (newRequest q b))
 
 -- an operation that is repeated, and one that has ended
 module _ (c : Channel) (u : ℕ) (l : u < size c) (frozen : Bool) where
@@ -86,17 +85,20 @@ module _ (c : Channel) (u : ℕ) (l : u < size c) (frozen : Bool) where
       either true = refl
       either false = refl
 
-  pub repeat-mark : (q : Request) → repeatOf c u q frozen .mark ≡ c .mark
-  unfolding repeatOf withTurn
-  repeat-mark q = mark-start (withTurn c u (incompleteTurn (goesOn c (q .priority) frozen) q)) frozen
+  pub repeat-mark : (k : Bool) (q : Request) → markAs k (repeatOf c u q frozen) ≡ markAs k c
+  unfolding repeatOf
+  repeat-mark k q =
+      mark-start k (withTurn c u (incompleteTurn (goesOn c (q .priority) frozen) q)) frozen
+      ∙ mark-with k c u (incompleteTurn (goesOn c (q .priority) frozen) q)
 
   pub end-held : (y : ℕ) → held (turnAt (endOf c u frozen) y) ≡ cond (eqb y u) none (held (turnAt c y))
   unfolding endOf
   end-held y = held-start (endedAt c u) frozen y ∙ held-set c u Idle y l
 
-  pub end-mark : endOf c u frozen .mark ≡ markAfter c u
+  -- each end moves the mark of its own kind
+  pub end-mark : (k : Bool) → markAs k (endOf c u frozen) ≡ markMoved (heldAs k (turnAt c u)) (size c) u (markAs k c)
   unfolding endOf
-  end-mark = mark-start (endedAt c u) frozen
+  end-mark k = mark-start k (endedAt c u) frozen ∙ ended-mark k c u
 
 -- ---- which unit a start begins
 
@@ -155,27 +157,22 @@ module _ (c : Channel) (quiet : Quiet c) where
       ap (λ (d : Channel). isWorking (turnAt d y)) (start-begins c false false (sym (ap isFound none-works)) refl (At y) e)
       ∙ at-set c y (begunTurn (turnAt c y)) (busy-inside c y i) (λ z k. z ≡ y → isWorking (k .turn) ≡ true) (λ q. w) (λ z ne q. absurd (ne q)) y refl
 
-  -- "Among priority requests the lowest unit goes first."
-  pub start-urgent : (y : ℕ) → urgentHeld (held (turnAt c y)) ≡ true → ((z : ℕ) → z < y → urgentHeld (held (turnAt c z)) ≡ false)
+  -- "Priority requests are now scanned as ordinary ones are"
+  pub start-urgent : (y : ℕ) → urgentHeld (held (turnAt c y)) ≡ true
+      → ((z : ℕ) → z < size c → Before (beginAs true c) y z → urgentHeld (held (turnAt c z)) ≡ false)
       → isWorking (turnAt (startOf c false) y) ≡ true
   unfolding nextTurn
-  start-urgent y u low =
+  start-urgent y u first =
       let b = begun-urgent (turnAt c y) u in
       let l = busy-inside c y (b .1) in
-      let zero : beginOf (size c) 0 ≡ 0 = begin-here (size c) 0 (omega arith) in
       begins-at y
       (ap (λ (f : Found). orElse f (ordinaryIn c))
-      (scan-unique (finds y l (wants-priority (turnAt c y) (quiet y) ∙ u) (λ z k o. not-urgent (turnAt c z) (low z (earlier z o zero)))) (priority-scan c)))
+      (scan-unique (finds y l (wants-priority (turnAt c y) (quiet y) ∙ u) (λ z k o. not-urgent (turnAt c z) (first z k o))) (priority-scan c)))
       (b .0) (b .1)
-    where
-      earlier : (z : ℕ) → Before (beginOf (size c) 0) y z → beginOf (size c) 0 ≡ 0 → z < y
-      earlier z (upward p q) e = q
-      earlier z (unwrapped p q) e = absurd (omega arith)
-      earlier z (wrapped p q) e = absurd (omega arith)
 
   -- "else a scan starts a waiting or displaced one"
   pub start-ordinary : ((z : ℕ) → urgentHeld (held (turnAt c z)) ≡ false) → (y : ℕ) → ordinaryHeld (held (turnAt c y)) ≡ true
-      → ((z : ℕ) → z < size c → Before (beginIn c) y z → ordinaryHeld (held (turnAt c z)) ≡ false)
+      → ((z : ℕ) → z < size c → Before (beginAs false c) y z → ordinaryHeld (held (turnAt c z)) ≡ false)
       → isWorking (turnAt (startOf c false) y) ≡ true
   unfolding nextTurn
   start-ordinary none-urgent y u first =
@@ -247,11 +244,7 @@ module _ (c : Channel) (u : ℕ) (r q : Request) (at : turnAt c u ≡ Working r)
   unfolding repeatOf goesOn
   set-aside p y w =
       ap (λ (b : Bool). startOf (withTurn c u (incompleteTurn (b || not (isFound (priorityIn c))) q)) false) p
-      ∙ ap (λ (b : Bool). startOf (withTurn c u (incompleteTurn (not b) q)) false) (found (priorityIn c) (priority-scan c))
-    where
-      found : (f : Found) → Scanned (λ x. wantsPriority (turnAt c x)) (size c) (beginOf (size c) 0) f → isFound f ≡ true
-      found f (finds x l t g) = refl
-      found f (misses g) = true-not-false w (everywhere c (λ (k : Unit). wantsPriority (k .turn)) refl g y)
+      ∙ ap (λ (b : Bool). startOf (withTurn c u (incompleteTurn (not b) q)) false) (urgent-found c y w)
 
 -- ---- who works
 

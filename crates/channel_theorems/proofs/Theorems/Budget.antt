@@ -1,4 +1,4 @@
--- The attempts that can still be made before a waiting ordinary request is answered. Assumes nothing.
+-- The attempts that can still be made before a waiting request is answered. Assumes nothing.
 use mathlib.Core.Path.{_≡_, refl, sym}
 use mathlib.Core.Logic.{_≢_}
 use mathlib.Core.Bool.{Bool, true, false, not, cond}
@@ -13,74 +13,75 @@ use Rattle.channel.specs.declared.Turn.the-variants.{Idle, Waiting, Displaced, 
 use Rattle.channel.specs.declared.Channel.{Channel}
 use Rattle.channel_outcomes.specs.Rules.{mostReports}
 use Rattle.channel.specs.Units.{size, declaredAt, turnAt, withTurn}
-use Rattle.channel_turns.specs.Turns.{isOrdinary}
+use Rattle.channel_turns.specs.Turns.{holdsPriority}
 use Rattle.channel_turns.specs.Starts.{newRequest}
-use Rattle.channel_theorems.specs.History.{holdsPriority}
 use Rattle.area.specs.Lists.{oneIf}
-use Rattle.channel_theorems.proofs.Laws.Sums.{sum, sum-at, sum-le, sum-mul, sum-term}
-use Rattle.channel_theorems.proofs.Theorems.Turning.{held, at-set, busy-inside}
+use Rattle.channel_theorems.proofs.Laws.Sums.{sum, sum-at, sum-le, sum-mul, sum-times, sum-term}
+use Rattle.channel_theorems.proofs.Theorems.Turning.{heldAs, held, at-set, busy-inside}
 use Rattle.channel_theorems.proofs.Theorems.Starts.{turn-busy, Started, isFrozen, isBusy, isQuiet, begins}
 use Rattle.channel_theorems.proofs.Theorems.Sound.{Counted, limit-most, Again, HoldOk, InRanges}
 use Rattle.channel_theorems.proofs.Theorems.Race.{Race}
 
 -- ---- the budget: the attempts that can still be made before u is answered
 
-abbrev left : Request → ℕ
+abbrev pub left : Request → ℕ
 left q = mostReports + 1 - q .attempts
 
-abbrev own : Option Request → ℕ
-own none = mostReports
-own (some q) = cond (q .priority) mostReports (left q)
+-- by its own turn among those of the kind: what is left of its request of the kind, or all of one to come
+abbrev pub own : Bool → Option Request → ℕ
+own k none = mostReports
+own true (some q) = cond (q .priority) (left q) mostReports
+own false (some q) = cond (q .priority) mostReports (left q)
 
 abbrev urge : Option Request → ℕ
 urge none = 0
 urge (some q) = cond (q .priority) (left q) 0
 
--- what a unit can still take: by priority, and unless it has ended in its turn, by its own turn
-unfoldable pub weight : Bool → Bool → Option Request → ℕ
-weight done false h = 0
-weight done true h = urge h + cond done 0 (own h)
+-- what a unit can still take before a request of kind k: unless it has ended in its turn, by its own turn; and before an ordinary one by priority
+unfoldable pub weight : Bool → Bool → Bool → Option Request → ℕ
+weight k done false h = 0
+weight k done true h = cond k 0 (urge h) + cond done 0 (own k h)
 
-unfoldable pub budget : ℕ → (ℕ → Bool) → Channel → ℕ
-budget n D c = sum n (λ x. weight (D x) (declaredAt c x) (held (turnAt c x)))
+unfoldable pub budget : Bool → ℕ → (ℕ → Bool) → Channel → ℕ
+budget k n D c = sum n (λ x. weight k (D x) (declaredAt c x) (held (turnAt c x)))
 
 -- a change at one unit
-pub budget-at : (n : ℕ) (D E : ℕ → Bool) (c : Channel) (x : ℕ) (t : Turn) (a b : ℕ) → size c ≡ n → x < size c → ((y : ℕ) → y ≢ x → E y ≡ D y)
-    → weight (E x) (declaredAt c x) (held t) + a ≤ weight (D x) (declaredAt c x) (held (turnAt c x)) + b
-    → budget n E (withTurn c x t) + a ≤ budget n D c + b
+pub budget-at : (k : Bool) (n : ℕ) (D E : ℕ → Bool) (c : Channel) (x : ℕ) (t : Turn) (a b : ℕ) → size c ≡ n → x < size c → ((y : ℕ) → y ≢ x → E y ≡ D y)
+    → weight k (E x) (declaredAt c x) (held t) + a ≤ weight k (D x) (declaredAt c x) (held (turnAt c x)) + b
+    → budget k n E (withTurn c x t) + a ≤ budget k n D c + b
 unfolding budget
-budget-at n D E c x t a b long l f e = sum-at n F G x a b (omega arith) others here
+budget-at k n D E c x t a b long l f e = sum-at n F G x a b (omega arith) others here
   where
     F : ℕ → ℕ
-    F y = weight (E y) (declaredAt (withTurn c x t) y) (held (turnAt (withTurn c x t) y))
+    F y = weight k (E y) (declaredAt (withTurn c x t) y) (held (turnAt (withTurn c x t) y))
 
     G : ℕ → ℕ
-    G y = weight (D y) (declaredAt c y) (held (turnAt c y))
+    G y = weight k (D y) (declaredAt c y) (held (turnAt c y))
 
     others : (y : ℕ) → y ≢ x → F y ≤ G y
     others =
-        at-set c x t l (λ y k. y ≢ x → weight (E y) (k .declared) (held (k .turn)) ≤ G y) (λ i. absurd (i refl)) (λ y ne i. rw (f y ne) (omega arith))
+        at-set c x t l (λ y j. y ≢ x → weight k (E y) (j .declared) (held (j .turn)) ≤ G y) (λ i. absurd (i refl)) (λ y ne i. rw (f y ne) (omega arith))
 
     here : F x + a ≤ G x + b
     here =
-        at-set c x t l (λ y k. y ≡ x → weight (E y) (k .declared) (held (k .turn)) + a ≤ G y + b) (λ i. e) (λ y ne i. absurd (ne i)) x refl
+        at-set c x t l (λ y j. y ≡ x → weight k (E y) (j .declared) (held (j .turn)) + a ≤ G y + b) (λ i. e) (λ y ne i. absurd (ne i)) x refl
 
-pub budget-start : (n : ℕ) (D : ℕ → Bool) (c : Channel) (f : Bool) (d : Channel) → size c ≡ n → Started c f d → budget n D d ≤ budget n D c
-budget-start n D c f d long (isFrozen e) = omega arith
-budget-start n D c f d long (isBusy x e) = omega arith
-budget-start n D c f d long (isQuiet g) = omega arith
-budget-start n D c f d long (begins x t b) =
-    let i = budget-at n D D c x t 0 0 long (b .within) (λ y ne. refl) (rw (b .same) (omega arith)) in
+pub budget-start : (k : Bool) (n : ℕ) (D : ℕ → Bool) (c : Channel) (f : Bool) (d : Channel) → size c ≡ n → Started c f d → budget k n D d ≤ budget k n D c
+budget-start k n D c f d long (isFrozen e) = omega arith
+budget-start k n D c f d long (isBusy x e) = omega arith
+budget-start k n D c f d long (isQuiet g) = omega arith
+budget-start k n D c f d long (begins x t b) =
+    let i = budget-at k n D D c x t 0 0 long (b .within) (λ y ne. refl) (rw (b .same) (omega arith)) in
     omega arith
 
--- ---- what a call does to the weight of its unit
+-- ---- what a call does to the weight of its unit, before an ordinary request
 
 pub weight-asked : (d t : Bool) (g : Option Request) (op : Op) (p : Bool) → t ≡ true → g ≡ none
-    → weight d t (some (newRequest op p)) + 0 ≤ weight d t g + mostReports * oneIf p
+    → weight false d t (some (newRequest op p)) + 0 ≤ weight false d t g + mostReports * oneIf p
 unfolding weight
 weight-asked d t g op p i j = rw (i, j) (go d p)
   where
-    go : (d p : Bool) → weight d true (some (newRequest op p)) + 0 ≤ weight d true none + mostReports * oneIf p
+    go : (d p : Bool) → weight false d true (some (newRequest op p)) + 0 ≤ weight false d true none + mostReports * oneIf p
     go true true = omega arith
     go true false = omega arith
     go false true = omega arith
@@ -88,7 +89,7 @@ weight-asked d t g op p i j = rw (i, j) (go d p)
 
 -- a priority operation ends
 pub weight-urgent : (d t : Bool) (g : Option Request) (r : Request) → t ≡ true → g ≡ some r → r .priority ≡ true → r .attempts ≤ mostReports
-    → weight d t none + 1 ≤ weight d t g + 0
+    → weight false d t none + 1 ≤ weight false d t g + 0
 unfolding weight
 weight-urgent d t g r i j e l = rw (i, j, e) (go d)
   where
@@ -98,30 +99,62 @@ weight-urgent d t g r i j e l = rw (i, j, e) (go d)
 
 -- an ordinary one ends, and its unit joins D
 pub weight-ended : (d t : Bool) (g : Option Request) (r : Request) → t ≡ true → g ≡ some r → r .priority ≡ false → r .attempts ≤ mostReports → d ≡ false
-    → weight true t none + 1 ≤ weight d t g + 0
+    → weight false true t none + 1 ≤ weight false d t g + 0
 unfolding weight
 weight-ended d t g r i j e l k = rw (i, j, k, e) (omega arith)
 
 -- an operation is repeated
 pub weight-again : (d t : Bool) (g : Option Request) (r q : Request) → t ≡ true → g ≡ some r → Again r q → q .attempts ≤ mostReports
-    → (r .priority ≡ false → d ≡ false) → weight d t (some q) + 1 ≤ weight d t g + 0
+    → (r .priority ≡ false → d ≡ false) → weight false d t (some q) + 1 ≤ weight false d t g + 0
 unfolding weight
 weight-again d t g r q i j a l f = rw (i, j) (go d (r .priority) refl f)
   where
-    go : (d b : Bool) → r .priority ≡ b → (b ≡ false → d ≡ false) → weight d true (some q) + 1 ≤ weight d true (some r) + 0
+    go : (d b : Bool) → r .priority ≡ b → (b ≡ false → d ≡ false) → weight false d true (some q) + 1 ≤ weight false d true (some r) + 0
     go true true e f = rw (a .alike, e) (omega (arith, a .more))
     go false true e f = rw (a .alike, e) (omega (arith, a .more))
     go true false e f = true-not-false refl (f refl)
     go false false e f = rw (a .alike, e) (omega (arith, a .more))
 
+-- ---- the same before a priority request: an ordinary operation takes nothing of it
+
+pub urgent-asked : (d t : Bool) (g : Option Request) (op : Op) (p : Bool) → g ≡ none → weight true d t (some (newRequest op p)) + 0 ≤ weight true d t g + 0
+unfolding weight
+urgent-asked d t g op p j = rw j (go d t p)
+  where
+    go : (d t p : Bool) → weight true d t (some (newRequest op p)) + 0 ≤ weight true d t none + 0
+    go d false p = omega arith
+    go true true p = omega arith
+    go false true true = omega arith
+    go false true false = omega arith
+
+pub urgent-again : (d t : Bool) (g : Option Request) (r q : Request) → t ≡ true → g ≡ some r → Again r q → q .attempts ≤ mostReports → r .priority ≡ true
+    → d ≡ false → weight true d t (some q) + 1 ≤ weight true d t g + 0
+unfolding weight
+urgent-again d t g r q i j a l e f = rw (i, j, f, a .alike, e) (omega (arith, a .more))
+
+pub urgent-ended : (d t : Bool) (g : Option Request) (r : Request) → t ≡ true → g ≡ some r → r .priority ≡ true → r .attempts ≤ mostReports → d ≡ false
+    → weight true true t none + 1 ≤ weight true d t g + 0
+unfolding weight
+urgent-ended d t g r i j e l f = rw (i, j, f, e) (omega arith)
+
+pub urgent-past : (d t : Bool) (g h : Option Request) (r : Request) → g ≡ some r → r .priority ≡ false → own true h ≡ mostReports
+    → weight true d t h + 0 ≤ weight true d t g + 0
+unfolding weight
+urgent-past d t g h r j e i = rw j (go d t)
+  where
+    go : (d t : Bool) → weight true d t h + 0 ≤ weight true d t (some r) + 0
+    go d false = omega arith
+    go true true = omega arith
+    go false true = rw (i, e) (omega arith)
+
 -- ---- the budget at first: all attempts of each declared unit, and of each priority request
 
-most-held : (q : Request) (b : Bool) → q .priority ≡ b → Counted q → weight false true (some q) ≤ mostReports * (1 + oneIf (q .priority))
+most-held : (q : Request) (b : Bool) → q .priority ≡ b → Counted q → weight false false true (some q) ≤ mostReports * (1 + oneIf (q .priority))
 unfolding weight
 most-held q true e k = rw e (omega (arith, k .from))
 most-held q false e k = rw e (omega (arith, k .from))
 
-weight-most : (d : Bool) (t : Turn) → HoldOk d (held t) → weight false d (held t) ≤ mostReports * (oneIf d + oneIf (holdsPriority t))
+weight-most : (d : Bool) (t : Turn) → HoldOk d (held t) → weight false false d (held t) ≤ mostReports * (oneIf d + oneIf (holdsPriority t))
 unfolding weight
 weight-most false t o = omega arith
 weight-most true Idle o = omega arith
@@ -130,12 +163,34 @@ weight-most true (Displaced q) o = most-held q (q .priority) refl (o .1)
 weight-most true (Working q) o = most-held q (q .priority) refl (o .1)
 
 pub budget-most : (n : ℕ) (c : Channel) → InRanges c
-    → budget n (λ x. false) c ≤ mostReports * (sum n (λ x. oneIf (declaredAt c x)) + sum n (λ x. oneIf (holdsPriority (turnAt c x))))
+    → budget false n (λ x. false) c ≤ mostReports * (sum n (λ x. oneIf (declaredAt c x)) + sum n (λ x. oneIf (holdsPriority (turnAt c x))))
 unfolding budget
 budget-most n c ok =
-    let a = sum-le n (λ x. weight false (declaredAt c x) (held (turnAt c x))) (λ x. mostReports * (oneIf (declaredAt c x) + oneIf (holdsPriority (turnAt c x))))
+    let a = sum-le n (λ x. weight false false (declaredAt c x) (held (turnAt c x))) (λ x. mostReports * (oneIf (declaredAt c x) + oneIf (holdsPriority (turnAt c x))))
     (λ x l. weight-most (declaredAt c x) (turnAt c x) (ok x)) in
     let b = sum-mul n mostReports (λ x. oneIf (declaredAt c x)) (λ x. oneIf (holdsPriority (turnAt c x))) in
+    omega arith
+
+-- and before a priority request: all attempts of each declared unit
+urgent-held : (q : Request) (b : Bool) → q .priority ≡ b → Counted q → weight true false true (some q) ≤ mostReports * 1
+unfolding weight
+urgent-held q true e k = rw e (omega (arith, k .from))
+urgent-held q false e k = rw e (omega arith)
+
+urgent-weight : (d : Bool) (t : Turn) → HoldOk d (held t) → weight true false d (held t) ≤ mostReports * oneIf d
+unfolding weight
+urgent-weight false t o = omega arith
+urgent-weight true Idle o = omega arith
+urgent-weight true (Waiting q) o = urgent-held q (q .priority) refl (o .1)
+urgent-weight true (Displaced q) o = urgent-held q (q .priority) refl (o .1)
+urgent-weight true (Working q) o = urgent-held q (q .priority) refl (o .1)
+
+pub budget-urgent : (n : ℕ) (c : Channel) → InRanges c → budget true n (λ x. false) c ≤ mostReports * sum n (λ x. oneIf (declaredAt c x))
+unfolding budget
+budget-urgent n c ok =
+    let a = sum-le n (λ x. weight true false (declaredAt c x) (held (turnAt c x))) (λ x. mostReports * oneIf (declaredAt c x))
+    (λ x l. urgent-weight (declaredAt c x) (turnAt c x) (ok x)) in
+    let b = sum-times n mostReports (λ x. oneIf (declaredAt c x)) in
     omega arith
 
 -- ... and while u waits: an attempt is left
@@ -143,22 +198,30 @@ not-false : (b : Bool) → not b ≡ true → b ≡ false
 not-false true e = sym e
 not-false false e = refl
 
-least-held : (d : Bool) (q : Request) → not (q .priority) ≡ true → HoldOk d (some q) → 1 ≤ weight false d (some q)
+least-ordinary : (d : Bool) (q : Request) → not (q .priority) ≡ true → HoldOk d (some q) → 1 ≤ weight false false d (some q)
 unfolding weight
-least-held d q h o = rw (o .0, not-false (q .priority) h) (omega (arith, o .1 .limit, limit-most (q .op)))
+least-ordinary d q h o = rw (o .0, not-false (q .priority) h) (omega (arith, o .1 .limit, limit-most (q .op)))
 
-weight-least : (d : Bool) (t : Turn) → isOrdinary t ≡ true → HoldOk d (held t) → 1 ≤ weight false d (held t)
-weight-least d Idle h o = true-not-false h refl
-weight-least d (Waiting q) h o = least-held d q h o
-weight-least d (Displaced q) h o = least-held d q h o
-weight-least d (Working q) h o = least-held d q h o
+least-urgent : (d : Bool) (q : Request) → q .priority ≡ true → HoldOk d (some q) → 1 ≤ weight true false d (some q)
+unfolding weight
+least-urgent d q h o = rw (o .0, h) (omega (arith, o .1 .limit, limit-most (q .op)))
 
-pub budget-least : (n u : ℕ) (D : ℕ → Bool) (c : Channel) → InRanges c → Race n u D c → 1 ≤ budget n D c
+weight-least : (k d : Bool) (t : Turn) → heldAs k t ≡ true → HoldOk d (held t) → 1 ≤ weight k false d (held t)
+weight-least true d Idle h o = true-not-false h refl
+weight-least true d (Waiting q) h o = least-urgent d q h o
+weight-least true d (Displaced q) h o = least-urgent d q h o
+weight-least true d (Working q) h o = least-urgent d q h o
+weight-least false d Idle h o = true-not-false h refl
+weight-least false d (Waiting q) h o = least-ordinary d q h o
+weight-least false d (Displaced q) h o = least-ordinary d q h o
+weight-least false d (Working q) h o = least-ordinary d q h o
+
+pub budget-least : (k : Bool) (n u : ℕ) (D : ℕ → Bool) (c : Channel) → InRanges c → Race k n u D c → 1 ≤ budget k n D c
 unfolding budget
-budget-least n u D c ok h =
-    let w = weight-least (declaredAt c u) (turnAt c u) (h .mine) (ok u) in
-    let l = busy-inside c u (turn-busy (turnAt c u) (h .mine)) in
-    let t : weight (D u) (declaredAt c u) (held (turnAt c u)) ≤ _ =
-    sum-term n (λ x. weight (D x) (declaredAt c x) (held (turnAt c x))) u (omega (arith, h .long)) in
-    let v : 1 ≤ weight (D u) (declaredAt c u) (held (turnAt c u)) = rw (h .self) w in
+budget-least k n u D c ok h =
+    let w = weight-least k (declaredAt c u) (turnAt c u) (h .mine) (ok u) in
+    let l = busy-inside c u (turn-busy k (turnAt c u) (h .mine)) in
+    let t : weight k (D u) (declaredAt c u) (held (turnAt c u)) ≤ _ =
+    sum-term n (λ x. weight k (D x) (declaredAt c x) (held (turnAt c x))) u (omega (arith, h .long)) in
+    let v : 1 ≤ weight k (D u) (declaredAt c u) (held (turnAt c u)) = rw (h .self) w in
     omega arith

@@ -14,26 +14,32 @@ use Rattle.channel.specs.declared.Channel.{Channel}
 use Rattle.channel_outcomes.specs.declared.Verdict.{Verdict}
 use Rattle.channel_outcomes.specs.declared.Verdict.the-variants.{Refused, Repeats, Ends}
 use Rattle.channel_outcomes.specs.Rules.{verdictOf}
-use Rattle.channel.specs.Units.{declaredAt, turnAt, withTurn, withScanMark, isIdle, acceptsAt}
-use Rattle.channel_turns.specs.Turns.{judgeTurn, judgeOf, goesOn, incompleteTurn, repeatOf, markAfter, endOf, bookOf, reportOf}
+use Rattle.channel.specs.Units.{size, declaredAt, turnAt, withTurn, withMarks, isIdle, acceptsAt}
+use Rattle.channel_turns.specs.Turns.{judgeTurn, judgeOf, goesOn, incompleteTurn, repeatOf, markMoved, markAfter, urgentAfter, endOf, bookOf, reportOf}
 use Rattle.channel_turns.specs.Starts.{startOf, thawOf, newRequest, askOf}
 use Rattle.channel_theorems.specs.History.{Station, station, Event, ask, report, freeze, thaw, refused, accepted, repeated, answered, Step, stepTo, askStep, reportAnswer, step, aReportOf, aRequestOf, anAnswerTo}
-use Rattle.channel_theorems.proofs.Theorems.Turning.{held}
+use Rattle.channel_theorems.proofs.Theorems.Turning.{heldAs, held, markAs}
 
--- the turn of a unit whose operation is to be repeated
-pub data Incomplete (q : Request) : Turn → Type 0 where
-  onward : Incomplete q (Working q)
-  aside : Incomplete q (Displaced q)
+-- the turn of a unit whose operation is to be repeated: it goes on at once, or is set aside
+pub data Incomplete (c : Channel) (frozen : Bool) (q : Request) : Turn → Type 0 where
+  onward : goesOn c (q .priority) frozen ≡ true → Incomplete c frozen q (Working q)
+  aside : goesOn c (q .priority) frozen ≡ false → Incomplete c frozen q (Displaced q)
 
 -- the channel with unit u's operation ended, before a start
 abbrev pub endedAt : Channel → ℕ → Channel
-endedAt c u = withScanMark (withTurn c u Idle) (markAfter c u)
+endedAt c u = withMarks (withTurn c u Idle) (markAfter c u) (urgentAfter c u)
+
+-- each end moves the mark of its own kind, and no other
+pub ended-mark : (k : Bool) (c : Channel) (u : ℕ) → markAs k (endedAt c u) ≡ markMoved (heldAs k (turnAt c u)) (size c) u (markAs k c)
+unfolding markAfter urgentAfter withTurn
+ended-mark true c u = refl
+ended-mark false c u = refl
 
 pub data Took (s : Station) : Event → Step → Type 0 where
   refuses : {e : Event} → Took s e (stepTo refused s)
   asks : (u : ℕ) (op : Op) (p : Bool) → declaredAt (s .channel) u ≡ true → turnAt (s .channel) u ≡ Idle
       → Took s (ask u op p) (stepTo accepted (station (startOf (withTurn (s .channel) u (Waiting (newRequest op p))) (s .frozen)) (s .frozen)))
-  repeats : (u o : ℕ) (r q : Request) (t : Turn) → turnAt (s .channel) u ≡ Working r → verdictOf r o ≡ Repeats q → Incomplete q t
+  repeats : (u o : ℕ) (r q : Request) (t : Turn) → turnAt (s .channel) u ≡ Working r → verdictOf r o ≡ Repeats q → Incomplete (s .channel) (s .frozen) q t
       → Took s (report u o) (stepTo repeated (station (startOf (withTurn (s .channel) u t) (s .frozen)) (s .frozen)))
   ends : (u o : ℕ) (r : Request) → turnAt (s .channel) u ≡ Working r
       → Took s (report u o) (stepTo answered (station (startOf (endedAt (s .channel) u) (s .frozen)) (s .frozen)))
@@ -63,14 +69,14 @@ took s (report u o) = go (turnAt c u) refl
     c : Channel
     c = s .channel
 
-    on : (q : Request) (b : Bool) → Incomplete q (incompleteTurn b q)
-    on q true = onward
-    on q false = aside
+    on : (q : Request) (b : Bool) → goesOn c (q .priority) (s .frozen) ≡ b → Incomplete c (s .frozen) q (incompleteTurn b q)
+    on q true i = onward i
+    on q false i = aside i
 
     booked : (r : Request) (v : Verdict) → turnAt c u ≡ Working r → verdictOf r o ≡ v
         → Took s (report u o) (stepTo (reportAnswer v) (station (bookOf c u v (s .frozen)) (s .frozen)))
     booked r (Refused n) i j = refuses
-    booked r (Repeats q) i j = repeats u o r q _ i j (on q (goesOn c (q .priority) (s .frozen)))
+    booked r (Repeats q) i j = repeats u o r q _ i j (on q (goesOn c (q .priority) (s .frozen)) refl)
     booked r (Ends e) i j = ends u o r i
 
     go : (t : Turn) → turnAt c u ≡ t
@@ -82,9 +88,9 @@ took s (report u o) = go (turnAt c u) refl
 took s freeze = freezes
 took s thaw = thaws
 
-pub incomplete-held : (q : Request) (t : Turn) → Incomplete q t → held t ≡ some q
-incomplete-held q t onward = refl
-incomplete-held q t aside = refl
+pub incomplete-held : {c : Channel} {frozen : Bool} (q : Request) (t : Turn) → Incomplete c frozen q t → held t ≡ some q
+incomplete-held q t (onward g) = refl
+incomplete-held q t (aside g) = refl
 
 -- ---- whom a call concerns: a refused call is none of them
 

@@ -14,7 +14,8 @@ use Rattle.channel.specs.declared.Unit.{Unit}
 use Rattle.channel.specs.declared.Channel.{Channel}
 use Rattle.channel.specs.Units.{size, idleUnit, declaredAt, turnAt, freshWith}
 use Rattle.channel_turns.specs.Starts.{startOf}
-use Rattle.channel_theorems.specs.History.{holdsPriority, urgentIn, declaredIn}
+use Rattle.channel_turns.specs.Turns.{holdsPriority}
+use Rattle.channel_theorems.specs.History.{urgentIn, declaredIn}
 use Rattle.channel_theorems.proofs.Laws.Sums.{sum, sum-le, count-sum}
 use Rattle.channel_theorems.proofs.Theorems.Turning.{held, at-set}
 use Rattle.channel_theorems.proofs.Theorems.Starts.{Started, isFrozen, isBusy, isQuiet, begins, started}

@@ -3,11 +3,11 @@
 use mathlib.Core.Path.{_≡_}
 use mathlib.Core.Bool.{Bool, true, false}
 use mathlib.Core.List.{List, [], _∷_, _++_}
-use Prim.Native.Nat.{ℕ, _+_, _*_, _≤_, _<_}
+use Prim.Native.Nat.{ℕ, _+_, _≤_, _<_}
 use native.Mathlib.Omega.{arith}
 use Rattle.channel.specs.declared.Op.{Op}
-use Rattle.channel_outcomes.specs.Rules.{mostAttempts, mostReports, rowOf}
-use Rattle.channel_theorems.specs.History.{Station, Event, ask, Answer, accepted, step, fresh, run, count, aReport, aReportOf, aPriority, anAnswerTo, urgentIn, Kept}
+use Rattle.channel_outcomes.specs.Rules.{mostAttempts, rowOf}
+use Rattle.channel_theorems.specs.History.{Station, Event, ask, Answer, accepted, step, fresh, run, count, aReport, aReportOf, anAnswerTo, KeptWithin}
 use Rattle.area.specs.Lists.{oneIf}
 use Rattle.channel_theorems.proofs.Theorems.Sound.{Sound, limit-most, sound-step, sound-run}
 use Rattle.channel_theorems.proofs.Theorems.Calls.{took}
@@ -55,9 +55,9 @@ limit-at-answer declared before u op priority later e a z =
     let s = count-snoc (aReportOf u) (step (run (fresh declared) before) (ask u op priority) .after) later e in
     (omega arith, limit-most op)
 
--- the same of demand 3: the call e that answers is among the first 101 × (U + P) accepted reports
-pub answered-by : {U u : ℕ} {s d : Station} {later : List Event} → Kept U u s d later → (e : Event) → count (anAnswerTo u) d later ≡ 0
-    → count aReport d (later ++ (e ∷ [])) ≤ mostReports * (U + (urgentIn (s .channel) + count aPriority d later))
+-- the same of demand 3 and of M-112: the call e that answers is among the first accepted reports, as many as the bound says
+pub answered-by : {most u : ℕ} {d : Station} {later : List Event} → KeptWithin most u d later → (e : Event) → count (anAnswerTo u) d later ≡ 0
+    → count aReport d (later ++ (e ∷ [])) ≤ most
 answered-by {d = d} {later = later} k e z =
     let a = k .soon z in
     let b = count-snoc aReport d later e in

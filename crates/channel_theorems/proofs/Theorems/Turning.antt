@@ -16,11 +16,9 @@ use Rattle.channel.specs.declared.Turn.the-variants.{Idle, Waiting, Displaced, 
 use Rattle.channel.specs.declared.Unit.{Unit}
 use Rattle.channel.specs.declared.Channel.{Channel}
 use Rattle.channel.specs.Units.{isWorking, size, idleUnit, unitAt, declaredAt, turnAt, withTurn, isIdle}
-use Rattle.channel_turns.specs.Scans.{waitingAs, standingOf, working, priority, ordinary, beginOf, workingIn, priorityIn, ordinaryIn, Scanned, finds, misses, upward}
+use Rattle.channel_turns.specs.Scans.{waitingAs, standingOf, working, priority, ordinary, beginOf, workingIn, priorityIn, ordinaryIn, Scanned}
+use Rattle.channel_turns.specs.Turns.{isOrdinary, holdsPriority}
 use Rattle.channel.proofs.Laws.Units.{unit-beyond}
-use Rattle.channel_turns.proofs.Laws.Scans.{begin-here}
-use Rattle.area.specs.declared.Found.{Found}
-use Rattle.area.specs.declared.Found.the-variants.{At}
 use Rattle.channel_theorems.proofs.Theorems.Scan.{scan-is, scanned-as}
 
 -- ---- a unit's turn
@@ -44,6 +42,26 @@ worksTurn Idle = false
 worksTurn (Waiting q) = false
 worksTurn (Displaced q) = false
 worksTurn (Working q) = not (q .priority)
+
+-- a priority request that is worked for
+abbrev pub worksPriority : Turn → Bool
+worksPriority Idle = false
+worksPriority (Waiting q) = false
+worksPriority (Displaced q) = false
+worksPriority (Working q) = q .priority
+
+-- by kind: priority requests, or ordinary ones
+abbrev pub heldAs : Bool → Turn → Bool
+heldAs true = holdsPriority
+heldAs false = isOrdinary
+
+abbrev pub wantsAs : Bool → Turn → Bool
+wantsAs true = wantsPriority
+wantsAs false = wantsTurn
+
+abbrev pub worksAs : Bool → Turn → Bool
+worksAs true = worksPriority
+worksAs false = worksTurn
 
 -- the request that a unit holds
 abbrev pub held : Turn → Option Request
@@ -85,42 +103,38 @@ stands-ordinary (Working q) = refl
 
 -- ---- the three scans
 
--- where the scan for ordinary requests begins
-abbrev pub beginIn : Channel → ℕ
-beginIn c = beginOf (size c) (c .mark)
+-- each kind has a mark of its own, at which its scan begins
+abbrev pub markAs : Bool → Channel → ℕ
+markAs true c = c .urgent
+markAs false c = c .mark
+
+abbrev pub beginAs : Bool → Channel → ℕ
+beginAs k c = beginOf (size c) (markAs k c)
 
 pub working-scan : (c : Channel) → Scanned (λ x. isWorking (turnAt c x)) (size c) (beginOf (size c) 0) (workingIn c)
 unfolding workingIn
 working-scan c = scanned-as (λ x. stands-working (turnAt c x)) (scan-is c working 0)
 
-pub priority-scan : (c : Channel) → Scanned (λ x. wantsPriority (turnAt c x)) (size c) (beginOf (size c) 0) (priorityIn c)
+-- "Priority requests are now scanned as ordinary ones are, with a mark of their own on each channel."
+pub priority-scan : (c : Channel) → Scanned (λ x. wantsPriority (turnAt c x)) (size c) (beginAs true c) (priorityIn c)
 unfolding priorityIn
-priority-scan c = scanned-as (λ x. stands-priority (turnAt c x)) (scan-is c priority 0)
+priority-scan c = scanned-as (λ x. stands-priority (turnAt c x)) (scan-is c priority (c .urgent))
 
-pub ordinary-scan : (c : Channel) → Scanned (λ x. wantsTurn (turnAt c x)) (size c) (beginIn c) (ordinaryIn c)
+pub ordinary-scan : (c : Channel) → Scanned (λ x. wantsTurn (turnAt c x)) (size c) (beginAs false c) (ordinaryIn c)
 unfolding ordinaryIn
 ordinary-scan c = scanned-as (λ x. stands-ordinary (turnAt c x)) (scan-is c ordinary (c .mark))
-
--- "Among priority requests the lowest unit goes first."
-pub lowest-first : (c : Channel) (u : ℕ) → priorityIn c ≡ At u
-    → (wantsPriority (turnAt c u) ≡ true) × ((y : ℕ) → y < u → wantsPriority (turnAt c y) ≡ false)
-lowest-first c u e = go (priorityIn c) e (priority-scan c)
-  where
-    go : (f : Found) → f ≡ At u → Scanned (λ x. wantsPriority (turnAt c x)) (size c) (beginOf (size c) 0) f
-        → (wantsPriority (turnAt c u) ≡ true) × ((y : ℕ) → y < u → wantsPriority (turnAt c y) ≡ false)
-    go f q (finds x l t g) =
-        let at : x ≡ u = cc in
-        let low : beginOf (size c) 0 ≡ 0 = begin-here (size c) 0 (omega arith) in (
-          rw (← at) t,
-          λ y h. g y (omega arith) (upward (omega arith) (omega arith)),
-        )
-    go f q (misses g) = absurd (let z : _≡_ {A = ℕ} 0 1 = cc in omega arith)
 
 -- ---- another turn at a unit
 
 pub size-with : (c : Channel) (x : ℕ) (t : Turn) → size (withTurn c x t) ≡ size c
 unfolding withTurn
 size-with c x t = length-set (c .units) x (record { declared = declaredAt c x; turn = t })
+
+-- it leaves both marks
+pub mark-with : (k : Bool) (c : Channel) (x : ℕ) (t : Turn) → markAs k (withTurn c x t) ≡ markAs k c
+unfolding withTurn
+mark-with true c x t = refl
+mark-with false c x t = refl
 
 -- what holds of the changed unit, and of the others as they were, holds of each
 pub at-set : (c : Channel) (x : ℕ) (t : Turn) → x < size c → (P : ℕ → Unit → Type 0)

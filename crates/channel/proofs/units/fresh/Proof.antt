@@ -50,7 +50,7 @@ loop-again c = (
 returns : tie.Need-returns Inv-loop μ-loop
 unfolding freshOf freshWith
 returns c =
-    ap (λ (us : List Unit). record { units = us; mark = 0 })
+    ap (λ (us : List Unit). record { units = us; mark = 0; urgent = 0 })
     (fresh-done (c .before .before .args .mask) unitCount (c .before .loop .units) _ (c .before .loop .i) (c .before .loop .inv .1) (omega arith) (c .before .loop .inv .2))
 
 pub fresh-spec : {M : Type 1} → statement M

@@ -38,11 +38,17 @@ cast-number c = search needs
 number-requires : tie.Need-number-requires Inv-loop μ-loop
 number-requires c κs = search needs
 
-flag-requires : tie.Need-flag-requires Inv-loop μ-loop
-flag-requires c κs = search needs
+cast-number-2 : tie.Need-cast-number-2 Inv-loop μ-loop
+cast-number-2 c = search needs
 
 number-requires-2 : tie.Need-number-requires-2 Inv-loop μ-loop
 number-requires-2 c κs = search needs
+
+flag-requires : tie.Need-flag-requires Inv-loop μ-loop
+flag-requires c κs = search needs
+
+number-requires-3 : tie.Need-number-requires-3 Inv-loop μ-loop
+number-requires-3 c κs = search needs
 
 end-line-requires : tie.Need-end-line-requires Inv-loop μ-loop
 end-line-requires c κs = search needs
@@ -65,7 +71,9 @@ whole-spec =
     loop-again
     cast-number
     number-requires
-    flag-requires
+    cast-number-2
     number-requires-2
+    flag-requires
+    number-requires-3
     end-line-requires
     returns)

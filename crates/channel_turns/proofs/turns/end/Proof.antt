@@ -1,22 +1,58 @@
 -- `end` meets its contract: its definition, of what its callees ensure.
 -- Assumes nothing.
+use mathlib.Core.Path.{sym, _∙_}
+use lib.ListN.{length-map}
+use Rattle.channel.specs.Units.{unitCount}
 use Rattle.channel_turns.specs.Turns.{endOf}
+use Rattle.channel_turns.proofs.Laws.Turns.{mark-after, urgent-after}
 use borrow.Author.Needs.{needs}
 use Rattle.channel_turns.proofs.turns.end.Statement.{statement}
 use Rattle.channel_turns.proofs.turns.end.Tie as tie
 
+turn-of-requires : tie.Need-turn-of-requires
+turn-of-requires c κs = search needs
+
+is-ordinary-requires : tie.Need-is-ordinary-requires
+is-ordinary-requires c κs = search needs
+
+holds-priority-requires : tie.Need-holds-priority-requires
+holds-priority-requires c κs = search needs
+
 with-turn-requires : tie.Need-with-turn-requires
 with-turn-requires c κs = search needs
 
-mark-after-requires : tie.Need-mark-after-requires
-mark-after-requires c κs = search needs
+mark-moved-requires : tie.Need-mark-moved-requires
+mark-moved-requires c κs = search needs
+
+mark-moved-requires-2 : tie.Need-mark-moved-requires-2
+mark-moved-requires-2 c κs = search needs
 
 start-requires : tie.Need-start-requires
 start-requires c κs = search needs
 
 returns : tie.Need-returns
 unfolding endOf
-returns c = rw (c .start .ensures, c .before .before .with-turn .ensures, c .before .mark-after .ensures)
+returns c =
+    let x = c .before .before .before .before .before .before in
+    let long = sym (length-map (x .before .args .c .units) _) ∙ x .before .good .0 .1 .1 .0 .1 .0 .1 in
+    rw (
+      c .start .ensures,
+      c .before .before .before .with-turn .ensures,
+      c .before .before .mark-moved .ensures,
+      c .before .mark-moved2 .ensures,
+      mark-after (x .before .args .c) (x .before .args .unit) unitCount _ _ long (x .turn-of .ensures) (c .before .before .before .before .before .is-ordinary .ensures),
+      urgent-after (x .before .args .c) (x .before .args .unit) unitCount _ _ long (x .turn-of .ensures) (c .before .before .before .before .holds-priority .ensures),
+    )
 
 pub end-spec : {M : Type 1} → statement M
-end-spec = tie.close (tie.spec with-turn-requires mark-after-requires start-requires returns)
+end-spec =
+    tie.close
+    (tie.spec
+    turn-of-requires
+    is-ordinary-requires
+    holds-priority-requires
+    with-turn-requires
+    mark-moved-requires
+    mark-moved-requires-2
+    start-requires
+    returns)

@@ -10,6 +10,9 @@ use Rattle.state_sound.proofs.channels.channel_right.Tie as tie
 cast-mark : tie.Need-cast-mark
 cast-mark c = search needs
 
+cast-urgent : tie.Need-cast-urgent
+cast-urgent c = search needs
+
 units-right-requires : tie.Need-units-right-requires
 units-right-requires c κs = search needs
 
@@ -22,11 +25,11 @@ units-served-requires c κs = search needs
 returns : tie.Need-returns
 unfolding channelRight
 returns c =
-    let long : length (c .before .before .before .before .before .args .c .units) ≡ unitCount =
-    sym (length-map (c .before .before .before .before .before .args .c .units) _) ∙ c .before .before .before .before .before .good .1 .1 .1 .1 .0 .1 .1 .0 .1 .0 .1 in
+    let x = c .before .before .before .before .before .before in
+    let long : length (x .args .c .units) ≡ unitCount = sym (length-map (x .args .c .units) _) ∙ x .good .1 .1 .1 .1 .0 .1 .1 .0 .1 .0 .1 in
     simp (long, c .before .before .units-right .ensures, c .before .works-right .ensures, c .units-served .ensures)
 
 pub channel-right-spec : {M : Type 1} → statement M
 channel-right-spec =
     tie.close
-    (tie.spec cast-mark units-right-requires works-right-requires units-served-requires returns)
+    (tie.spec cast-mark cast-urgent units-right-requires works-right-requires units-served-requires returns)
