@@ -11,3 +11,4 @@ pub mod Bools
 pub mod Numbered
 pub mod Exactly
 pub mod Masks
+pub mod Maps

@@ -28,7 +28,7 @@ use Rattle.state_sound.proofs.Facts.{sound-facts, facts-sound}
 use Rattle.state_sound.proofs.Wholes.{freeze-kept as freeze-facts, thaw-kept as thaw-facts}
 use Rattle.pack_start.specs.Freeze.{stateRows, stateRefusal, frozenState, thawedState, freezeBy, thawBy}
 use Rattle.state.proofs.Answered.{not-so, state-refused, state-accepted}
-use Rattle.pack_start.proofs.Maps.{map-twice}
+use Rattle.area.proofs.Maps.{map-twice}
 
 module _ (s : State) where
   -- refused with a number exactly if its row applies and none with a lower number does

@@ -1,3 +1,2 @@
 pub mod FreshTheorems
-pub mod Maps
 pub mod FreezeTheorems

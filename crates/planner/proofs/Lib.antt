@@ -1,4 +1,3 @@
-pub mod Maps
 pub mod Faults
 pub mod Turns
 pub mod Rises

@@ -7,7 +7,7 @@ use native.Mathlib.Omega.{arith}
 use lib.ListN.{length, take, drop, length-set, length-map}
 use Rattle.channel_turns.specs.Starts.{thawOf}
 use Rattle.state.specs.Places.{channelCount}
-use Rattle.pack_start.proofs.Maps.{map-step, map-done}
+use Rattle.area.proofs.Maps.{map-step, map-done}
 use borrow.Author.Needs.{needs}
 use Rattle.pack_start.proofs.freeze_thaw.all_started.Statement.{statement}
 use Rattle.pack_start.proofs.freeze_thaw.all_started.Tie as tie
