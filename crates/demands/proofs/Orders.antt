@@ -201,7 +201,7 @@ reportAct wrong file f channel c u outcome w frozen area words =
     let x = reportOn wrong f c u outcome w frozen area words in
     record {
       refusal = x .refusal;
-      added = reported (x .result) (x .error) (x .working);
+      added = reported (x .result) (x .delivery) (x .working);
       start = x .start;
       count = x .count;
       file = file;

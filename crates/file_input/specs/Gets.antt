@@ -70,13 +70,6 @@ gotNumber End = 2
 gotNumber (Error c) = 3
 gotNumber (Leftover start n) = 4
 
-abbrev pub gotError : Got → ℕ
-gotError (Record start n) = 0
-gotError Nothing = 0
-gotError End = 0
-gotError (Error c) = c .error
-gotError (Leftover start n) = 0
-
 -- "get's answer 03 carr[ies] them as found at delivery, after the error number"; zero with any other answer
 abbrev pub gotFound : Got → Checked
 gotFound (Record start n) = unchecked

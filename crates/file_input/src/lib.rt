@@ -16,7 +16,7 @@ pub use delivers::took_buffer;
 use file::File;
 pub use gets::get;
 pub use shows::got_count;
-pub use shows::got_error;
+pub use shows::got_found;
 pub use shows::got_number;
 pub use shows::got_start;
 use word::Checked;

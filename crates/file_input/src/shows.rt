@@ -1,7 +1,9 @@
 // Document 01's number and values for each answer of get.
 use crate::Got;
+use word::Checked;
+use word::not_checked;
 ghost use mathlib.Core.Path.{_≡_};
-ghost use Rattle.file_input.specs.Gets.{gotNumber, gotError, gotStart, gotWords};
+ghost use Rattle.file_input.specs.Gets.{gotNumber, gotFound, gotStart, gotWords};
 
 // The number of an answer.
 pub fn got_number(g: Got) -> u8
@@ -16,16 +18,16 @@ pub fn got_number(g: Got) -> u8
     }
 }
 
-// The check error that an answer tells.
-pub fn got_error(g: Got) -> u8
-    ensures { λ r. ⌜ r ≡ gotError g ⌝ }
+// What was found of the block whose check error an answer tells; all zero for any other.
+pub fn got_found(g: Got) -> Checked
+    ensures { λ r. ⌜ r ≡ gotFound g ⌝ }
 {
     match g {
-        Got::Record { start: _, words: _ } => 0,
-        Got::Leftover { start: _, words: _ } => 0,
-        Got::Error(c) => c.error,
-        Got::End => 0,
-        Got::Nothing => 0,
+        Got::Record { start: _, words: _ } => not_checked(),
+        Got::Leftover { start: _, words: _ } => not_checked(),
+        Got::Error(found) => found,
+        Got::End => not_checked(),
+        Got::Nothing => not_checked(),
     }
 }
 

@@ -12,7 +12,7 @@ pub use call_request::Delivery;
 pub use file::File;
 pub use file_input::Got;
 pub use file_input::got_count;
-pub use file_input::got_error;
+pub use file_input::got_found;
 pub use file_input::got_number;
 pub use file_input::got_start;
 pub use pack_open::close;
@@ -76,7 +76,11 @@ pub enum AnyCall {
 pub enum Adds {
     Nothing,
     Working(u8),
-    Reported { result: u8, delivery: Delivery, working: u8 },
+    Reported {
+        result: u8,
+        delivery: Delivery,
+        working: u8,
+    },
     Found(Got),
 }
 

@@ -3,10 +3,10 @@
 mod calls;
 mod changes;
 
+use call_request::Delivery;
 pub use calls::ask;
 pub use calls::report;
 pub use calls::reported_words;
-use call_request::Delivery;
 use state::State;
 
 // The answer to an ask: the refusal, 0 for none; the channel's working unit after the call, 255 for none; the state after it.

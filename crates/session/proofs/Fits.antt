@@ -14,7 +14,7 @@ use Rattle.session_frame.proofs.Laws.Backs.{answer-longest, answer-fits}
 use Rattle.file.specs.declared.Side.{Side}
 use Rattle.file.specs.declared.Side.the-variants.{Neither}
 use Rattle.file.specs.declared.File.{File}
-use Rattle.file.specs.Slots.{fullWords, fullPlace, fullError}
+use Rattle.file.specs.Slots.{fullWords, fullPlace, fullError, fullFound}
 use Rattle.file.specs.Sides.{slotAt, startAt, isSide, oldest}
 use Rattle.word.specs.CheckWords.{extra}
 use Rattle.file_output.specs.Sends.{sendWords}
@@ -75,7 +75,7 @@ module _ (m w : ℕ) (f : File) (S : Sound m w f) where
       go (isSide (oldest f)) (ltb 0 (fullError (slotAt f (oldest f)))) (leb (f .rlen) (wordsLeft (slotAt f (oldest f)))) (f .marked) refl
     where
       go : (a e t q : Bool) → leb (f .rlen) (wordsLeft (slotAt f (oldest f))) ≡ t
-          → gotWords (cond a (cond e (Error (fullError (slotAt f (oldest f))))
+          → gotWords (cond a (cond e (Error (fullFound (slotAt f (oldest f))))
           (cond t (Record (startAt f w (oldest f) + fullPlace (slotAt f (oldest f))) (f .rlen)) (Leftover (startAt f w (oldest f) + fullPlace (slotAt f (oldest f))) (wordsLeft (slotAt f (oldest f))))))
           (cond q End Nothing)) ≤ w
       go true true t q h = omega arith

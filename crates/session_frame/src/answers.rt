@@ -11,19 +11,8 @@ ghost use Rattle.area.specs.Parts.{paste, pastedIn};
 ghost use Rattle.session_frame.specs.Digits.{digitOf, byteDigits, concatMap};
 ghost use Rattle.session_frame.specs.Fields.{wordDigits};
 ghost use Rattle.session_frame.specs.Writes.{placeAfter};
-ghost use mathlib.Core.Bool.{false};
 ghost use Rattle.session_frame.specs.Leads.{briefLead, fullLead, leadOf, shownOf};
 ghost use Rattle.session_frame.specs.Answers.{answerText};
-
-// Whether n characters fit from a place on, of `len` that there are.
-fn has_room(len: usize, at: usize, n: usize) -> bool
-    ensures { λ r. ⌜ r ≡ leb (at + n) len ⌝ }
-{
-    if len < at {
-        return false;
-    }
-    n <= len - at
-}
 
 // Whether n words of ten characters fit.
 fn words_fit(len: usize, at: usize, n: usize) -> bool
@@ -77,19 +66,6 @@ fn write_word(out: &mut [u8], at: usize, w: u64)
     write_byte(out, at + 8, low(w));
 }
 
-// A word of five bytes: ten digits. What is above 40 bits is not written.
-fn put_word(out: &mut [u8], at: usize, w: u64) -> usize
-    ensures { λ r. ⌜ r ≡ placeAfter at (wordDigits w) (now (out .entry)) ⌝ }
-    ensures { λ _. ⌜ now (out .exit) ≡ pastedIn at (wordDigits w) (now (out .entry)) ⌝ }
-{
-    let room = has_room(out.len(), at, 10);
-    if room {
-        write_word(out, at, w);
-        return at + 10;
-    }
-    at
-}
-
 // All words, one after the other, if all fit.
 fn put_words(out: &mut [u8], at: usize, words: &[u64]) -> usize
     ensures { λ r. ⌜ r ≡ placeAfter at (concatMap wordDigits (now (words .entry))) (now (out .entry)) ⌝ }
@@ -113,9 +89,7 @@ fn put_words(out: &mut [u8], at: usize, words: &[u64]) -> usize
 fn brief(count: usize, first: u8, second: u8, fourth: u8, worded: bool) -> Lead
     ensures { λ r. ⌜ r ≡ briefLead count first second fourth worded ⌝ }
 {
-    let bytes = [
-        first, second, 0, fourth, 0, 0, 0, 0, 0, 0, 0, 0, 0, 0, 0, 0,
-    ];
+    let bytes = [first, second, 0, fourth, 0, 0, 0, 0, 0, 0, 0, 0, 0, 0, 0, 0];
     Lead {
         count,
         bytes,

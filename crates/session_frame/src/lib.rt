@@ -82,15 +82,27 @@ pub enum Answer {
     // a call whose answer adds nothing
     Done,
     // ask: the unit that the channel works for
-    Asked { working: u8 },
+    Asked {
+        working: u8,
+    },
     // report that delivers no block: its result, the unit that the channel works for; words if it ends a write
-    Reported { result: u8, working: u8 },
+    Reported {
+        result: u8,
+        working: u8,
+    },
     // report that delivers a block: its result, what the check found, the unit that the channel works for
-    Delivered { result: u8, found: Checked, working: u8 },
+    Delivered {
+        result: u8,
+        found: Checked,
+        working: u8,
+    },
     // get: the number of what it found, and its words
     Got(u8),
     // get: the number of a check error, and what the check found
-    GotError { number: u8, found: Checked },
+    GotError {
+        number: u8,
+        found: Checked,
+    },
 }
 
 // The most bytes of an answer ahead of its words: a report that delivers a block.

@@ -90,8 +90,13 @@ unchecked-is c h =
     let rest = and-right (eqb (c .error) 0) _ h in
     let due = and-left (eqb (c .sum) 0 && eqb (c .number) 0) _ rest in
     let read = and-right (eqb (c .sum) 0 && eqb (c .number) 0) _ rest in
-    rw (eqb-true (c .error) 0 (and-left _ _ h), eqb-true (c .sum) 0 (and-left _ _ due), eqb-true (c .number) 0 (and-right (eqb (c .sum) 0) _ due),
-    eqb-true (c .sumread) 0 (and-left _ _ read), eqb-true (c .numberread) 0 (and-right (eqb (c .sumread) 0) _ read))
+    rw (
+      eqb-true (c .error) 0 (and-left _ _ h),
+      eqb-true (c .sum) 0 (and-left _ _ due),
+      eqb-true (c .number) 0 (and-right (eqb (c .sum) 0) _ due),
+      eqb-true (c .sumread) 0 (and-left _ _ read),
+      eqb-true (c .numberread) 0 (and-right (eqb (c .sumread) 0) _ read),
+    )
 
 -- what has no error to be told stands as it is
 pub told-none : (c : Checked) → c .error ≡ 0 → toldCheck c ≡ c

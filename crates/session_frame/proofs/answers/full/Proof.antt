@@ -55,18 +55,20 @@ low-requires-12 c κs = search needs
 returns : tie.Need-returns
 unfolding sumBytes sizeBytes
 returns c =
-    rw (c .before .before .before .before .before .before .before .before .before .before .before .low .ensures,
-    c .before .before .before .before .before .before .before .before .before .before .low2 .ensures,
-    c .before .before .before .before .before .before .before .before .before .low3 .ensures,
-    c .before .before .before .before .before .before .before .before .low4 .ensures,
-    c .before .before .before .before .before .before .before .low5 .ensures,
-    c .before .before .before .before .before .before .low6 .ensures,
-    c .before .before .before .before .before .low7 .ensures,
-    c .before .before .before .before .low8 .ensures,
-    c .before .before .before .low9 .ensures,
-    c .before .before .low10 .ensures,
-    c .before .low11 .ensures,
-    c .low12 .ensures)
+    rw (
+      c .before .before .before .before .before .before .before .before .before .before .before .low .ensures,
+      c .before .before .before .before .before .before .before .before .before .before .low2 .ensures,
+      c .before .before .before .before .before .before .before .before .before .low3 .ensures,
+      c .before .before .before .before .before .before .before .before .low4 .ensures,
+      c .before .before .before .before .before .before .before .low5 .ensures,
+      c .before .before .before .before .before .before .low6 .ensures,
+      c .before .before .before .before .before .low7 .ensures,
+      c .before .before .before .before .low8 .ensures,
+      c .before .before .before .low9 .ensures,
+      c .before .before .low10 .ensures,
+      c .before .low11 .ensures,
+      c .low12 .ensures,
+    )
 
 pub full-spec : {M : Type 1} → statement M
 full-spec =

@@ -23,8 +23,13 @@ cast-result c = search needs
 
 returns : tie.Need-returns
 returns c =
-    simp (c .before .before .before .before .before .sizes-fit .ensures, c .before .before .before .is-checked .ensures, c .before .before .before .before .full-found .ensures,
-    c .before .is-checked2 .ensures, c .before .before .full-found2 .ensures)
+    simp (
+      c .before .before .before .before .before .sizes-fit .ensures,
+      c .before .before .before .is-checked .ensures,
+      c .before .before .before .before .full-found .ensures,
+      c .before .is-checked2 .ensures,
+      c .before .before .full-found2 .ensures,
+    )
 
 pub in-range-spec : {M : Type 1} → statement M
 in-range-spec =
