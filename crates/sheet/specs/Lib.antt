@@ -1,0 +1,4 @@
+pub mod Rows
+pub mod Events
+pub mod Sheet
+pub mod Desks
