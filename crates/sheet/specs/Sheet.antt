@@ -61,6 +61,6 @@ sheetFrom rows differs = record { differs = differs; rows = take mostListed rows
 -- "Frames count from 1."; the session begins before the first fresh start with an area of zeros
 unfoldable pub sheetOf : List ℕ → List ℕ → Sheet
 sheetOf session answers =
-    let zeros = replicate areaWords 0 in
+    let zeros = replicate {A = ℕ} areaWords 0 in
     sheetFrom (requests 1 (eventsOf beforeStart zeros (linesOf session)))
     (firstDiffers 1 (answersOf beforeStart zeros (linesOf session)) (linesOf answers))
