@@ -27,7 +27,7 @@ use Rattle.sheet.specs.declared.Taken.{Taken}
 use Rattle.sheet.specs.Events.{eventOf}
 use Rattle.sheet.specs.Rows.{mostListed, mostCount, next, newRow, rowAfter, listedWith, rowIn, listedAfter}
 use Rattle.sheet.specs.Sheet.{sameBytes}
-use Rattle.sheet.specs.Desks.{lineAfter, playedDesk, withSession, withRecorded, withOver, withDone, judged, comparedDesk, missingDesk, extraDesk, asksNoLine, asksNoAnswer, Sat, takenOf, satWith, playedSat, steppedSat, sessionPart, overSat, sessionEnd, takenWith, answersStep, answersPart, answersRoom, answersEnd}
+use Rattle.sheet.specs.Desks.{lineAfter, followedDesk, playedDesk, withSession, withRecorded, withOver, withDone, judged, comparedDesk, missingDesk, extraDesk, asksNoLine, asksNoAnswer, Sat, takenOf, satWith, playedSat, steppedSat, sessionPart, overSat, sessionEnd, takenWith, answersStep, answersPart, answersRoom, answersEnd}
 
 -- ---- two texts side by side
 
@@ -105,15 +105,18 @@ playedWith d s k differs n listed line =
       listed = listed;
     }
 
+pub followed-is : (d : Desk) (s : State) (e : Event) (n k : ℕ) → k ≡ next (d .frames) → (listed : Listed) → listed ≡ listedAfter e k (d .listed)
+    → (differs : ℕ) → differs ≡ cond (eqb (d .differs) 0 && d .done) k (d .differs) → (m : ℕ) → m ≡ n - 1 → (none : Line) → none ≡ noLine
+    → playedWith d s k differs m listed none ≡ followedDesk d s e n
+unfolding followedDesk
+followed-is d s e n k ek listed el differs ed m em none ez = rw (el, ed, em, ez, ek)
+
 pub played-is : (d : Desk) (x : After) (line : List ℕ) (f : Frame) → f ≡ frameOf line
     → (s : State) (n : ℕ) (area words out : List ℕ) → s ≡ x .state → n ≡ x .length → area ≡ x .area → words ≡ x .words → out ≡ x .out
-    → (text : List ℕ) → text ≡ take n out → (e : Event) → e ≡ eventOf (d .state) f text → (k : ℕ) → k ≡ next (d .frames)
-    → (listed : Listed) → listed ≡ listedAfter e k (d .listed)
-    → (differs : ℕ) → differs ≡ cond (eqb (d .differs) 0 && d .done) k (d .differs) → (m : ℕ) → m ≡ n - 1 → (none : Line) → none ≡ noLine
-    → (playedWith d s k differs m listed none ≡ playedDesk d (frameOf line) x) × ((area ≡ x .area) × ((words ≡ x .words) × (out ≡ x .out)))
+    → (text : List ℕ) → text ≡ take n out → (e : Event) → e ≡ eventOf (d .state) f text → (t : Desk) → t ≡ followedDesk d s e n
+    → (t ≡ playedDesk d (frameOf line) x) × ((area ≡ x .area) × ((words ≡ x .words) × (out ≡ x .out)))
 unfolding playedDesk
-played-is d x line f ef s n area words out es en ea ew eo text et e ee k ek listed el differs ed m em none ez =
-    (rw (es, el, ed, em, ez, ee, et, en, eo, ek, ef), (ea, (ew, eo)))
+played-is d x line f ef s n area words out es en ea ew eo text et e ee t ed = (rw (ed, es, ee, et, en, eo, ef), (ea, (ew, eo)))
 
 -- ---- what becomes of the answer that waits
 

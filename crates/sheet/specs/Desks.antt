@@ -10,10 +10,12 @@ use Rattle.session_frame.specs.Frames.{longest, frameOf}
 use Rattle.session_line.specs.declared.Line.{Line}
 use Rattle.session_line.specs.declared.Step.{Step}
 use Rattle.session_line.specs.Machine.{noLine, hasBegun, stepOf, roomOf}
+use Rattle.state.specs.declared.State.{State}
 use Rattle.state.specs.Places.{beforeStart}
 use Rattle.session_reply.specs.Replies.{answerTo}
 use Rattle.session.specs.Rooms.{mostWords, mostText, After, afterLine}
 use Rattle.session.specs.Player.{heldText}
+use Rattle.sheet.specs.declared.Event.{Event}
 use Rattle.sheet.specs.declared.Desk.{Desk}
 use Rattle.sheet.specs.declared.Taken.{Taken}
 use Rattle.sheet.specs.Events.{eventOf}
@@ -42,22 +44,25 @@ newDesk =
 abbrev pub lineAfter : Desk → List ℕ → List ℕ → List ℕ → List ℕ → After
 lineAfter d area line words out = afterLine (answerTo (d .state) area line) (d .state) area line words out
 
--- the desk after it: one frame more, its event followed; its answer waits for its recorded line, or differs at once if there are no more
-unfoldable pub playedDesk : Desk → Frame → After → Desk
-playedDesk d f x =
+-- the desk after the next frame: its event followed; its answer waits for its recorded line, or differs at once if there are no more
+unfoldable pub followedDesk : Desk → State → Event → ℕ → Desk
+followedDesk d s e n =
     let k = next (d .frames) in
     record {
-      state = x .state;
+      state = s;
       session = noLine;
       recorded = d .recorded;
       frames = k;
       differs = cond (eqb (d .differs) 0 && d .done) k (d .differs);
       waits = eqb (d .differs) 0 && not (d .done);
-      length = x .length - 1;
+      length = n - 1;
       over = d .over;
       done = d .done;
-      listed = listedAfter (eventOf (d .state) f (take (x .length) (x .out))) k (d .listed);
+      listed = listedAfter e k (d .listed);
     }
+
+unfoldable pub playedDesk : Desk → Frame → After → Desk
+playedDesk d f x = followedDesk d (x .state) (eventOf (d .state) f (take (x .length) (x .out))) (x .length)
 
 -- ---- the desk with one thing changed
 

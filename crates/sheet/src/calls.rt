@@ -1,6 +1,7 @@
 // The calls on a desk: parts of the session and of the recorded answers, and their ends. A line of the session is answered, and then its recorded
 // line is asked for: `waits` says so. What is not asked for is not taken: the place stays.
 use crate::Desk;
+use crate::Event;
 use crate::Taken;
 use crate::events::event_of;
 use crate::lines::front;
@@ -19,11 +20,12 @@ use session_line::Line;
 use session_line::has_begun;
 use session_line::next_line;
 use session_line::no_line;
+use state::State;
 use state::before_start;
 ghost use mathlib.Core.Path.{_≡_};
 ghost use Prim.Native.Nat.{_-_};
 ghost use Rattle.session_frame.specs.Frames.{frameOf};
-ghost use Rattle.sheet.specs.Desks.{newDesk, lineAfter, playedDesk, withSession, withRecorded, withOver, withDone, comparedDesk, missingDesk, extraDesk, asksNoLine, asksNoAnswer, takenOf, sessionPart, sessionEnd, answersPart, answersRoom, answersEnd};
+ghost use Rattle.sheet.specs.Desks.{newDesk, lineAfter, followedDesk, playedDesk, withSession, withRecorded, withOver, withDone, comparedDesk, missingDesk, extraDesk, asksNoLine, asksNoAnswer, takenOf, sessionPart, sessionEnd, answersPart, answersRoom, answersEnd};
 
 // A desk on which nothing has come.
 pub fn new_desk() -> Desk
@@ -56,25 +58,17 @@ fn one_less(n: usize) -> usize
     n - 1
 }
 
-// Plays a line of the session, which is the next frame: its event is followed, and its answer, in `out`, waits for its recorded line. If the
-// recorded answers have ended it differs.
-fn played(d: Desk, area: &mut [u64], line: &[u8], words: &mut [u64], out: &mut [u8]) -> Desk
-    ensures { λ r. ⌜ r ≡ playedDesk d (frameOf (now (line .entry))) (lineAfter d (now (area .entry)) (now (line .entry)) (now (words .entry)) (now (out .entry))) ⌝ }
-    ensures { λ _. ⌜ now (area .exit) ≡ lineAfter d (now (area .entry)) (now (line .entry)) (now (words .entry)) (now (out .entry)) .area ⌝ }
-    ensures { λ _. ⌜ now (words .exit) ≡ lineAfter d (now (area .entry)) (now (line .entry)) (now (words .entry)) (now (out .entry)) .words ⌝ }
-    ensures { λ _. ⌜ now (out .exit) ≡ lineAfter d (now (area .entry)) (now (line .entry)) (now (words .entry)) (now (out .entry)) .out ⌝ }
+// The desk after the next frame, whose event is e, whose answer has `length` characters with its line feed, and after which the state is `state`: the
+// requests are followed, and the answer waits for its recorded line. If the recorded answers have ended it differs.
+fn followed(d: Desk, state: State, e: Event, length: usize) -> Desk
+    ensures { λ r. ⌜ r ≡ followedDesk d state e length ⌝ }
 {
-    let s = d.state;
-    let f = frame_of(line);
-    let r = answer_line(s, area, line, words, out);
-    let e = event_of(s, f, front(&out[..], r.length));
     let k = next_number(d.frames);
     let before = d.listed;
     let listed = listed_after(before, e, k);
     let missing = (d.differs == 0) & d.done;
     let differs = pick(missing, k, d.differs);
-    let length = one_less(r.length);
-    let state = r.state;
+    let shorter = one_less(length);
     let session = no_line();
     let recorded = d.recorded;
     Desk {
@@ -84,11 +78,27 @@ fn played(d: Desk, area: &mut [u64], line: &[u8], words: &mut [u64], out: &mut [
         frames: k,
         differs,
         waits: (d.differs == 0) & !d.done,
-        length,
+        length: shorter,
         over: d.over,
         done: d.done,
         listed,
     }
+}
+
+// Plays a line of the session, which is the next frame; its answer stays in `out`.
+fn played(d: Desk, area: &mut [u64], line: &[u8], words: &mut [u64], out: &mut [u8]) -> Desk
+    ensures { λ r. ⌜ r ≡ playedDesk d (frameOf (now (line .entry))) (lineAfter d (now (area .entry)) (now (line .entry)) (now (words .entry)) (now (out .entry))) ⌝ }
+    ensures { λ _. ⌜ now (area .exit) ≡ lineAfter d (now (area .entry)) (now (line .entry)) (now (words .entry)) (now (out .entry)) .area ⌝ }
+    ensures { λ _. ⌜ now (words .exit) ≡ lineAfter d (now (area .entry)) (now (line .entry)) (now (words .entry)) (now (out .entry)) .words ⌝ }
+    ensures { λ _. ⌜ now (out .exit) ≡ lineAfter d (now (area .entry)) (now (line .entry)) (now (words .entry)) (now (out .entry)) .out ⌝ }
+{
+    let s = d.state;
+    let f = frame_of(line);
+    let r = answer_line(s, area, line, words, out);
+    let length = r.length;
+    let e = event_of(s, f, front(&out[..], length));
+    let state = r.state;
+    followed(d, state, e, length)
 }
 
 // The desk with what has begun of a line of the session.

@@ -1,7 +1,7 @@
 -- `sheet::events::event_of` meets its contract, a case each. Assumes nothing.
-use mathlib.Core.Path.{_∙_, ap, ap₂}
+use mathlib.Core.Path.{sym, _∙_, ap}
 use mathlib.Core.Bool.{Bool}
-use Rattle.sheet.specs.Events.{askEvent, reportEvent, startEvent}
+use Rattle.sheet.specs.Events.{startEvent}
 use borrow.Author.Needs.{needs}
 use Rattle.sheet.proofs.events.event_of.Statement.{statement}
 use Rattle.sheet.proofs.events.event_of.Tie as tie
@@ -97,10 +97,10 @@ returns-4 : tie.Need-returns-4
 returns-4 c = rw (c .before .enum-told4 .given .1) (c .no-event3 .ensures)
 
 returns-5 : tie.Need-returns-5
-returns-5 c = rw (c .before .before .f .given .1) (c .ask-event .ensures ∙ ap (λ (b : Bool). askEvent (c .before .before .before .before .before .before .before .args .s) _ b) (c .before .before .before .before .before .is-zero .ensures))
+returns-5 c = rw (c .before .before .f .given .1, sym (c .before .before .before .before .before .is-zero .ensures)) (c .ask-event .ensures)
 
 returns-6 : tie.Need-returns-6
-returns-6 c = rw (c .before .before .f2 .given .1) (c .report-event .ensures ∙ ap₂ (λ (a b : Bool). reportEvent _ a b) (c .before .before .before .before .before .is-zero .ensures) (c .before .before .before .before .is-zero2 .ensures))
+returns-6 c = rw (c .before .before .f2 .given .1, sym (c .before .before .before .before .before .is-zero .ensures), sym (c .before .before .before .before .is-zero2 .ensures)) (c .report-event .ensures)
 
 returns-7 : tie.Need-returns-7
 returns-7 c = rw (c .before .enum-told5 .given .1) (c .no-event4 .ensures)
