@@ -18,7 +18,6 @@ use Rattle.session_line.specs.declared.Step.{Step}
 use Rattle.session_line.specs.Machine.{noLine, hasBegun, stepOf, roomOf}
 use Rattle.state.specs.declared.State.{State}
 use Rattle.session.specs.Rooms.{After}
-use Rattle.session.specs.Player.{heldText}
 use Rattle.sheet.specs.declared.Event.{Event}
 use Rattle.sheet.specs.declared.Row.{Row}
 use Rattle.sheet.specs.declared.Listed.{Listed}
@@ -27,7 +26,7 @@ use Rattle.sheet.specs.declared.Taken.{Taken}
 use Rattle.sheet.specs.Events.{eventOf}
 use Rattle.sheet.specs.Rows.{mostListed, mostCount, next, newRow, rowAfter, listedWith, rowIn, listedAfter}
 use Rattle.sheet.specs.Sheet.{sameBytes}
-use Rattle.sheet.specs.Desks.{lineAfter, followedDesk, playedDesk, withSession, withRecorded, withOver, withDone, judged, comparedDesk, missingDesk, extraDesk, asksNoLine, asksNoAnswer, Sat, takenOf, satWith, playedSat, steppedSat, sessionPart, overSat, sessionEnd, takenWith, answersStep, answersPart, answersRoom, answersEnd}
+use Rattle.sheet.specs.Desks.{heldText, lineAfter, followedDesk, playedDesk, withSession, withRecorded, withOver, withDone, judged, comparedDesk, missingDesk, extraDesk, asksNoLine, asksNoAnswer, Sat, takenOf, satWith, playedSat, steppedSat, sessionPart, overSat, sessionEnd, takenWith, answersStep, answersPart, answersRoom, answersEnd}
 
 -- ---- two texts side by side
 

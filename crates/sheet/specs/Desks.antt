@@ -2,7 +2,7 @@
 -- session and the recorded answers are cut. Assumes nothing.
 use Prim.Native.Nat.{ℕ, _-_}
 use mathlib.Core.Bool.{Bool, true, false, not, cond, _&&_, _||_}
-use mathlib.Core.List.{List}
+use mathlib.Core.List.{List, []}
 use lib.Dec.{eqb, ltb}
 use lib.ListN.{length, take, drop}
 use Rattle.session_frame.specs.declared.Frame.{Frame}
@@ -14,7 +14,6 @@ use Rattle.state.specs.declared.State.{State}
 use Rattle.state.specs.Places.{beforeStart}
 use Rattle.session_reply.specs.Replies.{answerTo}
 use Rattle.session.specs.Rooms.{mostWords, mostText, After, afterLine}
-use Rattle.session.specs.Player.{heldText}
 use Rattle.sheet.specs.declared.Event.{Event}
 use Rattle.sheet.specs.declared.Desk.{Desk}
 use Rattle.sheet.specs.declared.Taken.{Taken}
@@ -37,6 +36,11 @@ newDesk =
       done = false;
       listed = noneListed;
     }
+
+-- the line that stands in its room: nothing is kept of an overlong one, and the empty line stands for it: of a session it is malformed too, and
+-- no answer is empty
+unfoldable pub heldText : Line → List ℕ → List ℕ
+heldText line room = cond (line .overlong) [] (take (line .filled) room)
 
 -- ---- a line of the session
 

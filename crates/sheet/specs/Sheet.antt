@@ -1,6 +1,8 @@
 -- The adjudication sheet (document 02, M-113): "takes a recorded session and its answers, plays the session afresh, and names the first frame whose
 -- answer differs. Then for every accepted request it prints .." Assumes nothing.
-use Prim.Native.Nat.{ℕ, _-_}
+use Prim.Native.Nat.{ℕ, zero, suc, _+_, _-_}
+use mathlib.Core.Path.{_≡_}
+use mathlib.Core.Option.{Option, none, some}
 use mathlib.Core.Bool.{Bool, true, false, cond, _&&_}
 use mathlib.Core.List.{List, [], _∷_}
 use lib.Dec.{eqb, ltb}
@@ -46,6 +48,17 @@ firstDiffers k [] [] = 0
 firstDiffers k [] (r ∷ rs) = k
 firstDiffers k (a ∷ rest) [] = k
 firstDiffers k (a ∷ rest) (r ∷ rs) = cond (sameBytes a r) (firstDiffers (next k) rest rs) k
+
+-- the line in place i, if there is one
+unfoldable pub lineAt : ℕ → List (List ℕ) → Option (List ℕ)
+lineAt i [] = none
+lineAt zero (l ∷ ls) = some l
+lineAt (suc i) (l ∷ ls) = lineAt i ls
+
+-- what the number says, of frames that count from k: all lines are the same; or those before are, and that one differs, is missing or is extra
+pub data Differs (k : ℕ) (answers recorded : List (List ℕ)) : ℕ → Type 0 where
+  agree : answers ≡ recorded → Differs k answers recorded 0
+  differ : (i : ℕ) → take i answers ≡ take i recorded → (lineAt i answers ≡ lineAt i recorded → ⊥) → Differs k answers recorded (k + i)
 
 -- ---- the sheet
 

@@ -2,7 +2,7 @@
 use session_line::Line;
 ghost use mathlib.Core.Path.{_≡_};
 ghost use lib.ListN.{take};
-ghost use Rattle.session.specs.Player.{heldText};
+ghost use Rattle.sheet.specs.Desks.{heldText};
 ghost use Rattle.sheet.specs.Sheet.{sameBytes};
 
 // The first n characters, or all.

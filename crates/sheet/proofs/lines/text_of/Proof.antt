@@ -1,7 +1,7 @@
 -- `sheet::lines::text_of` meets its contract, branch by branch. Assumes nothing.
 use mathlib.Core.Path.{sym, _∙_}
 use Rattle.area.proofs.Marks.{cond-true, cond-false}
-use Rattle.session.specs.Player.{heldText}
+use Rattle.sheet.specs.Desks.{heldText}
 use borrow.Author.Needs.{needs}
 use Rattle.sheet.proofs.lines.text_of.Statement.{statement}
 use Rattle.sheet.proofs.lines.text_of.Tie as tie
