@@ -85,22 +85,30 @@ function frameText(s,    kind, n) {
 
 # ---- answers
 
-function refusal(n) {
-    if (n == 1) return "an argument is outside its range, or the frame is malformed"
-    if (n == 2) return "a word is 2^36 or more"
+# The sentence of the refusal table; of 9 the part for this frame.
+function noBuffer(frame,    kind) {
+    kind = byte(frame, 0)
+    if (kind == 6) return "no part-filled or empty buffer"
+    if (kind == 7) return "no part-filled buffer"
+    return kind == 3 && byte(frame, 2) == 0 ? "no empty buffer" : "no full buffer"
+}
+
+function refusal(n, frame) {
+    if (n == 1) return "an argument is outside its range, the area is short, words come with a report that may have none, or the frame is malformed"
+    if (n == 2) return "a given word, or a buffer word that the call sums or hands out, is 2^36 or more"
     if (n == 3) return "the unit is not declared"
-    if (n == 4) return "the file is open already, or the unit is bound"
+    if (n == 4) return "the file number is open already, or the unit is already bound"
     if (n == 5) return "the file is not open"
-    if (n == 6) return "the file has the other direction"
-    if (n == 7) return "fewer buffers are free than asked for"
+    if (n == 6) return "wrong direction: read, get, skip on an output file; write, mark, put, seal on an input file"
+    if (n == 7) return "fewer free buffers than the one or two asked for"
     if (n == 8) return "the file's unit has an unanswered request"
-    if (n == 9) return "there is no buffer for that: none empty, full or part-filled as the call needs it"
+    if (n == 9) return noBuffer(frame)
     if (n == 10) return "a file mark has been read since the open"
     if (n == 11) return "the channel is not working for that unit"
-    if (n == 12) return "that outcome is not allowed for the operation"
+    if (n == 12) return "the outcome is not allowed for the operation"
     if (n == 13) return "a size does not fit"
     if (n == 15) return "an output buffer is part-filled or full"
-    return "no refusal of the rules"
+    return "no refusal of the table"
 }
 
 function worksFor(u) { return u == 255 ? "the channel works for nobody now" : "the channel works for unit " u }
@@ -116,7 +124,7 @@ function foundText(s, at) { return "; worked out: sum " (65536 * size(s, at) + s
 function answerText(frame, s,    n, kind, result, found) {
     if (!isText(s) || length(s) == 0) return ""
     n = length(s) / 2
-    if (byte(s, 0) != 0) return n == 1 ? "refused, " byte(s, 0) ": " refusal(byte(s, 0)) : ""
+    if (byte(s, 0) != 0) return n == 1 ? "refused, " byte(s, 0) ": " refusal(byte(s, 0), frame) : ""
     if (!isFrame(frame)) return ""
     kind = byte(frame, 0)
     if (kind == 3) return n == 2 ? "accepted; " worksFor(byte(s, 1)) : ""

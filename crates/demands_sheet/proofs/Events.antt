@@ -19,7 +19,11 @@ use Rattle.session_frame.specs.declared.Answer.the-variants.{Refused, Done, Ask
 use Rattle.session_frame.specs.Answers.{answerBytes, answerText}
 use Rattle.session_frame.proofs.Laws.Values.{digit-decimal, digit-letter}
 use Rattle.state.specs.declared.State.{State}
-use Rattle.session_reply.specs.Replies.{Reply, answerOr, givenWords, replyTo, answerTo, textOf}
+use Rattle.session_reply.specs.Replies.{Reply, answerOr, masksOf, givenWords, replyTo, answerTo, textOf}
+use Rattle.area.specs.Parts.{partOf}
+use Rattle.pack_start.specs.Fresh.{freshBy}
+use Rattle.pack_request.specs.declared.Reporting.{Reporting}
+use Rattle.pack_request.specs.Calls.{askBy, reportBy, reportByArea}
 use Rattle.pack.specs.Calls.{Call, fresh, opening, close, ask, report, get, put, seal, skip, freeze, thaw, Answer, answerOf}
 use Rattle.pack.specs.Histories.{isAccepted as accepts, count}
 use Rattle.demands_session.specs.Played.{callOf, callIn, consOf, callsIn, stateFor, areaFor, lentFrom}
@@ -89,13 +93,21 @@ reported-is n result error working ws =
 frame-event : (s : State) (area words : List ℕ) (f : Frame) → eventOf s f (textOf (replyTo s area words f)) ≡ eventFor s area (callOf f words)
 unfolding replyTo answerOf textOf answerBytes askEvent
 frame-event s area words Malformed = refl
-frame-event s area words (Fresh q) = ap startEvent (accepted-is _ Done [] [] refl)
+frame-event s area words (Fresh q) = ap (λ (b : Bool). startEvent b) (accepted-is (freshBy s (length area) (q .m) (q .w) (masksOf (q .masks)) .refusal) Done [] [] refl)
 frame-event s area words (Open q) = refl
 frame-event s area words (Close file) = refl
-frame-event s area words (Ask q) = ap (λ (b : Bool). askEvent s q b) (accepted-is _ (Asked _) [] _ refl)
-frame-event s area words (Report q) =
-    ap₂ (λ (a b : Bool). record { asked = false; reported = a; answered = b; started = false; file = 0; channel = q .channel; unit = q .unit })
-    (accepted-is _ (Reported _ _ _) _ _ refl) (reported-is _ _ _ _ _)
+frame-event s area words (Ask q) =
+    ap (λ (b : Bool). askEvent s q b) (accepted-is (askBy s (q .file) (q .op) (q .priority) .refusal) (Asked (askBy s (q .file) (q .op) (q .priority) .working)) [] _ refl)
+frame-event s area words (Report q) = told (reportBy s area (q .channel) (q .unit) (q .outcome) words) (reportByArea s area (q .channel) (q .unit) (q .outcome) words)
+  where
+    told : (x : Reporting) (after : List ℕ)
+        → reportEvent q (isAccepted (answerText (answerOr (x .refusal) (Reported (x .result) (x .error) (x .working))) (partOf (x .start) (x .count) after)))
+        (isRepeated (answerText (answerOr (x .refusal) (Reported (x .result) (x .error) (x .working))) (partOf (x .start) (x .count) after)))
+        ≡ record { asked = false; reported = eqb (x .refusal) 0; answered = eqb (x .refusal) 0 && not (eqb (x .result) 0); started = false; file = 0; channel = q .channel; unit = q .unit }
+    told x after =
+        ap₂ (λ (a b : Bool). record { asked = false; reported = a; answered = b; started = false; file = 0; channel = q .channel; unit = q .unit })
+        (accepted-is (x .refusal) (Reported (x .result) (x .error) (x .working)) (partOf (x .start) (x .count) after) _ refl)
+        (reported-is (x .refusal) (x .result) (x .error) (x .working) (partOf (x .start) (x .count) after))
 frame-event s area words (Get file) = refl
 frame-event s area words (Put q) = refl
 frame-event s area words (Seal file) = refl

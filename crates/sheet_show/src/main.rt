@@ -14,6 +14,11 @@ use sheet::new_desk;
 use sheet::session_end;
 use sheet::session_part;
 
+// The words of the area, and the bytes that are read at once.
+const AREA: usize = 4096;
+
+const INPUT: usize = 65536;
+
 // A file that is read: the bytes of its room from `from` up to `to` are still to come.
 struct Source {
     fd: i32,
@@ -181,23 +186,30 @@ fn stopped(p: Standing) -> Standing {
 // What is asked for next: a line of the session, or the recorded line of an answer that waits and whether there is one too many.
 fn once(
     p: Standing,
-    area: &mut [u64],
-    room: &mut [u8],
-    words: &mut [u64],
-    out: &mut [u8],
-    other: &mut [u8],
-    input: &mut [u8],
-    second: &mut [u8],
+    area: &mut [u64; AREA],
+    room: &mut [u8; LONGEST],
+    words: &mut [u64; WORDS],
+    out: &mut [u8; ANSWER],
+    other: &mut [u8; LONGEST],
+    input: &mut [u8; INPUT],
+    second: &mut [u8; INPUT],
 ) -> Standing {
     let d = p.desk;
     if d.waits {
-        return more_answers(p, other, second, &out[..]);
+        return more_answers(p, &mut other[..], &mut second[..], &out[..]);
     }
     if !d.over {
-        return more_session(p, area, room, words, input, out);
+        return more_session(
+            p,
+            &mut area[..],
+            &mut room[..],
+            &mut words[..],
+            &mut input[..],
+            &mut out[..],
+        );
     }
     if (d.differs == 0) & !d.done {
-        return more_answers(p, other, second, &out[..]);
+        return more_answers(p, &mut other[..], &mut second[..], &out[..]);
     }
     stopped(p)
 }
@@ -205,13 +217,13 @@ fn once(
 // Goes on until both are done with. It counts its turns down from a number that no run uses up.
 fn made(
     start: Standing,
-    area: &mut [u64],
-    room: &mut [u8],
-    words: &mut [u64],
-    out: &mut [u8],
-    other: &mut [u8],
-    input: &mut [u8],
-    second: &mut [u8],
+    area: &mut [u64; AREA],
+    room: &mut [u8; LONGEST],
+    words: &mut [u64; WORDS],
+    out: &mut [u8; ANSWER],
+    other: &mut [u8; LONGEST],
+    input: &mut [u8; INPUT],
+    second: &mut [u8; INPUT],
 ) -> Standing {
     let mut p = start;
     let mut turns = u64::MAX;
@@ -284,20 +296,17 @@ fn put_more(text: &mut [u8], at: usize, more: bool) -> usize {
 }
 
 // Writes the sheet.
-fn shown(d: Desk, text: &mut [u8]) {
+fn shown(d: Desk, text: &mut [u8; INPUT]) {
     let listed = d.listed;
     let rows = listed.rows;
-    let first = put_number(text, 0, d.differs, b'\n');
-    let last = put_rows(text, first, rows, listed.count);
-    let end = put_more(text, last, listed.more);
+    let first = put_number(&mut text[..], 0, d.differs, b'\n');
+    let last = put_rows(&mut text[..], first, rows, listed.count);
+    let end = put_more(&mut text[..], last, listed.more);
     let good = io::write_all(STDOUT_FILENO, front(&text[..], end));
     if !good {
         io::write_all(STDERR_FILENO, b"sheet: the sheet cannot be written\n");
     }
 }
-
-// The words of the area.
-const AREA: usize = 4096;
 
 fn main() {
     let one = opened(1);

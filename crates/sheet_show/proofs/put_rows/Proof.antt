@@ -1,58 +1,50 @@
+-- `sheet_show::put_rows` meets its contract, with the length of the lent text as invariant. Assumes nothing.
+use mathlib.Core.Path.{_≡_, refl}
+use Prim.Native.Nat.{_≤_, _-_}
+use native.Mathlib.Omega.{arith}
+use lib.ListN.{length}
+use borrow.Author.Needs.{needs}
 use Rattle.sheet_show.proofs.put_rows.Statement.{statement}
 use Rattle.sheet_show.proofs.put_rows.Tie as tie
-use Rattle.sheet_show.proofs.put_rows.Reads as reads
-use Rattle.sheet_show.proofs.put_rows.Lts as lts
-use Rattle.sheet_show.proofs.put_row.Reads as put-row-reads
 
 abbrev Inv-loop : tie.InvT-loop
-Inv-loop text₀ at count rows to₀ i₀ text to i = ?
+Inv-loop text₀ at count rows to₀ i₀ text to i = (i ≤ 512) × (length text ≡ length text₀)
 
 abbrev μ-loop : tie.MeasureT-loop
-μ-loop text₀ at count rows to₀ i₀ text to i = ?
+μ-loop text₀ at count rows to₀ i₀ text to i = 512 - i
 
--- src/main.rt:268:5
 loop-holds : tie.Need-loop-holds Inv-loop μ-loop
-loop-holds c = ?
+loop-holds c = (omega arith, refl)
 
--- src/main.rt:270:13
 same-length : tie.Need-same-length Inv-loop μ-loop
-same-length c = ?
+same-length c = search needs
 
--- src/main.rt:270:13
 returns : tie.Need-returns Inv-loop μ-loop
-returns c = ?
+returns c = search needs
 
--- src/main.rt:272:19
 mul-row : tie.Need-mul-row Inv-loop μ-loop
-mul-row c = ?
+mul-row c = search needs
 
--- src/main.rt:272:19
 array-copy-out-row : tie.Need-array-copy-out-row Inv-loop μ-loop
-array-copy-out-row c = ?
+array-copy-out-row c = search needs
 
--- src/main.rt:273:9
 put-row-requires : tie.Need-put-row-requires Inv-loop μ-loop
-put-row-requires c κs = ?
+put-row-requires c κs = search needs
 
--- src/main.rt:274:9
 add-i : tie.Need-add-i Inv-loop μ-loop
-add-i c = ?
+add-i c = search needs
 
--- src/main.rt:268:5
 loop-less : tie.Need-loop-less Inv-loop μ-loop
-loop-less c = ?
+loop-less c = search needs
 
--- src/main.rt:268:5
 loop-again : tie.Need-loop-again Inv-loop μ-loop
-loop-again c = ?
+loop-again c = (omega arith, search needs)
 
--- src/main.rt:265:1
 same-length-2 : tie.Need-same-length-2 Inv-loop μ-loop
-same-length-2 c = ?
+same-length-2 c = search needs
 
--- src/main.rt:265:1
 returns-2 : tie.Need-returns-2 Inv-loop μ-loop
-returns-2 c = ?
+returns-2 c = search needs
 
 pub put-rows-spec : {M : Type 1} → statement M
 put-rows-spec =
