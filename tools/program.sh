@@ -86,3 +86,9 @@ run_program() {
     rm -f "$said"
     return "$status"
 }
+
+# Says in words what each frame of the session $1 asks, and what its answer in the file $2 says; with the number of a frame as $3, of that frame alone,
+# beside its line in the recorded answers $4.
+in_words() {
+    tr '\000' '?' <"$1" | LC_ALL=C answers=$2 frame=${3-} recorded=${4-} awk -f "$here/tools/words.awk"
+}

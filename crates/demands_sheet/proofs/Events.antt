@@ -1,0 +1,197 @@
+-- A line comes to the same for the sheet, by its frame and its answer's digits, and in the history, by its call and its answer. Assumes nothing.
+use mathlib.Core.Path.{_≡_, refl, sym, ap, ap₂, _∙_}
+use mathlib.Core.Bool.{Bool, true, false, not, cond, _&&_}
+use mathlib.Core.Option.{Option, none, some}
+use mathlib.Core.List.{List, [], _∷_, _++_}
+use Prim.Native.Nat.{ℕ, zero, suc, _+_, _/_, _%_, _≤_, _<_}
+use native.Mathlib.Omega.{arith}
+use borrow.Author.Tests.{eqb-true, eqb-false, eq-eqb, ne-eqb, ltb-true, ltb-false}
+use lib.Dec.{eqb, ltb}
+use lib.ListN.{length, take, getD}
+use Rattle.area.specs.Lists.{oneIf, countOf}
+use Rattle.area.proofs.Walks.{by-test, and-left, and-right, true-not-false}
+use Rattle.session_frame.specs.Digits.{digitOf, byteDigits, concatMap}
+use Rattle.session_frame.specs.declared.Frame.{Frame}
+use Rattle.session_frame.specs.declared.Frame.the-variants.{Malformed, Fresh, Open, Close, Ask, Report, Get, Put, Seal, Skip, Freeze, Thaw}
+use Rattle.session_frame.specs.Frames.{frameOf}
+use Rattle.session_frame.specs.declared.Answer as said
+use Rattle.session_frame.specs.declared.Answer.the-variants.{Refused, Done, Asked, Reported}
+use Rattle.session_frame.specs.Answers.{answerBytes, answerText}
+use Rattle.session_frame.proofs.Laws.Values.{digit-decimal, digit-letter}
+use Rattle.state.specs.declared.State.{State}
+use Rattle.session_reply.specs.Replies.{Reply, answerOr, masksOf, givenWords, replyTo, answerTo, textOf}
+use Rattle.area.specs.Parts.{partOf}
+use Rattle.pack_start.specs.Fresh.{freshBy}
+use Rattle.pack_request.specs.declared.Reporting.{Reporting}
+use Rattle.pack_request.specs.Calls.{askBy, reportBy, reportByArea}
+use Rattle.pack.specs.Calls.{Call, fresh, opening, close, ask, report, get, put, seal, skip, freeze, thaw, Answer, answerOf}
+use Rattle.pack.specs.Histories.{isAccepted as accepts, count}
+use Rattle.demands_session.specs.Played.{callOf, callIn, consOf, callsIn, stateFor, areaFor, lentFrom}
+use Rattle.sheet.specs.declared.Event.{Event}
+use Rattle.sheet.specs.Events.{isZero, isAccepted, isRepeated, noEvent, askEvent, reportEvent, startEvent, eventOf}
+use Rattle.sheet.specs.Sheet.{eventsOf}
+use Rattle.demands_sheet.specs.Listed.{callEvent, eventFor, eventsBy}
+
+-- ---- the digits of a byte are 00 exactly if it is 0
+
+digit-zero : (n : ℕ) → digitOf n ≡ 48 → n ≡ 0
+digit-zero n e =
+    by-test (λ b. ltb n 10 ≡ b → n ≡ 0) (ltb n 10)
+    (λ q t. omega (arith, e, digit-decimal n (ltb-true n 10 t)))
+    (λ q t. absurd (omega (arith, e, digit-letter n (ltb-false n 10 t)))) refl
+
+zero-of : (n : ℕ) → n / 16 ≡ 0 → n % 16 ≡ 0 → n ≡ 0
+zero-of n a b = omega (arith, a, b)
+
+byte-zero : (n : ℕ) → (eqb (digitOf (n / 16)) 48 && eqb (digitOf (n % 16)) 48) ≡ eqb n 0
+byte-zero n =
+    by-test (λ b. eqb n 0 ≡ b → (eqb (digitOf (n / 16)) 48 && eqb (digitOf (n % 16)) 48) ≡ b) (eqb n 0)
+    (λ q t. ap (λ (m : ℕ). eqb (digitOf (m / 16)) 48 && eqb (digitOf (m % 16)) 48) (eqb-true n 0 t) ∙ zeros)
+    (λ q t.
+    by-test (λ b. (eqb (digitOf (n / 16)) 48 && eqb (digitOf (n % 16)) 48) ≡ b → b ≡ false) (eqb (digitOf (n / 16)) 48 && eqb (digitOf (n % 16)) 48)
+    (λ _ w.
+    let high = digit-zero (n / 16) (eqb-true (digitOf (n / 16)) 48 (and-left (eqb (digitOf (n / 16)) 48) _ w)) in
+    let low = digit-zero (n % 16) (eqb-true (digitOf (n % 16)) 48 (and-right (eqb (digitOf (n / 16)) 48) _ w)) in
+    absurd (eqb-false n 0 t (zero-of n high low)))
+    (λ _ w. refl) refl)
+    refl
+  where
+    zeros : (eqb (digitOf (0 / 16)) 48 && eqb (digitOf (0 % 16)) 48) ≡ true
+    zeros = rw (digit-decimal 0 (omega arith))
+
+-- ---- an answer line
+
+first-zero : (n : ℕ) (bs : List ℕ) → isZero (concatMap byteDigits (n ∷ bs) ++ (10 ∷ [])) 0 1 ≡ eqb n 0
+unfolding isZero concatMap byteDigits
+first-zero n bs = byte-zero n
+
+second-zero : (n m : ℕ) (bs : List ℕ) → isZero (concatMap byteDigits (n ∷ m ∷ bs) ++ (10 ∷ [])) 2 3 ≡ eqb m 0
+unfolding isZero concatMap byteDigits
+second-zero n m bs = byte-zero m
+
+-- an answer that begins with 0 unless it is refused
+module _ (n : ℕ) (a : said.Answer) (ws bs : List ℕ) (begins : answerBytes a ws ≡ 0 ∷ bs) where
+  accepted-is : isAccepted (answerText (answerOr n a) ws) ≡ eqb n 0
+  unfolding answerText answerBytes
+  accepted-is =
+      by-test (λ b. eqb n 0 ≡ b → isZero (concatMap byteDigits (answerBytes (cond b a (Refused n)) ws) ++ (10 ∷ [])) 0 1 ≡ b) (eqb n 0)
+      (λ q t. ap (λ (xs : List ℕ). isZero (concatMap byteDigits xs ++ (10 ∷ [])) 0 1) begins ∙ first-zero 0 bs)
+      (λ q t. first-zero n [] ∙ t) refl
+
+reported-is : (n result error working : ℕ) (ws : List ℕ)
+    → (isAccepted (answerText (answerOr n (Reported result error working)) ws) && not (isRepeated (answerText (answerOr n (Reported result error working)) ws)))
+    ≡ (eqb n 0 && not (eqb result 0))
+unfolding answerText answerBytes
+reported-is n result error working ws =
+    by-test (λ b. eqb n 0 ≡ b → (isZero (concatMap byteDigits (answerBytes (cond b (Reported result error working) (Refused n)) ws) ++ (10 ∷ [])) 0 1
+    && not (isZero (concatMap byteDigits (answerBytes (cond b (Reported result error working) (Refused n)) ws) ++ (10 ∷ [])) 2 3)) ≡ (b && not (eqb result 0))) (eqb n 0)
+    (λ q t. ap₂ (λ (x y : Bool). x && not y) (first-zero 0 _) (second-zero 0 result _))
+    (λ q t. ap (λ (x : Bool). x && not (isZero (concatMap byteDigits (n ∷ []) ++ (10 ∷ [])) 2 3)) (first-zero n [] ∙ t)) refl
+
+-- ---- a line
+
+frame-event : (s : State) (area words : List ℕ) (f : Frame) → eventOf s f (textOf (replyTo s area words f)) ≡ eventFor s area (callOf f words)
+unfolding replyTo answerOf textOf answerBytes askEvent
+frame-event s area words Malformed = refl
+frame-event s area words (Fresh q) = ap (λ (b : Bool). startEvent b) (accepted-is (freshBy s (length area) (q .m) (q .w) (masksOf (q .masks)) .refusal) Done [] [] refl)
+frame-event s area words (Open q) = refl
+frame-event s area words (Close file) = refl
+frame-event s area words (Ask q) =
+    ap (λ (b : Bool). askEvent s q b) (accepted-is (askBy s (q .file) (q .op) (q .priority) .refusal) (Asked (askBy s (q .file) (q .op) (q .priority) .working)) [] _ refl)
+frame-event s area words (Report q) = told (reportBy s area (q .channel) (q .unit) (q .outcome) words) (reportByArea s area (q .channel) (q .unit) (q .outcome) words)
+  where
+    told : (x : Reporting) (after : List ℕ)
+        → reportEvent q (isAccepted (answerText (answerOr (x .refusal) (Reported (x .result) (x .error) (x .working))) (partOf (x .start) (x .count) after)))
+        (isRepeated (answerText (answerOr (x .refusal) (Reported (x .result) (x .error) (x .working))) (partOf (x .start) (x .count) after)))
+        ≡ record { asked = false; reported = eqb (x .refusal) 0; answered = eqb (x .refusal) 0 && not (eqb (x .result) 0); started = false; file = 0; channel = q .channel; unit = q .unit }
+    told x after =
+        ap₂ (λ (a b : Bool). record { asked = false; reported = a; answered = b; started = false; file = 0; channel = q .channel; unit = q .unit })
+        (accepted-is (x .refusal) (Reported (x .result) (x .error) (x .working)) (partOf (x .start) (x .count) after) _ refl)
+        (reported-is (x .refusal) (x .result) (x .error) (x .working) (partOf (x .start) (x .count) after))
+frame-event s area words (Get file) = refl
+frame-event s area words (Put q) = refl
+frame-event s area words (Seal file) = refl
+frame-event s area words (Skip file) = refl
+frame-event s area words Freeze = refl
+frame-event s area words Thaw = refl
+
+line-event : (s : State) (area l : List ℕ) → eventOf s (frameOf l) (textOf (answerTo s area l)) ≡ eventFor s area (callIn l)
+unfolding answerTo callIn
+line-event s area l = frame-event s area (givenWords (frameOf l) l) (frameOf l)
+
+frame-state : (s : State) (area words : List ℕ) (f : Frame) → replyTo s area words f .state ≡ stateFor s area (callOf f words)
+unfolding replyTo answerOf
+frame-state s area words Malformed = refl
+frame-state s area words (Fresh q) = refl
+frame-state s area words (Open q) = refl
+frame-state s area words (Close file) = refl
+frame-state s area words (Ask q) = refl
+frame-state s area words (Report q) = refl
+frame-state s area words (Get file) = refl
+frame-state s area words (Put q) = refl
+frame-state s area words (Seal file) = refl
+frame-state s area words (Skip file) = refl
+frame-state s area words Freeze = refl
+frame-state s area words Thaw = refl
+
+frame-area : (s : State) (area words : List ℕ) (f : Frame) → replyTo s area words f .area ≡ areaFor s area (callOf f words)
+unfolding replyTo answerOf
+frame-area s area words Malformed = refl
+frame-area s area words (Fresh q) = refl
+frame-area s area words (Open q) = refl
+frame-area s area words (Close file) = refl
+frame-area s area words (Ask q) = refl
+frame-area s area words (Report q) = refl
+frame-area s area words (Get file) = refl
+frame-area s area words (Put q) = refl
+frame-area s area words (Seal file) = refl
+frame-area s area words (Skip file) = refl
+frame-area s area words Freeze = refl
+frame-area s area words Thaw = refl
+
+line-state : (s : State) (area l : List ℕ) → answerTo s area l .state ≡ stateFor s area (callIn l)
+unfolding answerTo callIn
+line-state s area l = frame-state s area (givenWords (frameOf l) l) (frameOf l)
+
+line-area : (s : State) (area l : List ℕ) → answerTo s area l .area ≡ areaFor s area (callIn l)
+unfolding answerTo callIn
+line-area s area l = frame-area s area (givenWords (frameOf l) l) (frameOf l)
+
+-- the sheet's events are those of the history
+pub events-are : (ls : List (List ℕ)) (s : State) (area : List ℕ) → eventsOf s area ls ≡ eventsBy s area ls
+unfolding eventsOf eventsBy
+events-are [] s area = refl
+events-are (l ∷ ls) s area =
+    ap₂ (λ (e : Event) (es : List Event). e ∷ es) (line-event s area l)
+    (ap₂ (λ (t : State) (xs : List ℕ). eventsOf t xs ls) (line-state s area l) (line-area s area l) ∙ events-are ls (stateFor s area (callIn l)) (areaFor s area (callIn l)))
+
+-- the events of the first lines
+pub events-take : (n : ℕ) (ls : List (List ℕ)) (s : State) (area : List ℕ) → take n (eventsBy s area ls) ≡ eventsBy s area (take n ls)
+unfolding eventsBy
+events-take zero ls s area = refl
+events-take (suc n) [] s area = refl
+events-take (suc n) (l ∷ ls) s area =
+    ap (λ (es : List Event). eventFor s area (callIn l) ∷ es) (events-take n ls (stateFor s area (callIn l)) (areaFor s area (callIn l)))
+
+pub events-length : (ls : List (List ℕ)) (s : State) (area : List ℕ) → length (eventsBy s area ls) ≡ length ls
+unfolding eventsBy
+events-length [] s area = refl
+events-length (l ∷ ls) s area = ap suc (events-length ls (stateFor s area (callIn l)) (areaFor s area (callIn l)))
+
+-- what is counted of events is what the history counts of calls
+module _ (test : Event → Bool) (kind : State → Call → Answer → Bool) (nothing : test noEvent ≡ false)
+    (agrees : (s : State) (call : Call) (a : Answer) → test (callEvent s call a) ≡ (accepts a && kind s call a)) where
+  count-cons : (s : State) (area : List ℕ) (c : Option Call) (calls : List Call)
+      → cond (test (eventFor s area c)) 1 0 + count kind (stateFor s area c) (lentFrom (stateFor s area c) (areaFor s area c) calls)
+      ≡ count kind s (lentFrom s area (consOf c calls))
+  unfolding count lentFrom
+  count-cons s area none calls = rw nothing (omega arith)
+  count-cons s area (some call) calls =
+      ap (λ (b : Bool). oneIf b + count kind (answerOf s area call .state) (lentFrom (answerOf s area call .state) (answerOf s area call .area) calls)) (agrees s call (answerOf s area call))
+
+  pub counts-are : (ls : List (List ℕ)) (s : State) (area : List ℕ) → countOf test (eventsBy s area ls) ≡ count kind s (lentFrom s area (callsIn ls))
+  unfolding countOf eventsBy callsIn count lentFrom
+  counts-are [] s area = refl
+  counts-are (l ∷ ls) s area =
+      ap (λ (n : ℕ). cond (test (eventFor s area (callIn l))) 1 0 + n) (counts-are ls (stateFor s area (callIn l)) (areaFor s area (callIn l)))
+      ∙ count-cons s area (callIn l) (callsIn ls)

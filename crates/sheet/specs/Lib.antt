@@ -1,0 +1,5 @@
+pub mod Rows
+pub mod Events
+pub mod Sheet
+pub mod Desks
+pub mod Runs
