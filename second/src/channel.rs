@@ -64,6 +64,9 @@ pub struct Channel {
     pub requests: [Option<Request>; UNITS],
     /// The unit at which the next scan for ordinary requests begins.
     pub scan_begin: usize,
+    /// The same for priority requests, which are "scanned as ordinary ones are, with a mark of their own
+    /// on each channel" (document 02, M-112).
+    pub priority_begin: usize,
     pub frozen: bool,
 }
 
@@ -161,7 +164,7 @@ impl Request {
 impl Channel {
     /// A channel as a fresh start leaves it: it "drops all requests, thaws and resets the scans".
     pub fn fresh(declared: [bool; UNITS]) -> Channel {
-        Channel { declared, requests: Default::default(), scan_begin: 0, frozen: false }
+        Channel { declared, requests: Default::default(), scan_begin: 0, priority_begin: 0, frozen: false }
     }
 
     /// The unanswered request of a unit; `unit` may be any number.
@@ -232,11 +235,13 @@ impl Channel {
     }
 
     /// The request is answered: "The scan for ordinary ones begins one unit above that of the last
-    /// ordinary operation to end on the channel, wraps after 9".
+    /// ordinary operation to end on the channel, wraps after 9"; the scan for priority ones likewise.
     fn end(&mut self, unit: usize) {
-        let ended = self.requests[unit].take();
-        if ended.is_some_and(|request| !request.priority) {
-            self.scan_begin = (unit + 1) % UNITS;
+        let above = (unit + 1) % UNITS;
+        match self.requests[unit].take() {
+            Some(ended) if ended.priority => self.priority_begin = above,
+            Some(_) => self.scan_begin = above,
+            None => {}
         }
     }
 
@@ -259,22 +264,21 @@ impl Channel {
     fn next_unit(&self, incomplete: Option<usize>) -> Option<usize> {
         // "League: a priority operation is not displaced": an incomplete one goes first.
         let incomplete_priority = incomplete.filter(|&unit| self.has_priority_request(unit));
-        incomplete_priority.or_else(|| self.lowest_priority_unit()).or(incomplete).or_else(|| self.scan())
-    }
-
-    /// "Among priority requests the lowest unit goes first."
-    fn lowest_priority_unit(&self) -> Option<usize> {
-        (0..UNITS).find(|&unit| self.has_priority_request(unit))
-    }
-
-    /// The scan "wraps after 9, and comes to that unit last": ten units from its beginning.
-    fn scan(&self) -> Option<usize> {
-        (0..UNITS).map(|step| (self.scan_begin + step) % UNITS).find(|&unit| self.requests[unit].is_some())
+        let priority = || scan(self.priority_begin, |unit| self.has_priority_request(unit));
+        // No priority request is left where the scan for ordinary ones begins.
+        let ordinary = || scan(self.scan_begin, |unit| self.requests[unit].is_some());
+        incomplete_priority.or_else(priority).or(incomplete).or_else(ordinary)
     }
 
     fn has_priority_request(&self, unit: usize) -> bool {
         self.requests[unit].as_ref().is_some_and(|request| request.priority)
     }
+}
+
+/// A scan "wraps after 9, and comes to that unit last": the first of ten units from its beginning that
+/// has what is looked for.
+fn scan(begin: usize, has: impl Fn(usize) -> bool) -> Option<usize> {
+    (0..UNITS).map(|step| (begin + step) % UNITS).find(|&unit| has(unit))
 }
 
 #[cfg(test)]
@@ -518,7 +522,7 @@ mod tests {
     }
 
     #[test]
-    fn priority_requests_go_by_lowest_unit_and_never_break_into_an_activity() {
+    fn priority_requests_never_break_into_an_activity() {
         let mut channel = fresh();
         channel.ask(3, Read, false);
         for unit in [7, 2, 5] {
@@ -550,6 +554,132 @@ mod tests {
         channel.ask(4, Read, false);
         channel.thaw();
         assert_eq!(channel.working_unit(), Some(4));
+    }
+
+    /// The marks of both scans.
+    fn marks(channel: &Channel) -> [usize; 2] {
+        [channel.scan_begin, channel.priority_begin]
+    }
+
+    /// Asks for a priority read of each unit; the first of an idle channel starts.
+    fn ask_priority(channel: &mut Channel, units: &[usize]) {
+        units.iter().for_each(|&unit| channel.ask(unit, Read, true));
+    }
+
+    fn order_of_ends(channel: &mut Channel, count: usize) -> Vec<u64> {
+        (0..count).map(|_| end_next(channel)).collect()
+    }
+
+    #[test]
+    fn k1_the_scan_begins_above_the_last_priority_end_wraps_and_comes_to_it_last() {
+        let mut channel = fresh();
+        ask_priority(&mut channel, &[5, 3, 7, 9]);
+        assert_eq!(end_next(&mut channel), 5);
+        ask_priority(&mut channel, &[5]);
+        assert_eq!(order_of_ends(&mut channel, 4), [7, 9, 3, 5]);
+        assert_eq!(marks(&channel), [0, 6]);
+        channel.ask(9, Mark, true);
+        assert_eq!(channel.report(9, END_OF_MEDIUM), Ok(Booked::EndOfMedium));
+        assert_eq!(marks(&channel), [0, 0]);
+    }
+
+    /// One key that asks again and again does not shut out another.
+    #[test]
+    fn k1_a_busy_unit_waits_for_the_others() {
+        let mut channel = fresh();
+        ask_priority(&mut channel, &[0, 6]);
+        for _ in 0..3 {
+            assert_eq!(end_next(&mut channel), 0);
+            ask_priority(&mut channel, &[0]);
+            assert_eq!(end_next(&mut channel), 6);
+            ask_priority(&mut channel, &[6]);
+        }
+    }
+
+    #[test]
+    fn k1_every_answer_moves_the_mark_and_nothing_else_does() {
+        let mut channel = fresh();
+        channel.ask(4, Write, true);
+        assert_eq!(marks(&channel), [0, 0]);
+        assert_eq!(channel.report(4, REDUNDANCY), Ok(Booked::Repeated));
+        assert_eq!(marks(&channel), [0, 0]);
+        assert_eq!(channel.report(4, INCOMPLETE), Ok(Booked::PermanentIncompleteWord));
+        assert_eq!(marks(&channel), [0, 5]);
+        channel.ask(8, Read, true);
+        channel.freeze();
+        assert_eq!(channel.report(8, FILE_MARK), Ok(Booked::Mark));
+        assert_eq!(marks(&channel), [0, 9]);
+        channel.thaw();
+        assert_eq!(marks(&channel), [0, 9]);
+        assert_eq!(channel.report(8, FILE_MARK), Err(11));
+        assert_eq!(marks(&channel), [0, 9]);
+        assert_eq!(marks(&fresh()), [0, 0]);
+    }
+
+    #[test]
+    fn k2_an_end_moves_the_mark_of_its_own_kind_alone() {
+        let mut channel = fresh();
+        channel.ask(2, Read, false);
+        assert_eq!(end_next(&mut channel), 2);
+        assert_eq!(marks(&channel), [3, 0]);
+        channel.ask(6, Read, true);
+        assert_eq!(end_next(&mut channel), 6);
+        assert_eq!(marks(&channel), [3, 7]);
+        // The ordinary scan goes by its own mark, the priority scan by its own.
+        channel.ask(0, Read, false);
+        for unit in [2, 5] {
+            channel.ask(unit, Read, false);
+        }
+        ask_priority(&mut channel, &[1, 8]);
+        assert_eq!(order_of_ends(&mut channel, 5), [0, 8, 1, 2, 5]);
+        assert_eq!(marks(&channel), [6, 2]);
+    }
+
+    /// After an end, after the failure that displaces, and after a thaw.
+    #[test]
+    fn k3_the_scan_chooses_wherever_the_lowest_unit_did() {
+        let mut channel = fresh();
+        ask_priority(&mut channel, &[5]);
+        assert_eq!(end_next(&mut channel), 5);
+        channel.ask(3, Read, false);
+        ask_priority(&mut channel, &[1, 7]);
+        channel.report(3, REDUNDANCY).expect("booked");
+        assert_eq!(channel.working_unit(), Some(7));
+        ask_priority(&mut channel, &[8, 0]);
+        channel.freeze();
+        assert_eq!(channel.report(7, GOOD), Ok(Booked::Good));
+        assert_eq!(channel.working_unit(), None);
+        channel.thaw();
+        assert_eq!(order_of_ends(&mut channel, 4), [8, 0, 1, 3]);
+        assert_eq!(marks(&channel), [4, 2]);
+    }
+
+    #[test]
+    fn k3_a_priority_operation_that_works_is_not_displaced() {
+        let mut channel = fresh();
+        ask_priority(&mut channel, &[8, 9, 1]);
+        channel.report(8, REDUNDANCY).expect("booked");
+        assert_eq!(order_of_ends(&mut channel, 3), [8, 9, 1]);
+    }
+
+    #[test]
+    fn k4_a_priority_operation_that_a_freeze_stopped_has_no_first_turn() {
+        let mut channel = fresh();
+        ask_priority(&mut channel, &[2]);
+        assert_eq!(end_next(&mut channel), 2);
+        ask_priority(&mut channel, &[6, 4, 9]);
+        channel.freeze();
+        channel.report(6, REDUNDANCY).expect("booked");
+        assert_eq!((turn(&channel, 6), marks(&channel)), (Turn::Displaced, [0, 3]));
+        channel.thaw();
+        assert_eq!((channel.working_unit(), counts(&channel, 6)), (Some(4), (2, 0)));
+        assert_eq!(order_of_ends(&mut channel, 3), [4, 6, 9]);
+        // A freeze that comes and goes between two reports changes nothing.
+        ask_priority(&mut channel, &[3, 1]);
+        channel.freeze();
+        channel.thaw();
+        channel.report(3, REDUNDANCY).expect("booked");
+        assert_eq!(channel.working_unit(), Some(3));
     }
 
     #[test]

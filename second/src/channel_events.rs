@@ -1,4 +1,20 @@
 //! The subcommand `channel-events`: a fixed list of events for `channel`, in several phases.
+//!
+//! An event is a line of decimal numbers, the first its kind, and has one line of numbers for an answer.
+//! W stands for the unit that the channel works for after the event, 255 for none.
+//!
+//! - `0 mask`: a fresh start; bit u of the mask (0 to 1,023) declares unit u. Answer: `0`.
+//! - `1 unit operation priority`: an ask. Answer: `accepted W`; it is accepted (1, else 0 and nothing
+//!   changes) if the unit is declared and idle and the numbers are in their ranges.
+//! - `2 unit outcome`: a report. Answer: `refusal result W`; the refusal is 0, 11 or 12, the result that of
+//!   the session program, 0 after a refusal.
+//! - `3`, `4`: freeze, thaw. Answer: `W`.
+//! - `5`: prints the whole channel, 63 numbers: for each unit from 0 to 9 `declared turn operation priority
+//!   attempts incomplete` (turn 0 idle, 1 waiting, 2 displaced, 3 working; an idle unit's last four are 0),
+//!   then the unit at which the next scan for ordinary requests begins, then the one at which the next
+//!   scan for priority requests begins (M-112), then frozen.
+//!
+//! Before the first event no unit is declared, both marks are 0 and the channel is not frozen.
 
 use crate::channel::{Channel, UNITS};
 use crate::channel_player::answer_event;
@@ -49,8 +65,8 @@ struct Phase {
 /// attempts; and good ends only.
 #[rustfmt::skip]
 const PHASES: [Phase; 6] = [
-    Phase { mask: ALL_UNITS, length: 350, asks: 30, freezes: 0, thaws: 0, reads: 33, priority: 8, redundancies: 25, incomplete_words: 5 },
-    Phase { mask: 0b11_0111_0101, length: 500, asks: 25, freezes: 0, thaws: 1, reads: 50, priority: 22, redundancies: 50, incomplete_words: 6 },
+    Phase { mask: ALL_UNITS, length: 300, asks: 30, freezes: 0, thaws: 0, reads: 33, priority: 8, redundancies: 25, incomplete_words: 5 },
+    Phase { mask: 0b11_0111_0101, length: 450, asks: 25, freezes: 0, thaws: 1, reads: 50, priority: 22, redundancies: 50, incomplete_words: 6 },
     Phase { mask: ALL_UNITS, length: 500, asks: 30, freezes: 8, thaws: 14, reads: 50, priority: 30, redundancies: 45, incomplete_words: 4 },
     Phase { mask: 0b10_1001_0011, length: 350, asks: 60, freezes: 3, thaws: 3, reads: 33, priority: 70, redundancies: 30, incomplete_words: 5 },
     Phase { mask: 0b01_1100_0001, length: 500, asks: 12, freezes: 2, thaws: 6, reads: 95, priority: 20, redundancies: 96, incomplete_words: 1 },
@@ -171,8 +187,30 @@ impl Script {
     /// Several priority requests at once, and freezes in the middle of operations of both kinds.
     fn priority_and_freeze(&mut self) {
         self.play_text("0 1023; 1 6 0 0; 1 8 1 1; 1 3 0 1; 1 5 2 1; 2 6 2; 5; 1 0 0 1; 2 3 1; 2 3 0; 5");
-        self.play_text("3; 2 0 1; 5; 1 2 0 0; 3; 4; 5; 4; 2 0 0; 2 5 0; 3; 2 8 1; 1 1 0 1; 4; 5; 2 1 0");
-        self.play_text("2 8 0; 5; 2 2 0; 5; 3; 2 6 1; 1 9 0 0; 5; 4; 2 6 2; 2 9 0; 5");
+        self.play_text(
+            "3; 2 5 1; 5; 1 2 0 0; 3; 4; 5; 4; 2 5 0; 3; 2 8 1; 1 1 0 1; 4; 5; 2 8 0; 5; 3; 2 0 1",
+        );
+        self.play_text("1 9 2 1; 4; 5; 2 9 0; 5; 2 0 0; 2 1 0; 5; 2 2 0; 5; 3; 2 6 1; 1 9 0 0; 5; 4; 2 6 2");
+        self.play_text("2 9 0; 5");
+        // Two busy keys take turns; a third comes to its own between them.
+        self.play_text(
+            "0 1023; 1 0 2 1; 1 6 2 1; 2 0 0; 1 0 2 1; 5; 2 6 0; 1 6 2 1; 1 3 2 1; 2 0 0; 1 0 2 1",
+        );
+        self.play_text("2 3 0; 2 6 0; 5; 2 0 0; 5");
+        // Each kind has its own mark: ends of both kinds in turn, with requests of both kinds waiting.
+        self.play_text("1 8 2 0; 1 7 2 1; 1 2 2 0; 1 1 2 1; 2 8 0; 5; 1 8 2 0; 1 9 2 0; 2 1 0; 5; 2 7 0; 5");
+        self.play_text("2 9 0; 5; 1 9 2 1; 2 2 0; 5; 2 9 0; 5; 2 8 0; 5");
+        // The unit of the last priority end is looked at last, and every unit begins the scan once.
+        self.play(&[0, ALL_UNITS]);
+        for unit in 0..UNITS as u64 {
+            let [above, below] = [(unit + 1) % 10, (unit + 9) % 10];
+            self.play_text(&format!(
+                "1 {unit} 2 1; 2 {unit} 0; 3; 1 {unit} 2 1; 1 {below} 2 1; 1 {above} 2 1; 4"
+            ));
+            self.play_text(&format!("5; 2 {above} 4; 2 {below} 1; 2 {below} 0; 2 {unit} 0"));
+        }
+        // A lower unit and a higher one wait while a freeze stops an operation; the lower one is next.
+        self.play_text("1 2 2 1; 2 2 0; 1 6 0 1; 1 4 2 1; 1 9 2 1; 3; 2 6 1; 4; 5; 2 4 0; 2 6 0; 2 9 0");
         // A displaced read's second incomplete word, the first being before the displacement.
         self.play_text("1 4 0 0; 2 4 2; 1 7 2 1; 2 4 1; 5; 2 7 0; 5; 2 4 2");
         // A fresh start in the middle of work and of a freeze.
@@ -377,7 +415,11 @@ mod tests {
             let stopped_priority = before.requests.iter().position(|request| {
                 request.as_ref().is_some_and(|request| request.priority && request.turn == Turn::Displaced)
             });
-            self.count("lower priority first after a thaw", started.is_some() && started < stopped_priority);
+            let [Some(started), Some(stopped)] = [started, stopped_priority] else {
+                return;
+            };
+            self.count("lower priority first after a thaw", started < stopped);
+            self.count("higher priority first after a thaw", started > stopped);
         }
 
         fn see_waiting(&mut self, after: &Channel) {
@@ -411,6 +453,24 @@ mod tests {
                 moved && others && !now.priority && unit >= after.scan_begin,
             );
             self.count("scan that wraps", moved && !now.priority && unit < after.scan_begin);
+            if now.priority && then.is_none_or(|request| request.turn != Turn::Working) {
+                self.see_priority_start(after, unit);
+            }
+        }
+
+        fn see_priority_start(&mut self, after: &Channel, unit: usize) {
+            let waits = |other: usize| {
+                let request = after.requests[other].as_ref();
+                other != unit && request.is_some_and(|request| request.priority)
+            };
+            self.count("priority scan past a lower waiting unit", (0..unit).any(waits));
+            self.count("priority scan past a higher waiting unit", (unit + 1..UNITS).any(waits));
+            self.count("priority scan that wraps", unit < after.priority_begin);
+            self.count(
+                "priority scan that comes to the last unit",
+                (unit + 1) % UNITS == after.priority_begin,
+            );
+            self.count("priority mark apart from the other", after.priority_begin != after.scan_begin);
         }
     }
 
@@ -451,7 +511,13 @@ mod tests {
             }
         }
         assert_eq!(seen.counts["resumption with counts lost"], 0);
-        for often in ["displacement", "resumption with counts kept", "two priority requests waiting"] {
+        for often in [
+            "displacement",
+            "resumption with counts kept",
+            "two priority requests waiting",
+            "priority scan past a lower waiting unit",
+            "priority scan that wraps",
+        ] {
             assert!(seen.counts[often] >= 20, "{often}: {}", seen.counts[often]);
         }
         assert!(seen.results.iter().copied().eq(0..=6));

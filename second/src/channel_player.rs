@@ -61,14 +61,15 @@ fn working(channel: &Channel) -> u64 {
     channel.working_unit().map_or(NO_UNIT, |unit| unit as u64)
 }
 
-/// Six numbers for each unit, then the unit at which the next scan begins, then frozen.
+/// Six numbers for each unit, then the units at which the next scans begin, ordinary and priority, then
+/// frozen.
 fn whole_channel(channel: &Channel) -> Vec<u64> {
     let mut numbers = Vec::new();
     for unit in 0..UNITS {
         numbers.push(u64::from(channel.declared[unit]));
         numbers.extend(channel.requests[unit].as_ref().map_or([0; 5], request_numbers));
     }
-    numbers.push(channel.scan_begin as u64);
+    numbers.extend([channel.scan_begin as u64, channel.priority_begin as u64]);
     numbers.push(u64::from(channel.frozen));
     numbers
 }
@@ -125,10 +126,11 @@ mod tests {
     fn the_whole_channel() {
         let input = "0 5\n1 2 0 0\n2 2 2\n1 0 1 1\n2 2 1\n3\n5\n";
         let idle = "0 0 0 0 0 0 ";
-        let whole = format!("1 3 1 1 1 0 {idle}1 2 0 0 3 1 {}0 1\n", idle.repeat(7));
+        let whole = format!("1 3 1 1 1 0 {idle}1 2 0 0 3 1 {}0 0 1\n", idle.repeat(7));
         answers(input, &format!("0\n1 2\n0 0 2\n1 2\n0 0 0\n0\n{whole}"));
-        let after = format!("{}7 0\n", "1 0 0 0 0 0 ".repeat(10));
-        answers("0 1023\n1 6 2 0\n2 6 4\n5\n", &format!("0\n1 6\n0 4 255\n{after}"));
+        let after = |marks| format!("{}{marks} 0\n", "1 0 0 0 0 0 ".repeat(10));
+        answers("0 1023\n1 6 2 0\n2 6 4\n5\n", &format!("0\n1 6\n0 4 255\n{}", after("7 0")));
+        answers("0 1023\n1 6 2 1\n2 6 4\n5\n", &format!("0\n1 6\n0 4 255\n{}", after("0 7")));
     }
 
     #[test]
@@ -138,9 +140,9 @@ mod tests {
             answer_event(&mut channel, event).expect("an event");
         }
         let whole = whole_channel(&channel);
-        assert_eq!(whole.len(), 62);
+        assert_eq!(whole.len(), 63);
         assert_eq!(whole[24..36], [1, 2, 0, 0, 2, 0, 1, 1, 2, 0, 1, 0]);
-        assert_eq!(whole[60..], [0, 1]);
+        assert_eq!(whole[60..], [0, 0, 1]);
     }
 
     #[test]

@@ -211,7 +211,7 @@ fn our_answers(lines: &[Vec<u8>], ending: Ending) -> Vec<Vec<u8>> {
 #[cfg(test)]
 mod tests {
     use super::*;
-    use crate::channel::Turn;
+    use crate::channel::{Channel, Turn};
     use crate::file::{Block, Direction, File};
     use crate::frame::answer_line;
     use crate::pack::Pack;
@@ -269,6 +269,25 @@ mod tests {
     fn a_scan_always_from_unit_0_is_found() {
         let mistake = |pack: &mut Pack| pack.channels.iter_mut().for_each(|channel| channel.scan_begin = 0);
         is_found("scan", mistake, 14);
+    }
+
+    /// The lowest unit first, one mark for both kinds, and a mark that a freeze forgets.
+    #[test]
+    fn wrong_turns_of_priority_requests_are_found() {
+        let each_channel =
+            |pack: &mut Pack, change: fn(&mut Channel)| pack.channels.iter_mut().for_each(change);
+        is_found("lowest", |pack| each_channel(pack, |channel| channel.priority_begin = 0), 14);
+        is_found(
+            "one mark",
+            |pack| each_channel(pack, |channel| channel.priority_begin = channel.scan_begin),
+            16,
+        );
+        let forgets = |channel: &mut Channel| {
+            if channel.frozen && channel.working_unit().is_none() {
+                channel.priority_begin = 0;
+            }
+        };
+        is_found("freeze", |pack| each_channel(pack, forgets), 18);
     }
 
     #[test]

@@ -1,5 +1,42 @@
 //! The subcommand `pack-cases`: a fixed script for `pack`. It has what no session can show: areas
 //! that are short or spoilt, states that are unsound or that no calls lead to, and the words that stay.
+//!
+//! A command is a line of decimal numbers, the first its kind. There are a state, at first the one before the
+//! first fresh start, a room of 64 numbers, at first zeros, and the length of the area, at first 64: the
+//! area that calls are lent is the first so many numbers of the room.
+//!
+//! Calls. Each has one line for an answer: the refusal alone, or 0 and the numbers that are named here.
+//!
+//! - `0 m W mask mask mask mask mask`: fresh start.
+//! - `1 file channel unit flags B r`: open. `2 file`: close.
+//! - `3 file operation priority`: ask. Answer: `working`, 255 for none.
+//! - `4 channel unit outcome n word ..`: report with n words (0 to 64). Answer: `result error working start
+//!   count word ..`, the block that is shown being `count` words of the area from `start`; if none is shown
+//!   both are 0.
+//! - `5 file`: get. Answer: `kind error start count word ..`; the kinds are those of the session program.
+//! - `6 file n word ..`: put. `7 file`: seal. `8 file`: skip. `9`: freeze. `10`: thaw.
+//!
+//! Changes, which have no answer.
+//!
+//! - `11 length`: the length of the area. `12 place value`: a number of the room.
+//! - `13 file field value`, `14 channel unit field value`: a field, as they are listed below.
+//! - `15 channel mark value`: the unit at which a scan of the channel begins; mark 0 is that of ordinary
+//!   requests, mark 1 that of priority requests (M-112).
+//! - `16 field value`: a field of the pool. `17`: state, room and length are again as at first.
+//!
+//! Prints. `18`: the room. `19`: the state. `20`: 1 if the state is sound, else 0.
+//!
+//! Fields of a file: 0 open, 1 channel, 2 unit, 3 output, 4 double, 5 sequence, 6 check, 7 B, 8 r, 9 turned
+//! (of two full blocks the one in the high buffer is the older), 10 number, 11 marked, 12 to 16 the low
+//! buffer, 17 to 21 the high one: number, kind (0 empty, 1 taken, 2 part-filled, 3 full), words, place of
+//! get, error not told. Setting a kind makes a slot of that kind with zeros; a field that the kind has not is
+//! 0 and is not set. Fields of a unit: 0 declared, 1 turn (0 idle, 1 waiting, 2 displaced, 3 working), 2
+//! operation, 3 priority, 4 attempts, 5 incomplete words; an idle unit has no others, and a turn set on it
+//! makes an ordinary read with zeros. Fields of the pool: 0 m, 1 W, 2 frozen, 3 free mask (modulo 2^32).
+//!
+//! A state is printed as the four fields of the pool; for each channel its mark 0 and its mark 1, then each
+//! unit that is not all zero with its number before its fields, then 10; then each file that is not all
+//! zero with its number before its fields; then 16.
 
 mod areas;
 mod buffers;

@@ -7,8 +7,9 @@ use crate::sound::is_sound;
 use crate::state::State;
 use crate::state_calls::{self as calls, Shown};
 use crate::state_fields::{
-    set_file_field, set_pool_field, set_unit_field, state_numbers, AT, BLOCK_SIZE, FILE_FIELDS, FREE, HIGH,
-    LOW, NUMBER, POOL_FIELDS, RECORD_LENGTH, UNIT_FIELDS, WIDTH, WORDS,
+    set_file_field, set_pool_field, set_scan_mark, set_unit_field, state_numbers, AT, BLOCK_SIZE,
+    CHANNEL_MARKS, FILE_FIELDS, FREE, HIGH, LOW, NUMBER, POOL_FIELDS, RECORD_LENGTH, UNIT_FIELDS, WIDTH,
+    WORDS,
 };
 use crate::text::{line_of, numbers_of};
 
@@ -146,7 +147,9 @@ impl Player {
                 let units = &mut self.state.channels[channel as usize].units;
                 set_unit_field(&mut units[unit as usize], field, value);
             }
-            [SCAN_MARK, channel, value] => self.state.channels[channel as usize].mark = value,
+            [SCAN_MARK, channel, mark, value] => {
+                set_scan_mark(&mut self.state.channels[channel as usize], mark, value);
+            }
             [POOL, field, value] => set_pool_field(&mut self.state, field, value),
             _ => *self = Player::new(),
         }
@@ -202,7 +205,7 @@ fn limits_of(command: &[u64]) -> Option<Vec<u64>> {
         WORD => vec![ROOM as u64 - 1, u64::MAX],
         FILE => vec![files, FILE_FIELDS - 1, file_limit(command.get(2).copied())],
         UNIT => vec![channels, units, UNIT_FIELDS - 1, BYTE],
-        SCAN_MARK => vec![channels, BYTE],
+        SCAN_MARK => vec![channels, CHANNEL_MARKS - 1, BYTE],
         POOL => vec![POOL_FIELDS - 1, pool_limit(command.get(1).copied())],
         _ => return None,
     })
@@ -263,7 +266,8 @@ mod tests {
     /// Changes have no answer; the area is the first part of the room.
     #[test]
     fn changes_between_calls() {
-        answers("9; 16 2 0; 15 4 9; 20; 15 4 10; 20; 10; 17; 20", &["0", "1", "0", "1", "1"]);
+        answers("9; 16 2 0; 15 4 0 9; 20; 15 4 0 10; 20; 10; 17; 20", &["0", "1", "0", "1", "1"]);
+        answers("15 0 1 9; 20; 15 0 1 10; 20; 10; 15 0 0 10; 15 0 1 9; 20", &["1", "0", "1", "0"]);
         answers(
             "11 3; 0 2 2 1 0 0 0 0; 11 4; 0 2 2 1 0 0 0 0; 1 0 0 0 1 2 2; 6 0 2 3 4; 11 3; 3 0 1 0; 4 0 0 0 0",
             &["1", "0", "0", "0", "0 0", "1"],
@@ -280,14 +284,15 @@ mod tests {
         let room = |first: &str, between: usize, last: &str| format!("{first} {} {last}", zeros(between));
         answers(
             "12 0 18446744073709551615; 12 63 7; 18; 19",
-            &[&room("18446744073709551615", 62, "7"), "0 0 0 0 0 10 0 10 0 10 0 10 0 10 16"],
+            &[&room("18446744073709551615", 62, "7"), &format!("0 0 0 0{} 16", " 0 0 10".repeat(5))],
         );
+        answers("15 1 0 7; 15 1 1 8; 15 4 1 255; 19", &["0 0 0 0 0 0 10 7 8 10 0 0 10 0 0 10 0 255 10 16"]);
     }
 
     /// The mask of the free buffers: printed after the freeze, set by hand modulo 2^32, and judged.
     #[test]
     fn free_masks() {
-        let units = "0 0 1 0 0 0 0 0 1 1 0 0 0 0 0 10 0 10 0 10 0 10 0 10";
+        let units = "0 0 0 1 0 0 0 0 0 1 1 0 0 0 0 0 10 0 0 10 0 0 10 0 0 10 0 0 10";
         let file = "0 1 0 0 0 1 0 0 1 1 0 1 0 0 0 0 0 0 1 0 0 0 0";
         answers(
             "0 3 1 3 0 0 0 0; 19; 1 0 0 0 2 1 1; 19; 2 0; 9; 19",
@@ -333,6 +338,7 @@ mod tests {
             ("9 1", 0, 1),
             ("13 0 0", 3, 2),
             ("14 0 0 0", 4, 3),
+            ("15 0 9", 3, 2),
             ("20 0", 0, 1),
         ] {
             let kind = command.split(' ').next().expect("a command");
@@ -360,7 +366,9 @@ mod tests {
             ("14 0 10 0 0", 2, 9, 10),
             ("14 0 0 6 0", 3, 5, 6),
             ("14 0 0 4 256", 4, 255, 256),
-            ("15 0 256", 2, 255, 256),
+            ("15 5 0 0", 1, 4, 5),
+            ("15 0 2 0", 2, 1, 2),
+            ("15 0 1 256", 3, 255, 256),
             ("16 4 0", 1, 3, 4),
             ("16 0 256", 2, 255, 256),
             ("16 1 65536", 2, 65_535, 65_536),

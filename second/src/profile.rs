@@ -106,7 +106,7 @@ impl Profile {
                 width: 4,
                 channels: 2,
                 files: 16,
-                priority: 30,
+                priority: 45,
                 redundancies: 45,
                 ..mixed
             },

@@ -2,7 +2,7 @@
 
 use std::collections::BTreeMap;
 
-use crate::channel::Turn;
+use crate::channel::{Channel, Turn, UNITS};
 use crate::file::Direction;
 use crate::frame::{answer_line, frame_of, refusals_of, Frame};
 use crate::pack::{Pack, FILES};
@@ -32,9 +32,13 @@ impl Default for Reach {
 
 const DISPLACEMENT: &str = "displacement";
 const FREEZE: &str = "freeze in the middle of an operation";
+const PRIORITY_PAST: &str = "priority turn past a lower unit that waits";
+const PRIORITY_WRAP: &str = "priority turn after the scan's wrap";
+const PRIORITY_THAW: &str = "priority turn of another than the one that a freeze stopped";
 const WRAP_INPUT: &str = "block number 32,767 passed on input";
 const WRAP_OUTPUT: &str = "block number 32,767 passed on output";
-const OTHERS: [&str; 4] = [DISPLACEMENT, FREEZE, WRAP_INPUT, WRAP_OUTPUT];
+const OTHERS: [&str; 7] =
+    [DISPLACEMENT, FREEZE, PRIORITY_PAST, PRIORITY_WRAP, PRIORITY_THAW, WRAP_INPUT, WRAP_OUTPUT];
 
 impl Reach {
     /// Plays the lines of a session, counts what they reach, and gives the answers.
@@ -70,6 +74,7 @@ impl Reach {
     fn play_line(&mut self, pack: &mut Pack, line: &[u8]) -> Vec<u8> {
         let frame = frame_of(line);
         let last_numbers = files_at_the_last_number(pack);
+        let at_work = pack.channels.each_ref().map(Channel::working_unit);
         if let Some(frame) = &frame {
             self.see_refusals(pack, frame);
         }
@@ -80,6 +85,12 @@ impl Reach {
             (0, Some(Frame::Get { .. })) => self.count(&format!("get {}", bytes[1])),
             (0, _) => {}
             (refusal, _) => self.count(&format!("refusal {refusal}")),
+        }
+        for (channel, before) in pack.channels.iter().zip(at_work) {
+            match channel.working_unit() {
+                Some(unit) if before != Some(unit) => self.see_start(channel, unit),
+                _ => {}
+            }
         }
         for file in last_numbers {
             self.see_wrap(pack, file);
@@ -105,6 +116,24 @@ impl Reach {
         let waits_again = channel.request(unit).is_some_and(|request| request.turn == Turn::Displaced);
         if waits_again {
             self.count(if channel.frozen { FREEZE } else { DISPLACEMENT });
+        }
+    }
+
+    /// An activity that has just started. Of a priority one, which others the scan came past.
+    fn see_start(&mut self, channel: &Channel, started: usize) {
+        let priority = |unit: usize| channel.requests[unit].as_ref().filter(|request| request.priority);
+        if priority(started).is_none() {
+            return;
+        }
+        if (0..started).any(|lower| priority(lower).is_some()) {
+            self.count(PRIORITY_PAST);
+        }
+        if started < channel.priority_begin {
+            self.count(PRIORITY_WRAP);
+        }
+        let stopped = |unit: usize| priority(unit).is_some_and(|request| request.turn == Turn::Displaced);
+        if (0..UNITS).any(stopped) {
+            self.count(PRIORITY_THAW);
         }
     }
 
@@ -145,7 +174,7 @@ mod tests {
     fn everything_is_missing_at_first() {
         let reach = Reach::default();
         assert_eq!(reach.missing().len(), reach.counts.len());
-        assert_eq!(reach.counts.len(), 14 + 7 + 3 + 5 + 4);
+        assert_eq!(reach.counts.len(), 14 + 7 + 3 + 5 + 7);
         assert!(!reach.missing().contains(&"refusal 14"));
         assert_eq!(reach.lines().lines().count(), reach.counts.len() + 1);
     }

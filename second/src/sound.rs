@@ -15,10 +15,11 @@ const LAST_ERROR: u64 = 3;
 type Holds = fn(&State) -> bool;
 
 /// The clauses, each with the test that a state must pass.
-const CLAUSES: [(Clause, Holds); 27] = [
+const CLAUSES: [(Clause, Holds); 28] = [
     (Clause::PoolSizes, pool_sizes),
     (Clause::NothingBeforeFresh, nothing_before_fresh),
     (Clause::ScanMarks, scan_marks),
+    (Clause::PriorityMarks, priority_marks),
     (Clause::UnitNumbers, unit_numbers),
     (Clause::FileSizes, file_sizes),
     (Clause::BlockNumbers, block_numbers),
@@ -51,6 +52,7 @@ pub enum Clause {
     PoolSizes,
     NothingBeforeFresh,
     ScanMarks,
+    PriorityMarks,
     UnitNumbers,
     FileSizes,
     BlockNumbers,
@@ -111,6 +113,11 @@ fn is_before_fresh(state: &State) -> bool {
 /// Reading F4: "the scan's mark 0 to 9".
 fn scan_marks(state: &State) -> bool {
     state.channels.iter().all(|channel| channel.mark < UNITS as u64)
+}
+
+/// The same of M-112's second mark.
+fn priority_marks(state: &State) -> bool {
+    state.channels.iter().all(|channel| channel.priority_mark < UNITS as u64)
 }
 
 /// "Channels 0 to 4", "Units 0 to 9 on each".
@@ -411,6 +418,14 @@ mod tests {
         for channel in 0..CHANNELS {
             keeps(|state| state.channels[channel].mark = 9);
             breaks(Clause::ScanMarks, |state| state.channels[channel].mark = 10);
+        }
+    }
+
+    #[test]
+    fn priority_marks() {
+        for channel in 0..CHANNELS {
+            keeps(|state| state.channels[channel].priority_mark = 9);
+            breaks(Clause::PriorityMarks, |state| state.channels[channel].priority_mark = 10);
         }
     }
 

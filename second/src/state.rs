@@ -60,8 +60,9 @@ pub struct UnitState {
 
 #[derive(Clone, Debug, Default, PartialEq, Eq)]
 pub struct ChannelState {
-    /// The unit at which the next scan begins.
+    /// The unit at which the next scan for ordinary requests begins, and that for priority requests.
     pub mark: u64,
+    pub priority_mark: u64,
     pub units: [UnitState; UNITS],
 }
 

@@ -237,10 +237,12 @@ mod tests {
         for number in 0..11 {
             let (mut state, mut area) = state_and_area();
             assert_eq!(call(number, &mut state.clone(), &mut area.clone()), expected(number));
-            state.channels[4].mark = 10;
-            let (before, words) = (state.clone(), area.clone());
-            assert_eq!(call(number, &mut state, &mut area), Err(1));
-            assert_eq!((&state, &area), (&before, &words));
+            for marks in [[10, 0], [0, 10]] {
+                [state.channels[4].mark, state.channels[4].priority_mark] = marks;
+                let (before, words) = (state.clone(), area.clone());
+                assert_eq!(call(number, &mut state, &mut area), Err(1));
+                assert_eq!((&state, &area), (&before, &words));
+            }
         }
     }
 

@@ -57,6 +57,11 @@ pub const FROZEN: u64 = 2;
 pub const FREE: u64 = 3;
 pub const POOL_FIELDS: u64 = 4;
 
+/// The marks of a channel: that of the scan for ordinary requests, and that for priority ones.
+pub const ORDINARY_MARK: u64 = 0;
+pub const PRIORITY_MARK: u64 = 1;
+pub const CHANNEL_MARKS: u64 = 2;
+
 /// What ends the units of a channel, and what ends a printed state.
 const NO_MORE_UNITS: u64 = UNITS as u64;
 const NO_MORE_FILES: u64 = FILES as u64;
@@ -142,6 +147,14 @@ pub fn set_pool_field(state: &mut State, field: u64, value: u64) {
     }
 }
 
+/// Sets one of the two marks of a channel.
+pub fn set_scan_mark(channel: &mut ChannelState, mark: u64, value: u64) {
+    match mark {
+        ORDINARY_MARK => channel.mark = value,
+        _ => channel.priority_mark = value,
+    }
+}
+
 /// The fields of a file in their order; what a slot's kind has not is 0.
 pub fn file_fields(file: &FileState) -> Vec<u64> {
     let [opened, output, double] = [file.opened, file.output, file.double].map(u64::from);
@@ -183,6 +196,11 @@ pub fn pool_fields(state: &State) -> [u64; 4] {
     [state.buffers, state.width, u64::from(state.frozen), u64::from(state.free)]
 }
 
+/// The marks of a channel in their order.
+pub fn scan_marks(channel: &ChannelState) -> [u64; 2] {
+    [channel.mark, channel.priority_mark]
+}
+
 /// A state as it is printed: what is all zero is left out.
 pub fn state_numbers(state: &State) -> Vec<u64> {
     let mut numbers = pool_fields(state).to_vec();
@@ -200,7 +218,7 @@ pub fn state_numbers(state: &State) -> Vec<u64> {
 }
 
 fn channel_numbers(channel: &ChannelState) -> Vec<u64> {
-    let mut numbers = vec![channel.mark];
+    let mut numbers = scan_marks(channel).to_vec();
     for (number, unit) in channel.units.iter().enumerate() {
         if *unit != UnitState::default() {
             numbers.push(number as u64);
@@ -300,16 +318,21 @@ mod tests {
     #[test]
     fn states_as_they_are_printed() {
         let mut state = State::default();
-        assert_eq!(state_numbers(&state), [0, 0, 0, 0, 0, 10, 0, 10, 0, 10, 0, 10, 0, 10, 16]);
+        let mut expected = vec![0; 4];
+        expected.extend([0, 0, 10].repeat(5));
+        expected.push(16);
+        assert_eq!(state_numbers(&state), expected);
         set_pool_field(&mut state, BUFFERS, 3);
         set_pool_field(&mut state, WIDTH, 5);
         set_pool_field(&mut state, FREE, 4_294_967_295);
-        state.channels[1].mark = 7;
+        set_scan_mark(&mut state.channels[1], ORDINARY_MARK, 7);
+        set_scan_mark(&mut state.channels[1], PRIORITY_MARK, 6);
+        set_scan_mark(&mut state.channels[3], PRIORITY_MARK, 200);
         set_unit_field(&mut state.channels[1].units[9], DECLARED, 1);
         set_unit_field(&mut state.channels[4].units[0], TURN_KIND, WORKING);
         set_file_field(&mut state.files[15], NUMBER, 2);
-        let mut expected = vec![3, 5, 0, 4_294_967_295, 0, 10, 7, 9, 1, 0, 0, 0, 0, 0, 10, 0, 10, 0, 10];
-        expected.extend([0, 0, 0, 3, 0, 0, 0, 0, 10, 15]);
+        let mut expected = vec![3, 5, 0, 4_294_967_295, 0, 0, 10, 7, 6, 9, 1, 0, 0, 0, 0, 0, 10];
+        expected.extend([0, 0, 10, 0, 200, 10, 0, 0, 0, 0, 3, 0, 0, 0, 0, 10, 15]);
         expected.extend([0, 0, 0, 0, 0, 0, 0, 0, 0, 0, 2, 0, 0, 0, 0, 0, 0, 0, 0, 0, 0, 0, 16]);
         assert_eq!(state_numbers(&state), expected);
     }

@@ -40,6 +40,7 @@ fn channel_of(state: &ChannelState, frozen: bool) -> Channel {
         declared: std::array::from_fn(|unit| state.units[unit].declared),
         requests: std::array::from_fn(|unit| state.units[unit].request.clone()),
         scan_begin: state.mark as usize,
+        priority_begin: state.priority_mark as usize,
         frozen,
     }
 }
@@ -48,7 +49,7 @@ fn channel_state(channel: &Channel) -> ChannelState {
     let unit_state =
         |unit: usize| UnitState { declared: channel.declared[unit], request: channel.requests[unit].clone() };
     let units: [UnitState; UNITS] = std::array::from_fn(unit_state);
-    ChannelState { mark: channel.scan_begin as u64, units }
+    ChannelState { mark: channel.scan_begin as u64, priority_mark: channel.priority_begin as u64, units }
 }
 
 fn file_of(state: &FileState) -> File {
@@ -143,6 +144,7 @@ mod tests {
     fn state_with(output: bool, low: Slot, high: Slot) -> State {
         let mut state = State { buffers: 5, width: 4, free: 0b01101, ..State::default() };
         state.channels[3].mark = 9;
+        state.channels[3].priority_mark = 4;
         state.channels[3].units[7].declared = true;
         state.files[15] = FileState {
             opened: true,

@@ -1,4 +1,4 @@
-//! Each reading of document 01 that a session can show, as a session. The names are those of the
+//! Each reading of documents 01 and 02 that a session can show, as a session. The names are those of the
 //! readings' rows; rows that only a caller of the library can show are tested beside the code.
 
 use second::frame::answer_line;
@@ -775,6 +775,108 @@ fn d4_after_a_freeze_the_lowest_priority_unit_goes_first() {
     session.gives(&ask(1, READ, 0), "00 FF");
     session.gives(THAW, "00");
     session.gives(&report(0, 1, GOOD, &[1]), "00 01 00 06");
+}
+
+/// A good end of a priority read on channel 0, which is skipped, and the unit that works then.
+fn ends(session: &mut Session, unit: u8, next: &str) {
+    session.gives(&report(0, unit, GOOD, &[1]), &format!("00 01 00 {next}"));
+    session.gives(&skip(unit), "00");
+}
+
+/// Document 02, M-112: "Lowest unit first lets one busy key shut out another."
+#[test]
+fn k1_priority_requests_are_scanned_from_above_the_last_priority_end() {
+    let mut session = inputs(&[0, 3, 9]);
+    session.gives(&ask(0, READ, 1), "00 00");
+    session.gives(&ask(9, READ, 1), "00 00");
+    session.gives(&ask(3, READ, 1), "00 00");
+    ends(&mut session, 0, "03");
+    session.gives(&ask(0, READ, 1), "00 03");
+    ends(&mut session, 3, "09");
+    session.gives(&ask(3, READ, 1), "00 09");
+    ends(&mut session, 9, "00");
+    session.gives(&ask(9, READ, 1), "00 00");
+    ends(&mut session, 0, "03");
+    ends(&mut session, 3, "09");
+    // The scan comes to the unit of the last end last, and a fresh start resets it.
+    ends(&mut session, 9, "FF");
+    session.gives(&ask(3, READ, 1), "00 03");
+    ends(&mut session, 3, "FF");
+    session.gives(FREEZE, "00");
+    session.gives(&ask(3, READ, 1), "00 FF");
+    session.gives(&ask(0, READ, 1), "00 FF");
+    session.gives(THAW, "00");
+    ends(&mut session, 0, "03");
+    session.gives(&fresh(4, 4), "00");
+    session.gives(FREEZE, "00");
+    for unit in [3, 0] {
+        session.gives(&open(unit, 0, unit, 0, 2, 1), "00");
+        session.gives(&ask(unit, READ, 1), "00 FF");
+    }
+    session.gives(THAW, "00");
+    session.gives(&report(0, 0, FILE_MARK, &[]), "00 03 00 03");
+}
+
+#[test]
+fn k2_each_kind_has_its_own_mark() {
+    let mut session = inputs(&[1, 2, 5, 8]);
+    session.gives(&ask(5, READ, 1), "00 05");
+    ends(&mut session, 5, "FF");
+    session.gives(&ask(1, READ, 0), "00 01");
+    ends(&mut session, 1, "FF");
+    // The marks are 2 and 6.
+    session.gives(&ask(8, READ, 0), "00 08");
+    session.gives(&ask(1, READ, 0), "00 08");
+    session.gives(&ask(5, READ, 1), "00 08");
+    session.gives(&ask(2, READ, 1), "00 08");
+    ends(&mut session, 8, "02");
+    ends(&mut session, 2, "05");
+    ends(&mut session, 5, "01");
+    session.gives(&ask(5, READ, 0), "00 01");
+    ends(&mut session, 1, "05");
+    ends(&mut session, 5, "FF");
+}
+
+#[test]
+fn k3_the_scan_finds_the_request_that_displaces() {
+    let mut session = inputs(&[1, 4, 6, 7]);
+    session.gives(&ask(4, READ, 1), "00 04");
+    ends(&mut session, 4, "FF");
+    session.gives(&ask(6, READ, 0), "00 06");
+    session.gives(&ask(1, READ, 1), "00 06");
+    session.gives(&ask(7, READ, 1), "00 06");
+    session.gives(&report(0, 6, REDUNDANCY, &[]), "00 00 00 07");
+    // A priority operation that works is not displaced.
+    session.gives(&report(0, 7, REDUNDANCY, &[]), "00 00 00 07");
+    ends(&mut session, 7, "01");
+    ends(&mut session, 1, "06");
+}
+
+#[test]
+fn k4_a_priority_operation_that_a_freeze_stopped_waits_for_the_scan() {
+    let mut session = inputs(&[2, 4, 6, 9]);
+    session.gives(&ask(2, READ, 1), "00 02");
+    ends(&mut session, 2, "FF");
+    for unit in [6, 9, 4] {
+        session.gives(&ask(unit, READ, 1), "00 06");
+    }
+    session.gives(FREEZE, "00");
+    session.gives(&report(0, 6, INCOMPLETE, &[]), "00 00 00 FF");
+    session.gives(THAW, "00");
+    session.refuses(&report(0, 6, INCOMPLETE, &[]), "0B");
+    ends(&mut session, 4, "06");
+    session.gives(&report(0, 6, INCOMPLETE, &[]), "00 06 00 09");
+    ends(&mut session, 9, "FF");
+    // An end in a freeze moves the mark.
+    session.gives(&ask(4, READ, 1), "00 04");
+    session.gives(FREEZE, "00");
+    ends(&mut session, 4, "FF");
+    for unit in [2, 4, 6] {
+        session.gives(&ask(unit, READ, 1), "00 FF");
+    }
+    session.gives(THAW, "00");
+    ends(&mut session, 6, "02");
+    ends(&mut session, 2, "04");
 }
 
 #[test]

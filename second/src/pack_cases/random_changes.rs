@@ -60,7 +60,11 @@ impl Steps<'_> {
             8 => {
                 let value = self.random.between(0, 10);
                 let channel = self.random.below(USED_CHANNELS);
-                self.script.scan_mark(channel, value);
+                if self.random.chance(1, 2) {
+                    self.script.priority_mark(channel, value);
+                } else {
+                    self.script.scan_mark(channel, value);
+                }
             }
             _ => {
                 let field = self.random.pick(&[BUFFERS, WIDTH, FROZEN, FROZEN]);

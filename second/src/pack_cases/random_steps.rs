@@ -29,7 +29,7 @@ const WEIGHTS: [(Step, u64); 13] = [
     (Step::Get, 22),
     (Step::Put, 14),
     (Step::Seal, 5),
-    (Step::Skip, 3),
+    (Step::Skip, 4),
     (Step::Freeze, 2),
     (Step::Thaw, 3),
     (Step::Change, 16),

@@ -7,7 +7,8 @@ use crate::pack_player::{self as player, Player};
 use crate::state::State;
 use crate::state_fields::{
     file_fields, pool_fields, unit_fields, AT, ATTEMPTS, ERROR, FILE_FIELDS, FREE, FULL, INCOMPLETE,
-    OPERATION, PART_FILLED, POOL_FIELDS, PRIORITY, SLOT_KIND, TURN_KIND, UNIT_FIELDS, WORDS,
+    OPERATION, ORDINARY_MARK, PART_FILLED, POOL_FIELDS, PRIORITY, PRIORITY_MARK, SLOT_KIND, TURN_KIND,
+    UNIT_FIELDS, WORDS,
 };
 
 pub const READ: u64 = 0;
@@ -141,8 +142,14 @@ impl Script {
         self.add(&[player::UNIT, channel, unit, field, value]);
     }
 
+    /// The mark of the scan for ordinary requests.
     pub fn scan_mark(&mut self, channel: u64, value: u64) {
-        self.add(&[player::SCAN_MARK, channel, value]);
+        self.add(&[player::SCAN_MARK, channel, ORDINARY_MARK, value]);
+    }
+
+    /// The mark of the scan for priority requests.
+    pub fn priority_mark(&mut self, channel: u64, value: u64) {
+        self.add(&[player::SCAN_MARK, channel, PRIORITY_MARK, value]);
     }
 
     pub fn pool(&mut self, field: u64, value: u64) {
@@ -230,8 +237,13 @@ impl Script {
 
     fn set_channel(&mut self, target: &State, channel: usize) {
         let wanted = &target.channels[channel];
-        if self.player.state.channels[channel].mark != wanted.mark {
+        let now = &self.player.state.channels[channel];
+        let (mark, priority_mark) = (now.mark, now.priority_mark);
+        if mark != wanted.mark {
             self.scan_mark(channel as u64, wanted.mark);
+        }
+        if priority_mark != wanted.priority_mark {
+            self.priority_mark(channel as u64, wanted.priority_mark);
         }
         for unit in 0..UNITS {
             for field in 0..UNIT_FIELDS {

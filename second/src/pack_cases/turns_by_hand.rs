@@ -15,6 +15,7 @@ pub fn add_cases(script: &mut Script) {
     attempt_four(script);
     counts_of_waiting_requests(script);
     scans(script);
+    priority_scans(script);
     displaced_priority(script);
     frozen_work(script);
     frozen_before_the_first_start(script);
@@ -140,6 +141,28 @@ fn scans(script: &mut Script) {
     }
 }
 
+/// A scan of priority requests from every unit; of the other kind one request waits, and its mark stays.
+fn priority_scans(script: &mut Script) {
+    for mark in 0..10 {
+        four_reads(script);
+        for unit in [1, 6, 9] {
+            script.unit(0, unit, PRIORITY, 1);
+        }
+        script.unit(0, 6, TURN_KIND, DISPLACED);
+        script.priority_mark(0, mark);
+        script.scan_mark(0, 9 - mark);
+        script.thaw();
+        for step in 0..4 {
+            let unit = unit_at_work(script);
+            if step == mark % 3 {
+                script.report(unit, REDUNDANCY);
+            }
+            script.report(unit, FILE_MARK);
+        }
+        script.print_state();
+    }
+}
+
 /// The unit that channel 0 works for.
 fn unit_at_work(script: &Script) -> u64 {
     let mut requests = script.player.state.requests();
@@ -147,7 +170,7 @@ fn unit_at_work(script: &Script) -> u64 {
     at_work.expect("a unit at work").1
 }
 
-/// A displaced priority request of a pack that is not frozen: the lowest of them is next.
+/// A displaced priority request of a pack that is not frozen: the scan comes to it.
 fn displaced_priority(script: &mut Script) {
     for (unit, outcome) in [(9, REDUNDANCY), (9, FILE_MARK), (1, REDUNDANCY), (1, FILE_MARK)] {
         four_reads(script);
@@ -214,6 +237,7 @@ fn frozen_before_the_first_start(script: &mut Script) {
     script.read(0, &[5]);
     script.start_over();
     script.scan_mark(2, 7);
+    script.priority_mark(3, 8);
     script.freeze();
     script.thaw();
     script.print_state();

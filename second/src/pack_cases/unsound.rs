@@ -7,10 +7,11 @@ use crate::sound::is_sound;
 use crate::state_fields::*;
 
 /// The clauses about ranges, each tried on a bench of its own.
-const CLAUSES: [fn(&mut Bench); 8] = [
+const CLAUSES: [fn(&mut Bench); 9] = [
     pool_sizes,
     before_fresh,
     scan_marks,
+    priority_marks,
     unit_numbers,
     file_sizes,
     chosen_sizes,
@@ -63,6 +64,8 @@ fn before_fresh(bench: &mut Bench) {
     bench.sound(|script| script.pool(FROZEN, 1));
     bench.sound(|script| script.scan_mark(3, 9));
     bench.unsound(|script| script.scan_mark(3, 10));
+    bench.sound(|script| script.priority_mark(3, 9));
+    bench.unsound(|script| script.priority_mark(3, 10));
 }
 
 fn scan_marks(bench: &mut Bench) {
@@ -71,6 +74,15 @@ fn scan_marks(bench: &mut Bench) {
         bench.sound(|script| script.scan_mark(channel, 9));
     }
     bench.unsound(|script| script.scan_mark(4, 255));
+}
+
+/// The same of the mark for priority requests.
+fn priority_marks(bench: &mut Bench) {
+    for channel in 0..5 {
+        bench.unsound(|script| script.priority_mark(channel, 10));
+        bench.sound(|script| script.priority_mark(channel, 9));
+    }
+    bench.unsound(|script| script.priority_mark(0, 255));
 }
 
 /// "Channels 0 to 4", "Units 0 to 9".
