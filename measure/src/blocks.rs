@@ -31,7 +31,7 @@ fn their_seal(block: &mut [u64], number: u16) -> u8 {
 
 fn their_judge(block: &[u64], number: u16) -> u16 {
     match blocks::judge(block, u64::from(number), true, true) {
-        Ok(error) => u16::from(error),
+        Ok(judged) => u16::from(judged.error),
         Err(refusal) => u16::from(refusal) * 256,
     }
 }

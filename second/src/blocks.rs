@@ -4,7 +4,7 @@
 //!
 //! A block has at most 1,024 words, so that a sum stays far below 2^64; it is right up to 2^28 words.
 
-use crate::word::{ones, ALL_ONES, HALF_BITS, LAST_NUMBER, NUMBER_BITS, WORD_BITS};
+use crate::word::{ones, Fields, Judged, ALL_ONES, HALF_BITS, LAST_NUMBER, NUMBER_BITS, WORD_BITS};
 
 /// The bits of a block number in a check word.
 const NUMBER_ONES: u64 = ones(NUMBER_BITS);
@@ -35,10 +35,11 @@ pub fn seal(words: &mut [u64], n: usize, number: u64, sequence: bool, check: boo
     Ok(())
 }
 
-/// Judges a block as delivered, check word last: its check error, 1 sequence, 2 check sum, 3 both.
+/// Judges a block as delivered, check word last: its check error, 1 sequence, 2 check sum, 3 both, and the
+/// sum and number that were worked out and read (M-102).
 /// Refused 1 if the block number is above 32,767; 2 if any word is 2^36 or more; 13 if the block has
 /// fewer than 1 + e words.
-pub fn judge(words: &[u64], number: u64, sequence: bool, check: bool) -> Result<u8, u8> {
+pub fn judge(words: &[u64], number: u64, sequence: bool, check: bool) -> Result<Judged, u8> {
     if number > LAST_NUMBER {
         return Err(1);
     }
@@ -54,9 +55,15 @@ pub fn judge(words: &[u64], number: u64, sequence: bool, check: bool) -> Result<
     if data.is_empty() {
         return Err(13);
     }
-    let sequence_error = sequence && found & NUMBER_ONES != number;
-    let sum_error = check && found >> HALF_BITS != totals.folded();
-    Ok(u8::from(sequence_error) | u8::from(sum_error) << 1)
+    let fields = Fields {
+        sum: totals.folded(),
+        number,
+        sum_read: found >> HALF_BITS,
+        number_read: found & NUMBER_ONES,
+    };
+    let sequence_error = sequence && fields.number_read != number;
+    let sum_error = check && fields.sum_read != fields.sum;
+    Ok(Judged { error: u8::from(sequence_error) | u8::from(sum_error) << 1, fields })
 }
 
 /// What one pass over a block finds.
@@ -172,7 +179,7 @@ mod tests {
                 let answer = judge(&words, number, chosen.sequence, chosen.check);
                 assert_eq!(answer, word::check(&words, chosen, number));
                 match answer {
-                    Ok(error) => errors[usize::from(error)] += 1,
+                    Ok(judged) => errors[usize::from(judged.error)] += 1,
                     Err(refusal) => refused[usize::from(refusal)] += 1,
                 }
             }
@@ -192,7 +199,8 @@ mod tests {
         let mut words = [1, 2, 9, 9];
         assert_eq!(seal(&mut words, 2, 1, true, true), Ok(()));
         assert_eq!(words, [1, 2, 786_433, 9]);
-        assert_eq!(judge(&words[..3], 1, true, true), Ok(0));
+        let fields = Fields::of([3, 1, 3, 1]);
+        assert_eq!(judge(&words[..3], 1, true, true), Ok(Judged { error: 0, fields }));
     }
 
     /// A sum that is not 0 folds to what it is modulo 2^18 - 1, and to that number instead of 0; also sums

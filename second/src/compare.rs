@@ -290,6 +290,22 @@ mod tests {
         is_found("freeze", |pack| each_channel(pack, forgets), 18);
     }
 
+    /// What get tells is worked out anew with the number of now; and a sum that is not chosen is left out.
+    #[test]
+    fn telling_what_was_not_found_at_delivery_is_found() {
+        let by_the_number_of_now = |file: &mut File| {
+            let number = file.number;
+            file.full.iter_mut().for_each(|block| block.found.number = number);
+        };
+        is_found("number of now", |pack| each_file(pack, by_the_number_of_now), 8);
+        let without_sum = |file: &mut File| {
+            if !file.chosen.check {
+                file.full.iter_mut().for_each(|block| block.found.sum = 0);
+            }
+        };
+        is_found("sum not chosen", |pack| each_file(pack, without_sum), 8);
+    }
+
     #[test]
     fn counting_a_displaced_operation_from_one_again_is_found() {
         let mistake = |pack: &mut Pack| {

@@ -2,7 +2,7 @@
 
 use std::collections::VecDeque;
 
-use crate::word::{next_number, Chosen};
+use crate::word::{next_number, Chosen, Fields, Judged};
 
 #[derive(Clone, Copy, Debug, PartialEq, Eq)]
 pub enum Direction {
@@ -19,6 +19,8 @@ pub struct Block {
     pub place: usize,
     /// The check error that get has not told yet, 0 for none.
     pub error: u8,
+    /// What the check found at delivery; zeros of a block that was sealed.
+    pub found: Fields,
 }
 
 /// The buffer that put adds to.
@@ -66,7 +68,7 @@ pub enum Found {
     Record(Part),
     NothingYet,
     End,
-    CheckError(u8),
+    CheckError(Judged),
     Leftover(Part),
 }
 
@@ -107,8 +109,9 @@ impl File {
 
     /// Books a block that was sealed or delivered: it is full and the newest; "block numbers ... go
     /// up by one for every block sealed or delivered".
-    pub fn add_full(&mut self, buffer: usize, data_words: usize, error: u8) {
-        self.full.push_back(Block { buffer, data_words, place: 0, error });
+    pub fn add_full(&mut self, buffer: usize, data_words: usize, judged: Judged) {
+        let Judged { error, fields: found } = judged;
+        self.full.push_back(Block { buffer, data_words, place: 0, error, found });
         self.number = next_number(self.number);
     }
 
@@ -124,7 +127,7 @@ impl File {
             return if self.mark_read { Found::End } else { Found::NothingYet };
         };
         if block.error != 0 {
-            return Found::CheckError(block.error);
+            return Found::CheckError(Judged { error: block.error, fields: block.found });
         }
         let remaining = block.data_words - block.place;
         let part = |words| Part { buffer: block.buffer, place: block.place, words };
@@ -156,6 +159,19 @@ impl File {
 #[cfg(test)]
 mod tests {
     use super::*;
+
+    /// A block in which nothing is wrong, and one in error, with fields that tell it from others.
+    const GOOD: Judged =
+        Judged { error: 0, fields: Fields { sum: 7, number: 1, sum_read: 7, number_read: 1 } };
+
+    fn in_error(error: u8) -> Judged {
+        Judged { error, fields: Fields::of([error.into(), 100, 200, 300]) }
+    }
+
+    /// A full block by hand.
+    fn block(buffer: usize, data_words: usize, place: usize) -> Block {
+        Block { buffer, data_words, place, error: 0, found: GOOD.fields }
+    }
 
     /// An input file with buffers 3 and 5, blocks of up to 5 words and records of 2.
     fn input() -> File {
@@ -189,7 +205,7 @@ mod tests {
         assert_eq!(file.lowest_empty(), Some(3));
         file.taken = Some(3);
         assert_eq!(file.lowest_empty(), Some(5));
-        file.add_full(5, 1, 0);
+        file.add_full(5, 1, GOOD);
         assert_eq!(file.lowest_empty(), None);
         file.taken = None;
         assert_eq!(file.lowest_empty(), Some(3));
@@ -201,8 +217,8 @@ mod tests {
     #[test]
     fn records_then_a_leftover_then_the_next_block() {
         let mut file = input();
-        file.add_full(5, 5, 0);
-        file.add_full(3, 2, 0);
+        file.add_full(5, 5, GOOD);
+        file.add_full(3, 2, GOOD);
         assert_eq!(file.get(), Found::Record(part(5, 0, 2)));
         assert_eq!(file.get(), Found::Record(part(5, 2, 2)));
         assert_eq!(file.get(), Found::Leftover(part(5, 4, 1)));
@@ -219,13 +235,26 @@ mod tests {
     #[test]
     fn a_check_error_is_told_once_before_the_first_record() {
         let mut file = input();
-        file.add_full(3, 1, 3);
-        file.add_full(5, 2, 1);
-        assert_eq!(file.get(), Found::CheckError(3));
+        file.add_full(3, 1, in_error(3));
+        file.add_full(5, 2, in_error(1));
+        assert_eq!(file.get(), Found::CheckError(in_error(3)));
         assert_eq!(file.get(), Found::Leftover(part(3, 0, 1)));
-        assert_eq!(file.get(), Found::CheckError(1));
+        assert_eq!(file.get(), Found::CheckError(in_error(1)));
         assert_eq!(file.lowest_empty(), Some(3));
         assert_eq!(file.get(), Found::Record(part(5, 0, 2)));
+    }
+
+    /// Reading H9: what was found stays with the block after it was told, and while others come.
+    #[test]
+    fn h9_what_was_found_stays_with_the_block() {
+        let mut file = input();
+        file.add_full(5, 2, in_error(2));
+        file.add_full(3, 2, GOOD);
+        file.number = 9;
+        assert_eq!(file.look(), Found::CheckError(in_error(2)));
+        assert_eq!(file.get(), Found::CheckError(in_error(2)));
+        assert_eq!((file.full[0].error, file.full[0].found), (0, in_error(2).fields));
+        assert_eq!(file.full[1].found, GOOD.fields);
     }
 
     /// Reading F1: no calls lead here, but two used-up blocks both become empty.
@@ -233,7 +262,7 @@ mod tests {
     fn f1_two_used_up_blocks_both_become_empty() {
         let mut file = input();
         for buffer in [5, 3] {
-            file.full.push_back(Block { buffer, data_words: 2, place: 2, error: 0 });
+            file.full.push_back(block(buffer, 2, 2));
         }
         assert_eq!(file.get(), Found::NothingYet);
         assert!(file.full.is_empty());
@@ -242,8 +271,8 @@ mod tests {
     #[test]
     fn looking_changes_nothing() {
         let mut file = input();
-        file.full.push_back(Block { buffer: 5, data_words: 2, place: 2, error: 0 });
-        file.add_full(3, 4, 0);
+        file.full.push_back(block(5, 2, 2));
+        file.add_full(3, 4, GOOD);
         let before = file.clone();
         assert_eq!(file.look(), Found::Record(part(3, 0, 2)));
         assert_eq!(file, before);
@@ -256,8 +285,8 @@ mod tests {
         file.part_filled = Some(PartFilled { buffer: 5, data_words: 2 });
         assert_eq!(file.room_for_put(), file.part_filled);
         file.part_filled = None;
-        file.add_full(3, 4, 0);
-        file.add_full(5, 4, 0);
+        file.add_full(3, 4, GOOD);
+        file.add_full(5, 4, GOOD);
         assert_eq!(file.room_for_put(), None);
     }
 
@@ -282,7 +311,7 @@ mod tests {
         file.part_filled = Some(PartFilled { buffer: 3, data_words: 2 });
         assert!(file.has_unwritten_output());
         file.part_filled = None;
-        file.add_full(3, 2, 0);
+        file.add_full(3, 2, GOOD);
         assert!(file.has_unwritten_output());
         file.direction = Direction::Input;
         assert!(!file.has_unwritten_output());
@@ -292,16 +321,16 @@ mod tests {
     fn block_numbers_go_up_and_pass_32767() {
         let mut file = input();
         file.number = 32_766;
-        file.add_full(3, 1, 0);
+        file.add_full(3, 1, GOOD);
         assert_eq!(file.number, 32_767);
-        file.add_full(5, 1, 2);
+        file.add_full(5, 1, in_error(2));
         assert_eq!(file.number, 0);
     }
 
     #[test]
     fn the_whole_block_has_its_check_word_last() {
         let mut file = output();
-        file.add_full(5, 4, 0);
+        file.add_full(5, 4, GOOD);
         assert_eq!(file.whole_block(&file.full[0]), part(5, 0, 5));
         file.chosen = Chosen { sequence: false, check: false };
         assert_eq!(file.whole_block(&file.full[0]), part(5, 0, 4));

@@ -1,5 +1,26 @@
 //! The subcommand `file-walks`: a fixed list of events for `files`: opens of all sorts, and after
 //! each a random walk of events that are allowed where they stand.
+//!
+//! An event is a line of decimal numbers, the first its kind, and has one line of numbers for an answer: the
+//! numbers that are named here, then the dump of the file.
+//!
+//! - `1 W output double sequence check B r low high`: an open. A single file has the buffer `low` alone.
+//! - `2`: a read is accepted. Answer: `start`, where the taken buffer begins in the area.
+//! - `3 words error sum number sumread numberread`: a good end of the read, with so many data words, this
+//!   check error and what the check found (M-102). Answer: nothing.
+//! - `4`, `5`: a permanent error of the read; a file mark. Answer: nothing.
+//! - `6`: get. Answer: `answer start count error sum number sumread numberread`; the answers are those of
+//!   the session program, and what does not belong to the answer is 0.
+//! - `7`: skip. Answer: nothing.
+//! - `8`: a put of r words. Answer: `start count sealed`: where they go, the data words of the block then, and
+//!   whether it is sealed at once. `9`: a seal. Answer: `start count` of the block's data words.
+//! - `10`: what a write sends. Answer: `start count`, check word too. `11`, `12`: the write ended well; with
+//!   a permanent error. Answer: nothing.
+//!
+//! The dump: the count of full blocks; for each, the oldest first, `buffer words place error sum number
+//! sumread numberread`, the error being 0 once it was told, the other four as found at delivery and 0 in an
+//! output file; the taken buffer, 255 for none; the part-filled buffer, 255 for none, and its words; the next
+//! block number; whether a mark was read.
 
 use crate::file_player::{
     answer_walk_event, OpenFile, GET, OPEN, PUT, READ, READ_ERROR, READ_GOOD, READ_MARK, SEAL, SKIP,
@@ -170,7 +191,34 @@ impl Script {
         };
         let fields = u64::from(chosen.sequence) | u64::from(chosen.check) << 1;
         let error = if self.random.chance(1, 2) { self.random.below(4) & fields } else { 0 };
-        vec![READ_GOOD, words, error]
+        [&[READ_GOOD, words, error][..], &self.found(error)].concat()
+    }
+
+    /// What the check of the next block finds, with this error. The words of a walk are never all zero, so
+    /// that no sum is 0. A field that is not chosen is read as anything, and without a check word as zero.
+    fn found(&mut self, error: u64) -> [u64; 4] {
+        let file = &self.opened.as_ref().expect("an open file").file;
+        let (chosen, number) = (file.chosen, file.number);
+        let any_sum = self.random.between(1, 262_143);
+        let sum = self.random.pick(&[1, 262_143, any_sum, any_sum, any_sum]);
+        let other_sum = self.random.below(262_144);
+        let other_number = self.random.below(32_768);
+        let differing = |right: u64, other: u64| if other == right { right ^ 1 } else { other };
+        let sum_read = match (chosen.check, error & 2) {
+            (true, 0) => sum,
+            (true, _) => differing(sum, other_sum),
+            (false, _) => other_sum,
+        };
+        let number_read = match (chosen.sequence, error & 1) {
+            (true, 0) => number,
+            (true, _) => differing(number, other_number),
+            (false, _) => other_number,
+        };
+        if chosen.e() == 1 {
+            [sum, number, sum_read, number_read]
+        } else {
+            [sum, number, 0, 0]
+        }
     }
 }
 

@@ -2,6 +2,7 @@
 
 use crate::pack::{Got, Opening, Pack, Reported, CHANNELS};
 use crate::refusals::Refusals;
+use crate::word::Fields;
 
 /// "Over 10,248 digits is malformed."
 pub const LONGEST_LINE: usize = 10_248;
@@ -152,13 +153,26 @@ pub fn refusals_of(pack: &Pack, frame: &Frame) -> Refusals {
 }
 
 /// "Report adds result, check error, working unit and, if it ends a write with 01 or 04, the
-/// block's words".
+/// block's words". M-102: a report that delivers a block carries what was found "after the error number".
 fn add_report(answer: &mut Vec<u8>, reported: &Reported) {
-    answer.extend([reported.result.number() as u8, reported.check_error, unit_byte(reported.working_unit)]);
+    answer.extend([reported.result.number() as u8, reported.check_error]);
+    if let Some(found) = reported.found {
+        add_found(answer, found);
+    }
+    answer.push(unit_byte(reported.working_unit));
     add_words(answer, reported.block);
 }
 
-/// "Get adds 00 and words, 01 nothing yet, 02 end, 03 and the check error, 04 and a leftover."
+/// "worked-out sum and number first, then those read, four bytes a sum, two a number".
+fn add_found(answer: &mut Vec<u8>, found: Fields) {
+    for (sum, number) in [(found.sum, found.number), (found.sum_read, found.number_read)] {
+        answer.extend((sum as u32).to_be_bytes());
+        answer.extend((number as u16).to_be_bytes());
+    }
+}
+
+/// "Get adds 00 and words, 01 nothing yet, 02 end, 03 and the check error, 04 and a leftover." M-102: 03
+/// carries what was found at delivery after the error.
 fn add_get(answer: &mut Vec<u8>, got: &Got) {
     match got {
         Got::Record(words) => {
@@ -167,7 +181,10 @@ fn add_get(answer: &mut Vec<u8>, got: &Got) {
         }
         Got::NothingYet => answer.push(0x01),
         Got::End => answer.push(0x02),
-        Got::CheckError(error) => answer.extend([0x03, *error]),
+        Got::CheckError(judged) => {
+            answer.extend([0x03, judged.error]);
+            add_found(answer, judged.fields);
+        }
         Got::Leftover(words) => {
             answer.push(0x04);
             add_words(answer, words);
@@ -331,7 +348,7 @@ mod tests {
         assert_eq!(answer_line(&mut pack, b"0001000400010000000000000000"), b"00");
         assert_eq!(answer_line(&mut pack, b"010000000000020002"), b"00");
         assert_eq!(answer_line(&mut pack, b"03000000"), b"0000");
-        assert_eq!(answer_line(&mut pack, b"040000000FFFFFFFFF"), b"000100FF");
+        assert_eq!(answer_line(&mut pack, b"040000000FFFFFFFFF"), b"0001000003FFFF0001000000000000FF");
         assert_eq!(answer_line(&mut pack, b"0500"), b"00040FFFFFFFFF");
     }
 }

@@ -260,7 +260,10 @@ impl Generator {
         let data_words = if self.random.chance(1, 3) { most } else { self.random.between(1, most) };
         let mut block: Vec<u64> = (0..data_words).map(|_| self.random_word()).collect();
         if chosen.e() == 1 {
-            block.push(check_word(chosen, number, logical_sum(&block)));
+            // Now and then the field that is not chosen is right too, or the one that is chosen stands alone.
+            let written =
+                if self.random.chance(1, 4) { Chosen { sequence: true, check: true } } else { chosen };
+            block.push(check_word(written, number, logical_sum(&block)));
             if self.random.chance(self.habits.damaged, 100) {
                 self.damage(&mut block, chosen);
             }

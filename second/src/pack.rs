@@ -4,7 +4,7 @@
 use crate::channel::{Booked, Channel, Operation, Outcome, Request, UNITS};
 use crate::file::{Direction, File, Found, Part, PartFilled};
 use crate::refusals::Refusals;
-use crate::word::{check_error, is_word, seal, Chosen};
+use crate::word::{is_word, judge, seal, Chosen, Fields, Judged};
 
 /// "Channels 0 to 4 (the manual's A to E)."
 pub const CHANNELS: usize = 5;
@@ -51,15 +51,18 @@ pub enum Got<'a> {
     Record(&'a [u64]),
     NothingYet,
     End,
-    CheckError(u8),
+    /// The check error, and what was found at delivery.
+    CheckError(Judged),
     Leftover(&'a [u64]),
 }
 
-/// What a report gives; `block` is empty unless the report ends a write well.
+/// What a report gives; `found` is there if the report delivers a block, and `block` is empty unless it
+/// ends a write well.
 #[derive(Clone, Debug, PartialEq, Eq)]
 pub struct Reported<'a> {
     pub result: Booked,
     pub check_error: u8,
+    pub found: Option<Fields>,
     pub working_unit: Option<usize>,
     pub block: &'a [u64],
 }
@@ -242,12 +245,12 @@ impl Pack {
         let channel = &mut self.channels[channel as usize];
         let result = channel.report(unit, outcome)?;
         let working_unit = channel.working_unit();
-        let mut check_error = 0;
+        let mut delivered = None;
         let mut shown = Part { buffer: 0, place: 0, words: 0 };
         match (operation, result) {
             (_, Booked::Repeated) | (Operation::Mark, _) => {}
             (Operation::Read, Booked::Good | Booked::GoodInOppositeMode) => {
-                check_error = self.deliver(file, words);
+                delivered = Some(self.deliver(file, words));
             }
             // "A read that ends with a mark or a permanent error gives its buffer back as empty."
             (Operation::Read, _) => {
@@ -267,7 +270,13 @@ impl Pack {
             // "after a permanent error it is full still"
             (Operation::Write, _) => {}
         }
-        Ok(Reported { result, check_error, working_unit, block: self.part(&shown) })
+        Ok(Reported {
+            result,
+            check_error: delivered.map_or(0, |judged| judged.error),
+            found: delivered.map(|judged| judged.fields),
+            working_unit,
+            block: self.part(&shown),
+        })
     }
 
     /// 2: "a given word ... is 2^36 or more"; 11: "the channel is not working for that unit";
@@ -311,14 +320,14 @@ impl Pack {
 
     /// "A good end makes it full": puts a delivered block into the buffer that the read has taken.
     /// "A block in error is kept and its number reported."
-    fn deliver(&mut self, file: u64, words: &[u64]) -> u8 {
+    fn deliver(&mut self, file: u64, words: &[u64]) -> Judged {
         let width = self.width;
         let opened = self.judged_file(file);
         let buffer = opened.taken.take().expect("the buffer of a read");
-        let error = check_error(words, opened.chosen, opened.number);
-        opened.add_full(buffer, words.len() - opened.chosen.e(), error);
+        let judged = judge(words, opened.chosen, opened.number);
+        opened.add_full(buffer, words.len() - opened.chosen.e(), judged);
         self.area[buffer * width..][..words.len()].copy_from_slice(words);
-        error
+        judged
     }
 
     /// Gets the next record, or what stands in its place.
@@ -328,7 +337,7 @@ impl Pack {
             Found::Record(part) => Got::Record(self.part(&part)),
             Found::NothingYet => Got::NothingYet,
             Found::End => Got::End,
-            Found::CheckError(error) => Got::CheckError(error),
+            Found::CheckError(judged) => Got::CheckError(judged),
             Found::Leftover(part) => Got::Leftover(self.part(&part)),
         })
     }
@@ -401,7 +410,7 @@ impl Pack {
         let opened = self.judged_file(file);
         let part = opened.part_filled.take().expect("a part-filled buffer");
         let (chosen, number) = (opened.chosen, opened.number);
-        opened.add_full(part.buffer, part.data_words, 0);
+        opened.add_full(part.buffer, part.data_words, Judged::default());
         let buffer = &mut self.area[part.buffer * width..][..width];
         seal(buffer, part.data_words, chosen, number).expect("a judged block");
     }
@@ -537,6 +546,10 @@ mod tests {
     fn read(pack: &mut Pack, words: &[u64]) -> u8 {
         pack.ask(0, READ, 0).expect("an accepted ask");
         pack.report(0, 0, GOOD, words).expect("a delivered block").check_error
+    }
+
+    fn judged(error: u8, fields: [u64; 4]) -> Judged {
+        Judged { error, fields: Fields::of(fields) }
     }
 
     /// The call is refused and changes nothing.
@@ -709,13 +722,35 @@ mod tests {
         assert_eq!(pack.area[..4], [5, 6, 1, 1_003]);
         assert_eq!(pack.area[10..15], [7, 8, 9, 5, 1_014]);
         assert_eq!(pack.get(0), Ok(Got::Record(&[5, 6])));
-        assert_eq!(pack.get(0), Ok(Got::CheckError(1)));
+        assert_eq!(pack.get(0), Ok(Got::CheckError(judged(1, [24, 2, 0, 5]))));
         assert_eq!(pack.get(0), Ok(Got::Record(&[7, 8])));
         assert_eq!(pack.get(0), Ok(Got::Leftover(&[9])));
         assert_eq!(pack.get(0), Ok(Got::NothingYet));
         pack.ask(0, READ, 0).expect("an accepted ask");
         assert_eq!(pack.report(0, 0, FILE_MARK, &[]).map(|reported| reported.result), Ok(Booked::Mark));
         assert_eq!(pack.get(0), Ok(Got::End));
+    }
+
+    /// Readings H7 and H9: a report tells what was found if it delivers a block, good or not, and get tells
+    /// the same of a block in error, though the number has moved on and the area was written.
+    #[test]
+    fn h9_what_was_found_at_delivery_is_told() {
+        let mut pack = pack_with(DOUBLE + SEQUENCE + CHECK, 3, 2);
+        let found = |pack: &mut Pack, outcome, words: &[u64]| {
+            if pack.channels[0].request(0).is_none() {
+                pack.ask(0, READ, 0).expect("an accepted ask");
+            }
+            pack.report(0, 0, outcome, words).expect("a report").found
+        };
+        assert_eq!(found(&mut pack, REDUNDANCY, &[]), None);
+        assert_eq!(found(&mut pack, GOOD, &[5, 6, (11 << 18) + 1]), Some(Fields::of([11, 1, 11, 1])));
+        assert_eq!(found(&mut pack, GOOD, &[7, (8 << 18) + 3]), Some(Fields::of([7, 2, 8, 3])));
+        pack.area[10..12].copy_from_slice(&[1, 2]);
+        assert_eq!(pack.get(0), Ok(Got::Record(&[5, 6])));
+        assert_eq!(pack.get(0), Ok(Got::CheckError(judged(3, [7, 2, 8, 3]))));
+        assert_eq!(found(&mut pack, INCOMPLETE, &[]), None);
+        assert_eq!(found(&mut pack, INCOMPLETE, &[]), None);
+        assert_eq!(found(&mut pack, FILE_MARK, &[]), None);
     }
 
     /// Reading C17: a failed read, a close and a fresh start write nothing.
@@ -744,7 +779,7 @@ mod tests {
         let block: &[u64] = &[1, 2, 786_433];
         assert_eq!(
             reported,
-            Ok(Reported { result: Booked::Good, check_error: 0, working_unit: None, block })
+            Ok(Reported { result: Booked::Good, check_error: 0, found: None, working_unit: None, block })
         );
         refused(&pack, 9, |pack| pack.ask(0, WRITE, 0));
         assert_eq!(pack.ask(0, MARK, 0), Ok(Some(0)));
@@ -846,7 +881,7 @@ mod tests {
         pack.area[1] = SPOILT;
         assert_eq!(pack.get(0), Ok(Got::Record(&[5])));
         pack.area[10] = SPOILT;
-        assert_eq!(pack.get(0), Ok(Got::CheckError(1)));
+        assert_eq!(pack.get(0), Ok(Got::CheckError(judged(1, [13, 2, 0, 9]))));
         refused(&pack, 2, |pack| pack.get(0).map(|_| ()));
         pack.area[10] = 6;
         pack.area[11] = SPOILT;

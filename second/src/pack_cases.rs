@@ -10,10 +10,13 @@
 //! - `0 m W mask mask mask mask mask`: fresh start.
 //! - `1 file channel unit flags B r`: open. `2 file`: close.
 //! - `3 file operation priority`: ask. Answer: `working`, 255 for none.
-//! - `4 channel unit outcome n word ..`: report with n words (0 to 64). Answer: `result error working start
-//!   count word ..`, the block that is shown being `count` words of the area from `start`; if none is shown
-//!   both are 0.
-//! - `5 file`: get. Answer: `kind error start count word ..`; the kinds are those of the session program.
+//! - `4 channel unit outcome n word ..`: report with n words (0 to 64). Answer: `result error sum number
+//!   sumread numberread working start count word ..`: directly after the error what the check of a delivered
+//!   block found (M-102), four zeros if none was delivered; the block that is shown is `count` words of the
+//!   area from `start`, and if none is shown both are 0.
+//! - `5 file`: get. Answer: `kind error sum number sumread numberread start count word ..`; the kinds are
+//!   those of the session program, and directly after the error stands what was found at delivery, four
+//!   zeros if the kind is not 3.
 //! - `6 file n word ..`: put. `7 file`: seal. `8 file`: skip. `9`: freeze. `10`: thaw.
 //!
 //! Changes, which have no answer.
@@ -27,9 +30,10 @@
 //! Prints. `18`: the room. `19`: the state. `20`: 1 if the state is sound, else 0.
 //!
 //! Fields of a file: 0 open, 1 channel, 2 unit, 3 output, 4 double, 5 sequence, 6 check, 7 B, 8 r, 9 turned
-//! (of two full blocks the one in the high buffer is the older), 10 number, 11 marked, 12 to 16 the low
-//! buffer, 17 to 21 the high one: number, kind (0 empty, 1 taken, 2 part-filled, 3 full), words, place of
-//! get, error not told. Setting a kind makes a slot of that kind with zeros; a field that the kind has not is
+//! (of two full blocks the one in the high buffer is the older), 10 number, 11 marked, 12 to 20 the low
+//! buffer, 21 to 29 the high one: number, kind (0 empty, 1 taken, 2 part-filled, 3 full), words, place of
+//! get, error not told, and as the check found them (M-102) sum, number, sum read, number read; these four
+//! stay when the error is told, and are 0 in output files. A sum takes four bytes. Setting a kind makes a slot of that kind with zeros; a field that the kind has not is
 //! 0 and is not set. Fields of a unit: 0 declared, 1 turn (0 idle, 1 waiting, 2 displaced, 3 working), 2
 //! operation, 3 priority, 4 attempts, 5 incomplete words; an idle unit has no others, and a turn set on it
 //! makes an ordinary read with zeros. Fields of the pool: 0 m, 1 W, 2 frozen, 3 free mask (modulo 2^32).
@@ -40,6 +44,7 @@
 
 mod areas;
 mod buffers;
+mod found_by_hand;
 mod given;
 mod input_by_hand;
 mod kept_masks;
@@ -66,6 +71,7 @@ pub fn pack_cases() -> Vec<Vec<u64>> {
     unsound::add_cases(&mut script);
     buffers::add_cases(&mut script);
     input_by_hand::add_cases(&mut script);
+    found_by_hand::add_cases(&mut script);
     output_by_hand::add_cases(&mut script);
     turns_by_hand::add_cases(&mut script);
     random_steps::add_cases(&mut script);
@@ -149,9 +155,9 @@ mod tests {
     #[test]
     fn the_script_keeps_its_size() {
         let script = lines_of(&pack_cases());
-        assert!(script.len() < 120_000, "{}", script.len());
+        assert!(script.len() < 140_000, "{}", script.len());
         let answers = answer_script(&script).expect("a script");
-        assert!(answers.len() < 150_000, "{}", answers.len());
+        assert!(answers.len() < 200_000, "{}", answers.len());
     }
 
     #[test]
@@ -180,15 +186,17 @@ mod tests {
             };
             let mut note = |what, number| met.entry(what).or_default().insert(number);
             match (played.command[0], answer) {
-                (REPORT, [0, result, error, ..]) => {
-                    note("result", *result);
-                    note("error of a report", *error);
-                    note("working unit", u64::from(answer[3] == 255));
-                    note("block shown", u64::from(answer[5] > 0));
+                (REPORT, &[0, result, error, sum, number, sum_read, number_read, working, _, count, ..]) => {
+                    note("result", result);
+                    note("error of a report", error);
+                    note("sum found", u64::from(sum == sum_read));
+                    note("number found", u64::from(number == number_read));
+                    note("working unit", u64::from(working == 255));
+                    note("block shown", u64::from(count > 0));
                 }
-                (GET, [0, kind, error, ..]) => {
-                    note("get", *kind);
-                    note("error of a get", *error);
+                (GET, &[0, kind, error, ..]) => {
+                    note("get", kind);
+                    note("error of a get", error);
                 }
                 (ASK, [0, working]) => _ = note("ask", u64::from(*working == 255)),
                 (PRINT_SOUND, [sound]) => _ = note("sound", *sound),
@@ -198,6 +206,8 @@ mod tests {
         for (what, last) in [
             ("result", 6),
             ("error of a report", 3),
+            ("sum found", 1),
+            ("number found", 1),
             ("working unit", 1),
             ("block shown", 1),
             ("get", 4),

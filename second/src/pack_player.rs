@@ -8,8 +8,8 @@ use crate::state::State;
 use crate::state_calls::{self as calls, Shown};
 use crate::state_fields::{
     set_file_field, set_pool_field, set_scan_mark, set_unit_field, state_numbers, AT, BLOCK_SIZE,
-    CHANNEL_MARKS, FILE_FIELDS, FREE, HIGH, LOW, NUMBER, POOL_FIELDS, RECORD_LENGTH, UNIT_FIELDS, WIDTH,
-    WORDS,
+    BUFFER_FIELDS, CHANNEL_MARKS, FILE_FIELDS, FOUND_NUMBER, FOUND_SUM, FREE, LOW, NUMBER, NUMBER_READ,
+    POOL_FIELDS, RECORD_LENGTH, SUM_READ, UNIT_FIELDS, WIDTH, WORDS,
 };
 use crate::text::{line_of, numbers_of};
 
@@ -46,6 +46,8 @@ pub const NO_UNIT: u64 = 255;
 /// One byte and two bytes.
 const BYTE: u64 = 255;
 const TWO_BYTES: u64 = 65_535;
+/// Four bytes, for the sums that a check found.
+const FOUR_BYTES: u64 = u32::MAX as u64;
 
 /// What the player keeps between commands.
 #[derive(Clone, Debug, PartialEq, Eq)]
@@ -123,11 +125,13 @@ impl Player {
             [REPORT, channel, unit, outcome, _, ref words @ ..] => {
                 let answer = calls::report(state, area, channel, unit, outcome, words)?;
                 let working = answer.working_unit.unwrap_or(NO_UNIT);
-                Ok(with_words(&[answer.result, answer.check_error, working], &answer.block))
+                let first = [answer.result, answer.check_error];
+                Ok(with_words(&[&first[..], &answer.found.in_order(), &[working]].concat(), &answer.block))
             }
             [GET, file] => {
                 let answer = calls::get(state, area, file)?;
-                Ok(with_words(&[answer.kind, answer.check_error], &answer.words))
+                let first = [answer.kind, answer.check_error];
+                Ok(with_words(&[&first[..], &answer.found.in_order()].concat(), &answer.words))
             }
             [PUT, file, _, ref words @ ..] => calls::put(state, area, file, words).map(nothing),
             [SEAL, file] => calls::seal(state, area, file).map(nothing),
@@ -222,12 +226,15 @@ fn pool_limit(field: Option<u64>) -> u64 {
 
 /// The largest number that a field of a file can take.
 fn file_limit(field: Option<u64>) -> u64 {
-    const WIDE: [u64; 7] =
-        [BLOCK_SIZE, RECORD_LENGTH, NUMBER, LOW + WORDS, LOW + AT, HIGH + WORDS, HIGH + AT];
-    if field.is_some_and(|field| WIDE.contains(&field)) {
-        TWO_BYTES
-    } else {
-        BYTE
+    const WIDE: [u64; 4] = [WORDS, AT, FOUND_NUMBER, NUMBER_READ];
+    match field {
+        Some(BLOCK_SIZE | RECORD_LENGTH | NUMBER) => TWO_BYTES,
+        Some(field) if field >= LOW => match (field - LOW) % BUFFER_FIELDS {
+            FOUND_SUM | SUM_READ => FOUR_BYTES,
+            of_buffer if WIDE.contains(&of_buffer) => TWO_BYTES,
+            _ => BYTE,
+        },
+        _ => BYTE,
     }
 }
 
@@ -247,7 +254,7 @@ mod tests {
     fn the_whole_session() {
         answers(
             "0 1 4 1 0 0 0 0; 1 0 0 0 0 2 1; 3 0 0 0; 4 0 0 0 1 5; 5 0; 5 0; 4 0 0 0 1 5",
-            &["0", "0", "0 0", "0 1 0 255 0 0", "0 0 0 0 1 5", "0 1 0 0 0", "11"],
+            &["0", "0", "0 0", "0 1 0 5 1 0 0 255 0 0", "0 0 0 0 0 0 0 0 1 5", "0 1 0 0 0 0 0 0 0", "11"],
         );
     }
 
@@ -255,11 +262,23 @@ mod tests {
     fn what_a_write_and_a_get_show() {
         answers(
             "0 2 4 3 0 0 0 0; 1 1 0 1 0 1 1; 1 0 0 0 13 3 1; 6 0 1 1; 6 0 1 2; 7 0; 3 0 1 1; 4 0 0 4 0",
-            &["0", "0", "0", "0", "0", "0", "0 0", "0 4 0 255 4 3 1 2 786433"],
+            &["0", "0", "0", "0", "0", "0", "0 0", "0 4 0 0 0 0 0 255 4 3 1 2 786433"],
         );
         answers(
             "0 2 4 3 0 0 0 0; 1 1 0 1 0 1 1; 1 0 0 0 4 3 2; 3 0 0 0; 4 0 0 0 4 7 8 9 2; 5 0; 5 0; 5 0; 8 0; 8 0; 2 0",
-            &["0", "0", "0", "0 0", "0 1 1 255 0 0", "0 3 1 0 0", "0 0 0 4 2 7 8", "0 4 0 6 1 9", "0", "9", "0"],
+            &[
+                "0",
+                "0",
+                "0",
+                "0 0",
+                "0 1 1 24 1 0 2 255 0 0",
+                "0 3 1 24 1 0 2 0 0",
+                "0 0 0 0 0 0 0 4 2 7 8",
+                "0 4 0 0 0 0 0 6 1 9",
+                "0",
+                "9",
+                "0",
+            ],
         );
     }
 
@@ -293,7 +312,7 @@ mod tests {
     #[test]
     fn free_masks() {
         let units = "0 0 0 1 0 0 0 0 0 1 1 0 0 0 0 0 10 0 0 10 0 0 10 0 0 10 0 0 10";
-        let file = "0 1 0 0 0 1 0 0 1 1 0 1 0 0 0 0 0 0 1 0 0 0 0";
+        let file = "0 1 0 0 0 1 0 0 1 1 0 1 0 0 0 0 0 0 0 0 0 0 1 0 0 0 0 0 0 0 0";
         answers(
             "0 3 1 3 0 0 0 0; 19; 1 0 0 0 2 1 1; 19; 2 0; 9; 19",
             &[
@@ -350,7 +369,7 @@ mod tests {
     #[test]
     fn numbers_that_are_too_large() {
         for (command, place, limit, number) in [
-            ("0 256 1 0 0 0 0 0", 1, 255, 256),
+            ("0 256 1 0 0 0 0 0", 1, 255_u64, 256_u64),
             ("0 1 65536 0 0 0 0 0", 2, 65_535, 65_536),
             ("0 1 1 0 0 0 0 65536", 7, 65_535, 65_536),
             ("1 0 0 0 256 1 1", 4, 255, 256),
@@ -358,10 +377,16 @@ mod tests {
             ("11 65", 1, 64, 65),
             ("12 64 0", 1, 63, 64),
             ("13 16 0 0", 1, 15, 16),
-            ("13 0 22 0", 2, 21, 22),
+            ("13 0 30 0", 2, 29, 30),
             ("13 0 1 256", 3, 255, 256),
             ("13 0 10 65536", 3, 65_535, 65_536),
+            ("13 0 16 256", 3, 255, 256),
+            ("13 0 17 4294967296", 3, 4_294_967_295, 4_294_967_296),
+            ("13 0 18 65536", 3, 65_535, 65_536),
             ("13 0 21 256", 3, 255, 256),
+            ("13 0 23 65536", 3, 65_535, 65_536),
+            ("13 0 28 4294967296", 3, 4_294_967_295, 4_294_967_296),
+            ("13 0 29 65536", 3, 65_535, 65_536),
             ("14 5 0 0 0", 1, 4, 5),
             ("14 0 10 0 0", 2, 9, 10),
             ("14 0 0 6 0", 3, 5, 6),
@@ -387,7 +412,7 @@ mod tests {
         let mut player = Player::new();
         player.play(&[POOL, BUFFERS, 3]).expect("a change");
         let before = player.clone();
-        for command in [&[WORD, 64, 1][..], &[FILE, 0, 22, 1], &[START_OVER, 0], &[99], &[]] {
+        for command in [&[WORD, 64, 1][..], &[FILE, 0, 30, 1], &[START_OVER, 0], &[99], &[]] {
             assert!(player.play(command).is_err());
             assert_eq!(player, before);
         }

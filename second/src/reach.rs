@@ -35,10 +35,21 @@ const FREEZE: &str = "freeze in the middle of an operation";
 const PRIORITY_PAST: &str = "priority turn past a lower unit that waits";
 const PRIORITY_WRAP: &str = "priority turn after the scan's wrap";
 const PRIORITY_THAW: &str = "priority turn of another than the one that a freeze stopped";
+const NO_CHECK_WORD: &str = "block delivered without a check word";
+const NOT_CHOSEN: &str = "block good, though a field that is not chosen differs";
 const WRAP_INPUT: &str = "block number 32,767 passed on input";
 const WRAP_OUTPUT: &str = "block number 32,767 passed on output";
-const OTHERS: [&str; 7] =
-    [DISPLACEMENT, FREEZE, PRIORITY_PAST, PRIORITY_WRAP, PRIORITY_THAW, WRAP_INPUT, WRAP_OUTPUT];
+const OTHERS: [&str; 9] = [
+    DISPLACEMENT,
+    FREEZE,
+    PRIORITY_PAST,
+    PRIORITY_WRAP,
+    PRIORITY_THAW,
+    NO_CHECK_WORD,
+    NOT_CHOSEN,
+    WRAP_INPUT,
+    WRAP_OUTPUT,
+];
 
 impl Reach {
     /// Plays the lines of a session, counts what they reach, and gives the answers.
@@ -112,10 +123,24 @@ impl Reach {
     fn see_report(&mut self, pack: &Pack, channel: u64, unit: u64, answer: &[u8]) {
         self.count(&format!("result {}", answer[1]));
         self.count(&format!("check error {}", answer[2]));
+        self.see_found(pack, channel, unit, answer);
         let channel = &pack.channels[channel as usize];
         let waits_again = channel.request(unit).is_some_and(|request| request.turn == Turn::Displaced);
         if waits_again {
             self.count(if channel.frozen { FREEZE } else { DISPLACEMENT });
+        }
+    }
+
+    /// What was found in a block that was delivered: worked-out sum and number, and those read.
+    fn see_found(&mut self, pack: &Pack, channel: u64, unit: u64, answer: &[u8]) {
+        let file = pack.file_of_unit(channel, unit).and_then(|file| pack.files[file].as_ref());
+        let Some(file) = file.filter(|file| file.direction == Direction::Input && answer.len() == 16) else {
+            return;
+        };
+        if file.chosen.e() == 0 {
+            self.count(NO_CHECK_WORD);
+        } else if answer[2] == 0 && answer[3..9] != answer[9..15] {
+            self.count(NOT_CHOSEN);
         }
     }
 
@@ -174,7 +199,7 @@ mod tests {
     fn everything_is_missing_at_first() {
         let reach = Reach::default();
         assert_eq!(reach.missing().len(), reach.counts.len());
-        assert_eq!(reach.counts.len(), 14 + 7 + 3 + 5 + 7);
+        assert_eq!(reach.counts.len(), 14 + 7 + 3 + 5 + 9);
         assert!(!reach.missing().contains(&"refusal 14"));
         assert_eq!(reach.lines().lines().count(), reach.counts.len() + 1);
     }

@@ -6,7 +6,7 @@ use std::collections::BTreeSet;
 use crate::channel::{Operation, Request, Turn, UNITS};
 use crate::pack::{CHANNELS, MOST_BUFFERS, MOST_WIDTH};
 use crate::state::{Buffer, FileState, Slot, State};
-use crate::word::LAST_NUMBER;
+use crate::word::{ones, Fields, HALF_BITS, LAST_NUMBER};
 
 /// "Error 1 is sequence, 2 check sum, 3 both."
 const LAST_ERROR: u64 = 3;
@@ -15,7 +15,7 @@ const LAST_ERROR: u64 = 3;
 type Holds = fn(&State) -> bool;
 
 /// The clauses, each with the test that a state must pass.
-const CLAUSES: [(Clause, Holds); 28] = [
+const CLAUSES: [(Clause, Holds); 31] = [
     (Clause::PoolSizes, pool_sizes),
     (Clause::NothingBeforeFresh, nothing_before_fresh),
     (Clause::ScanMarks, scan_marks),
@@ -24,6 +24,9 @@ const CLAUSES: [(Clause, Holds); 28] = [
     (Clause::FileSizes, file_sizes),
     (Clause::BlockNumbers, block_numbers),
     (Clause::CheckErrors, check_errors),
+    (Clause::FoundFields, found_fields),
+    (Clause::NothingRead, nothing_read),
+    (Clause::ErrorsAsFound, errors_as_found),
     (Clause::IncompleteWords, incomplete_words),
     (Clause::ClosedFiles, closed_files),
     (Clause::MissingBuffers, missing_buffers),
@@ -57,6 +60,9 @@ pub enum Clause {
     FileSizes,
     BlockNumbers,
     CheckErrors,
+    FoundFields,
+    NothingRead,
+    ErrorsAsFound,
     IncompleteWords,
     ClosedFiles,
     MissingBuffers,
@@ -143,6 +149,37 @@ fn check_errors(state: &State) -> bool {
     all_slots(state, |_, slot| !matches!(slot, Slot::Full { error, .. } if error > LAST_ERROR))
 }
 
+/// M-102: a sum has 18 bits, a number is 0 to 32,767, worked out or read.
+fn found_fields(state: &State) -> bool {
+    all_slots(state, |_, slot| match slot {
+        Slot::Full { found, .. } => {
+            found.sum.max(found.sum_read) <= ones(HALF_BITS)
+                && found.number.max(found.number_read) <= LAST_NUMBER
+        }
+        _ => true,
+    })
+}
+
+/// M-102: "With no check word the fields read are zero".
+fn nothing_read(state: &State) -> bool {
+    all_slots(state, |file, slot| match slot {
+        Slot::Full { found: Fields { sum_read, number_read, .. }, .. } => {
+            file.e() == 1 || (sum_read == 0 && number_read == 0)
+        }
+        _ => true,
+    })
+}
+
+/// M-102: an error that is not told yet is what the fields say. One that was told is 0, whatever they say.
+fn errors_as_found(state: &State) -> bool {
+    all_slots(state, |file, slot| match slot {
+        Slot::Full { error: error @ 1..=LAST_ERROR, found, .. } => {
+            file.output || error == u64::from(found.error(file.chosen()))
+        }
+        _ => true,
+    })
+}
+
 /// Reading F4: "incomplete words 0 to 1 (0 for a write or mark)".
 fn incomplete_words(state: &State) -> bool {
     state.requests().all(|(_, _, request)| {
@@ -167,11 +204,13 @@ fn block_orders(state: &State) -> bool {
     state.open_files().all(|file| !file.turned || file.count(Slot::is_full) == 2)
 }
 
-/// The same of the mark, the places of get and the check errors of an output file.
+/// The same of the mark, the places of get, the check errors and what was found of an output file.
 fn output_zeros(state: &State) -> bool {
     let unmarked = state.open_files().all(|file| !(file.output && file.marked));
     let untouched = |file: &FileState, slot| match slot {
-        Slot::Full { at, error, .. } => !file.output || (at == 0 && error == 0),
+        Slot::Full { at, error, found, .. } => {
+            !file.output || (at == 0 && error == 0 && found == Fields::default())
+        }
         _ => true,
     };
     unmarked && all_slots(state, untouched)
@@ -315,8 +354,15 @@ mod tests {
         Buffer { number, slot }
     }
 
+    /// A full block; what was read differs from the zeros that were worked out where the error says so.
     fn full(words: u64, at: u64, error: u64) -> Slot {
-        Slot::Full { words, at, error }
+        let fields = [0, 0, error >> 1 & 1, error & 1];
+        Slot::Full { words, at, error, found: Fields::of(fields) }
+    }
+
+    /// A full block with an error and fields by hand.
+    fn found(error: u64, fields: [u64; 4]) -> Slot {
+        Slot::Full { words: 1, at: 0, error, found: Fields::of(fields) }
     }
 
     /// A file on channel 0 with blocks of up to 5 words and records of 2.
@@ -334,7 +380,7 @@ mod tests {
         }
     }
 
-    /// Nine buffers of six words. Input with a full block; output, part-filled, with a check word;
+    /// Nine buffers of six words. Input with a full block and a check word; output, part-filled, with a check word;
     /// output at work on a write; input, idle; input at work on a read. Buffer 8 is free.
     fn bench() -> State {
         let mut state = State { buffers: 9, width: 6, free: 1 << 8, ..State::default() };
@@ -345,7 +391,11 @@ mod tests {
             UnitState { declared: true, request: request(Operation::Write, Turn::Working) };
         state.channels[2].units[0] =
             UnitState { declared: true, request: request(Operation::Read, Turn::Working) };
-        state.files[INPUT] = file(0, buffer(0, full(5, 0, 0)), Some(buffer(1, Slot::Empty)));
+        state.files[INPUT] = FileState {
+            sequence: true,
+            check: true,
+            ..file(0, buffer(0, full(5, 0, 0)), Some(buffer(1, Slot::Empty)))
+        };
         let part_filled = Slot::PartFilled { words: 2 };
         state.files[OUTPUT] = FileState {
             output: true,
@@ -479,6 +529,60 @@ mod tests {
     }
 
     #[test]
+    fn found_fields() {
+        let ends = [262_143, 32_767, 262_143, 32_767];
+        for fields in [ends, [0, 0, 262_143, 0], [262_143, 32_767, 0, 0]] {
+            keeps(|state| state.files[INPUT].low.slot = found(0, fields));
+            keeps(|state| state.files[INPUT].high.slot = found(0, fields));
+        }
+        for place in 0..4 {
+            for value in [ends[place] + 1, u64::MAX] {
+                let mut fields = ends;
+                fields[place] = value;
+                breaks(Clause::FoundFields, |state| state.files[INPUT].low.slot = found(0, fields));
+                breaks(Clause::FoundFields, |state| state.files[INPUT].high.slot = found(0, fields));
+            }
+        }
+    }
+
+    #[test]
+    fn nothing_read() {
+        keeps(|state| state.files[IDLE].low.slot = found(0, [262_143, 32_767, 0, 0]));
+        for fields in [[5, 5, 5, 0], [5, 5, 0, 5], [0, 0, 1, 1]] {
+            breaks(Clause::NothingRead, |state| state.files[IDLE].low.slot = found(0, fields));
+            for (sequence, check) in [(true, false), (false, true), (true, true)] {
+                keeps(|state| {
+                    state.files[IDLE].low.slot = found(0, fields);
+                    (state.files[IDLE].sequence, state.files[IDLE].check) = (sequence, check);
+                });
+            }
+        }
+    }
+
+    /// Every error with every choice, and fields that are equal or not; only chosen fields count.
+    #[test]
+    fn errors_as_found() {
+        for choice in 0..4 {
+            let (sequence, check) = (choice & 1 == 1, choice & 2 == 2);
+            for unequal in 0..4 {
+                for error in 0..4 {
+                    let change = |state: &mut State| {
+                        let fields = [7, 8, 7 + 5 * (unequal >> 1), 8 + 9 * (unequal & 1)];
+                        let fields = if choice == 0 { [7, 8, 0, 0] } else { fields };
+                        state.files[INPUT].low.slot = found(error, fields);
+                        (state.files[INPUT].sequence, state.files[INPUT].check) = (sequence, check);
+                    };
+                    if error == 0 || error == unequal & choice {
+                        keeps(change);
+                    } else {
+                        breaks(Clause::ErrorsAsFound, change);
+                    }
+                }
+            }
+        }
+    }
+
+    #[test]
     fn incomplete_words() {
         keeps(|state| request_of(state, 2, 0).incomplete_words = 1);
         breaks(Clause::IncompleteWords, |state| request_of(state, 2, 0).incomplete_words = 2);
@@ -557,8 +661,12 @@ mod tests {
         breaks(Clause::OutputZeros, |state| state.files[OUTPUT].marked = true);
         keeps(|state| state.files[INPUT].low.slot = full(5, 1, 1));
         for (at, error) in [(1, 0), (0, 1)] {
-            breaks(Clause::OutputZeros, |state| state.files[WRITING].low.slot = full(4, at, error));
-            breaks(Clause::OutputZeros, |state| state.files[OUTPUT].high.slot = full(4, at, error));
+            let slot = Slot::Full { words: 4, at, error, found: Fields::default() };
+            breaks(Clause::OutputZeros, |state| state.files[WRITING].low.slot = slot);
+            breaks(Clause::OutputZeros, |state| state.files[OUTPUT].high.slot = slot);
+        }
+        for fields in [[1, 0, 0, 0], [0, 1, 0, 0], [0, 0, 1, 0], [0, 0, 0, 1]] {
+            breaks(Clause::OutputZeros, |state| state.files[OUTPUT].high.slot = found(0, fields));
         }
     }
 

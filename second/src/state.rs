@@ -3,6 +3,7 @@
 
 use crate::channel::{Request, UNITS};
 use crate::pack::{CHANNELS, FILES};
+use crate::word::{Chosen, Fields};
 
 /// What a buffer of a file holds.
 #[derive(Clone, Copy, Debug, Default, PartialEq, Eq)]
@@ -14,11 +15,13 @@ pub enum Slot {
     PartFilled {
         words: u64,
     },
-    /// A full block: its data words, the place of get, and the check error that is not told yet.
+    /// A full block: its data words, the place of get, the check error that is not told yet, and what the
+    /// check found.
     Full {
         words: u64,
         at: u64,
         error: u64,
+        found: Fields,
     },
 }
 
@@ -93,6 +96,10 @@ impl FileState {
     /// "Let e be 1 if sequence or check is chosen, else 0."
     pub fn e(&self) -> u64 {
         u64::from(self.sequence || self.check)
+    }
+
+    pub fn chosen(&self) -> Chosen {
+        Chosen { sequence: self.sequence, check: self.check }
     }
 
     /// The one or two buffers that the file has if it is open, the low one first.

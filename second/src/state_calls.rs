@@ -6,6 +6,7 @@ use crate::pack::{Got, Opening, Pack, CHANNELS};
 use crate::sound::is_sound;
 use crate::state::State;
 use crate::state_pack::{pack_of, state_of};
+use crate::word::{Fields, Judged};
 
 /// A part of the area: where it begins and its words. One of no words begins at 0.
 #[derive(Clone, Debug, Default, PartialEq, Eq)]
@@ -19,6 +20,8 @@ pub struct Shown {
 pub struct ReportAnswer {
     pub result: u64,
     pub check_error: u64,
+    /// Zeros if no block was delivered.
+    pub found: Fields,
     pub working_unit: Option<u64>,
     pub block: Shown,
 }
@@ -28,6 +31,8 @@ pub struct ReportAnswer {
 pub struct GetAnswer {
     pub kind: u64,
     pub check_error: u64,
+    /// Zeros if no check error is told.
+    pub found: Fields,
     pub words: Shown,
 }
 
@@ -84,6 +89,7 @@ pub fn report(
         Ok(ReportAnswer {
             result: reported.result.number(),
             check_error: u64::from(reported.check_error),
+            found: reported.found.unwrap_or_default(),
             working_unit: reported.working_unit.map(|unit| unit as u64),
             block,
         })
@@ -94,14 +100,15 @@ pub fn get(state: &mut State, area: &mut [u64], file: u64) -> Result<GetAnswer, 
     with_area(state, area, |pack| {
         let start = found_start(pack, file);
         let shown = |words: &[u64]| Shown { start, words: words.to_vec() };
-        let (kind, check_error, words) = match pack.get(file)? {
-            Got::Record(words) => (0, 0, shown(words)),
-            Got::NothingYet => (1, 0, Shown::default()),
-            Got::End => (2, 0, Shown::default()),
-            Got::CheckError(error) => (3, error, Shown::default()),
-            Got::Leftover(words) => (4, 0, shown(words)),
+        let nothing = Judged::default();
+        let (kind, judged, words) = match pack.get(file)? {
+            Got::Record(words) => (0, nothing, shown(words)),
+            Got::NothingYet => (1, nothing, Shown::default()),
+            Got::End => (2, nothing, Shown::default()),
+            Got::CheckError(judged) => (3, judged, Shown::default()),
+            Got::Leftover(words) => (4, nothing, shown(words)),
         };
-        Ok(GetAnswer { kind, check_error: u64::from(check_error), words })
+        Ok(GetAnswer { kind, check_error: u64::from(judged.error), found: judged.fields, words })
     })
 }
 
@@ -341,7 +348,8 @@ mod tests {
     fn where_words_are_shown() {
         let (mut state, mut area) = state_and_area();
         let shown = |kind, start, words: &[u64]| {
-            Ok(GetAnswer { kind, check_error: 0, words: Shown { start, words: words.to_vec() } })
+            let words = Shown { start, words: words.to_vec() };
+            Ok(GetAnswer { kind, check_error: 0, found: Fields::default(), words })
         };
         assert_eq!(get(&mut state, &mut area, 0), shown(0, 4, &[3, 4]));
         assert_eq!(get(&mut state, &mut area, 0), shown(4, 6, &[5]));
@@ -349,7 +357,8 @@ mod tests {
         seal(&mut state, &mut area, 1).expect("a seal");
         ask(&mut state, 1, WRITE, 0).expect("an ask");
         let block = Shown { start: 8, words: vec![6, 6 << 18 | 1] };
-        let answer = ReportAnswer { result: 1, check_error: 0, working_unit: None, block };
+        let found = Fields::default();
+        let answer = ReportAnswer { result: 1, check_error: 0, found, working_unit: None, block };
         assert_eq!(report(&mut state, &mut area, 0, 1, 0, &[]), Ok(answer));
         assert_eq!(area[..11], [1, 2, 102, 103, 3, 4, 5, 107, 6, 1_572_865, 110]);
         assert!(area[10..].iter().copied().eq(110..122));

@@ -3,6 +3,7 @@
 use crate::channel::{Operation, Request, Turn, UNITS};
 use crate::pack::FILES;
 use crate::state::{Buffer, ChannelState, FileState, Slot, State, UnitState};
+use crate::word::Fields;
 
 /// The fields of a file.
 pub const OPENED: u64 = 0;
@@ -17,10 +18,10 @@ pub const RECORD_LENGTH: u64 = 8;
 pub const TURNED: u64 = 9;
 pub const NUMBER: u64 = 10;
 pub const MARKED: u64 = 11;
-/// The first of the five fields of each buffer.
+/// The first of the nine fields of each buffer.
 pub const LOW: u64 = 12;
-pub const HIGH: u64 = 17;
-pub const FILE_FIELDS: u64 = 22;
+pub const HIGH: u64 = LOW + BUFFER_FIELDS;
+pub const FILE_FIELDS: u64 = HIGH + BUFFER_FIELDS;
 
 /// The fields of a buffer, counted from its first.
 pub const BUFFER_NUMBER: u64 = 0;
@@ -28,6 +29,11 @@ pub const SLOT_KIND: u64 = 1;
 pub const WORDS: u64 = 2;
 pub const AT: u64 = 3;
 pub const ERROR: u64 = 4;
+pub const FOUND_SUM: u64 = 5;
+pub const FOUND_NUMBER: u64 = 6;
+pub const SUM_READ: u64 = 7;
+pub const NUMBER_READ: u64 = 8;
+pub const BUFFER_FIELDS: u64 = 9;
 
 /// The kinds of slots.
 pub const EMPTY: u64 = 0;
@@ -95,6 +101,10 @@ fn set_buffer_field(buffer: &mut Buffer, field: u64, value: u64) {
         (WORDS, Slot::PartFilled { words } | Slot::Full { words, .. }) => *words = value,
         (AT, Slot::Full { at, .. }) => *at = value,
         (ERROR, Slot::Full { error, .. }) => *error = value,
+        (FOUND_SUM, Slot::Full { found, .. }) => found.sum = value,
+        (FOUND_NUMBER, Slot::Full { found, .. }) => found.number = value,
+        (SUM_READ, Slot::Full { found, .. }) => found.sum_read = value,
+        (NUMBER_READ, Slot::Full { found, .. }) => found.number_read = value,
         _ => {}
     }
 }
@@ -103,7 +113,7 @@ fn slot_of_kind(kind: u64) -> Slot {
     match kind {
         TAKEN => Slot::Taken,
         PART_FILLED => Slot::PartFilled { words: 0 },
-        FULL => Slot::Full { words: 0, at: 0, error: 0 },
+        FULL => Slot::Full { words: 0, at: 0, error: 0, found: Fields::default() },
         _ => Slot::Empty,
     }
 }
@@ -167,13 +177,16 @@ pub fn file_fields(file: &FileState) -> Vec<u64> {
     fields
 }
 
-fn buffer_fields(buffer: &Buffer) -> [u64; 5] {
-    match buffer.slot {
-        Slot::Empty => [buffer.number, EMPTY, 0, 0, 0],
-        Slot::Taken => [buffer.number, TAKEN, 0, 0, 0],
-        Slot::PartFilled { words } => [buffer.number, PART_FILLED, words, 0, 0],
-        Slot::Full { words, at, error } => [buffer.number, FULL, words, at, error],
-    }
+fn buffer_fields(buffer: &Buffer) -> [u64; BUFFER_FIELDS as usize] {
+    let nothing = Fields::default();
+    let (kind, words, at, error, found) = match buffer.slot {
+        Slot::Empty => (EMPTY, 0, 0, 0, nothing),
+        Slot::Taken => (TAKEN, 0, 0, 0, nothing),
+        Slot::PartFilled { words } => (PART_FILLED, words, 0, 0, nothing),
+        Slot::Full { words, at, error, found } => (FULL, words, at, error, found),
+    };
+    let [sum, number, sum_read, number_read] = found.in_order();
+    [buffer.number, kind, words, at, error, sum, number, sum_read, number_read]
 }
 
 /// The fields of a unit in their order; an idle one has zeros.
@@ -284,14 +297,17 @@ mod tests {
             for (field, value) in [(BUFFER_NUMBER, 6), (SLOT_KIND, kind), (WORDS, 7), (AT, 8), (ERROR, 9)] {
                 set_buffer_field(&mut buffer, field, value);
             }
+            for field in FOUND_SUM..=NUMBER_READ {
+                set_buffer_field(&mut buffer, field, 100 + field);
+            }
             buffer_fields(&buffer)
         };
-        assert_eq!(set(FULL), [6, FULL, 7, 8, 9]);
-        assert_eq!(set(PART_FILLED), [6, PART_FILLED, 7, 0, 0]);
-        assert_eq!(set(TAKEN), [6, TAKEN, 0, 0, 0]);
-        assert_eq!(set(4), [6, EMPTY, 0, 0, 0]);
+        assert_eq!(set(FULL), [6, FULL, 7, 8, 9, 105, 106, 107, 108]);
+        assert_eq!(set(PART_FILLED), [6, PART_FILLED, 7, 0, 0, 0, 0, 0, 0]);
+        assert_eq!(set(TAKEN), [6, TAKEN, 0, 0, 0, 0, 0, 0, 0]);
+        assert_eq!(set(4), [6, EMPTY, 0, 0, 0, 0, 0, 0, 0]);
         set_buffer_field(&mut buffer, SLOT_KIND, FULL);
-        assert_eq!(buffer_fields(&buffer), [6, FULL, 0, 0, 0]);
+        assert_eq!(buffer_fields(&buffer), [6, FULL, 0, 0, 0, 0, 0, 0, 0]);
     }
 
     /// A kind keeps the request that is there; an idle unit has none.
@@ -333,7 +349,9 @@ mod tests {
         set_file_field(&mut state.files[15], NUMBER, 2);
         let mut expected = vec![3, 5, 0, 4_294_967_295, 0, 0, 10, 7, 6, 9, 1, 0, 0, 0, 0, 0, 10];
         expected.extend([0, 0, 10, 0, 200, 10, 0, 0, 0, 0, 3, 0, 0, 0, 0, 10, 15]);
-        expected.extend([0, 0, 0, 0, 0, 0, 0, 0, 0, 0, 2, 0, 0, 0, 0, 0, 0, 0, 0, 0, 0, 0, 16]);
+        expected.extend([0, 0, 0, 0, 0, 0, 0, 0, 0, 0, 2, 0]);
+        expected.extend([0; 2 * BUFFER_FIELDS as usize]);
+        expected.push(16);
         assert_eq!(state_numbers(&state), expected);
     }
 }

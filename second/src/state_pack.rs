@@ -5,7 +5,6 @@ use crate::channel::{Channel, UNITS};
 use crate::file::{Block, Direction, File, PartFilled};
 use crate::pack::Pack;
 use crate::state::{Buffer, ChannelState, FileState, Slot, State, UnitState};
-use crate::word::Chosen;
 
 /// The pack of a sound state, with the area that the caller lends. It finds the free buffers from its
 /// files, as the mask of a sound state tells them.
@@ -63,7 +62,7 @@ fn file_of(state: &FileState) -> File {
         channel: state.channel as usize,
         unit: state.unit as usize,
         direction: if state.output { Direction::Output } else { Direction::Input },
-        chosen: Chosen { sequence: state.sequence, check: state.check },
+        chosen: state.chosen(),
         block_size: state.block_size as usize,
         record_length: state.record_length as usize,
         buffers: buffers.iter().map(|buffer| buffer.number as usize).collect(),
@@ -76,7 +75,7 @@ fn file_of(state: &FileState) -> File {
 }
 
 fn block_of(buffer: &Buffer) -> Option<Block> {
-    let Slot::Full { words, at, error } = buffer.slot else {
+    let Slot::Full { words, at, error, found } = buffer.slot else {
         return None;
     };
     Some(Block {
@@ -84,6 +83,7 @@ fn block_of(buffer: &Buffer) -> Option<Block> {
         data_words: words as usize,
         place: at as usize,
         error: error as u8,
+        found,
     })
 }
 
@@ -123,6 +123,7 @@ fn buffer_state(file: &File, buffer: usize) -> Buffer {
             words: block.data_words as u64,
             at: block.place as u64,
             error: u64::from(block.error),
+            found: block.found,
         },
         _ if file.taken == Some(buffer) => Slot::Taken,
         _ => Slot::Empty,
@@ -135,9 +136,12 @@ mod tests {
     use super::*;
     use crate::channel::{Operation, Request, Turn};
     use crate::sound::is_sound;
+    use crate::word::Fields;
 
+    /// A full block of a file with sequence numbers; the number that was read is wrong if there is an error.
     fn full(words: u64, at: u64, error: u64) -> Slot {
-        Slot::Full { words, at, error }
+        let found = Fields { number: error * words, ..Fields::default() };
+        Slot::Full { words, at, error, found }
     }
 
     /// A pool of five buffers of four words, and a double file on unit 7 of channel 3; it holds 1 and 4.
@@ -183,7 +187,7 @@ mod tests {
 
     #[test]
     fn slots_of_all_kinds() {
-        let input = [Slot::Empty, full(3, 0, 3), full(2, 2, 1)];
+        let input = [Slot::Empty, full(3, 0, 1), full(2, 2, 0)];
         let output = [Slot::Empty, full(3, 0, 0), Slot::PartFilled { words: 2 }];
         for (is_output, slots) in [(false, input), (true, output)] {
             for low in slots {
@@ -198,7 +202,7 @@ mod tests {
     /// The older block goes first, whatever its buffer.
     #[test]
     fn the_order_of_two_blocks() {
-        let mut state = state_with(false, full(1, 0, 0), full(3, 1, 2));
+        let mut state = state_with(false, full(1, 0, 0), full(3, 1, 1));
         let buffers = |pack: &Pack| -> Vec<usize> {
             pack.file(15).expect("an open file").full.iter().map(|block| block.buffer).collect()
         };

@@ -83,16 +83,49 @@ pub fn next_number(number: u64) -> u64 {
     }
 }
 
-/// The check error of a block, check word last: "only the chosen fields are compared. Error 1 is
-/// sequence, 2 check sum, 3 both." A block without a check word has no error.
-pub fn check_error(block: &[u64], chosen: Chosen, number: u64) -> u8 {
+/// What the check of a block found (document 02, M-102): "the folded sum and the block number it worked
+/// out, and the two fields it read".
+#[derive(Clone, Copy, Debug, Default, PartialEq, Eq)]
+pub struct Fields {
+    pub sum: u64,
+    pub number: u64,
+    pub sum_read: u64,
+    pub number_read: u64,
+}
+
+/// The check error of a block, and what its check found.
+#[derive(Clone, Copy, Debug, Default, PartialEq, Eq)]
+pub struct Judged {
+    pub error: u8,
+    pub fields: Fields,
+}
+
+impl Fields {
+    /// "only the chosen fields are compared. Error 1 is sequence, 2 check sum, 3 both."
+    pub fn error(self, chosen: Chosen) -> u8 {
+        let sequence_error = chosen.sequence && self.number_read != self.number;
+        let sum_error = chosen.check && self.sum_read != self.sum;
+        u8::from(sequence_error) + 2 * u8::from(sum_error)
+    }
+
+    /// "worked-out sum and number first, then those read".
+    pub fn in_order(self) -> [u64; 4] {
+        [self.sum, self.number, self.sum_read, self.number_read]
+    }
+
+    pub fn of([sum, number, sum_read, number_read]: [u64; 4]) -> Fields {
+        Fields { sum, number, sum_read, number_read }
+    }
+}
+
+/// Judges a block, check word last. "With no check word the fields read are zero; fields not chosen are
+/// still worked out."
+pub fn judge(block: &[u64], chosen: Chosen, number: u64) -> Judged {
     let (data, check_words) = block.split_at(block.len() - chosen.e());
-    let Some(&found) = check_words.first() else {
-        return 0;
-    };
-    let sequence_error = chosen.sequence && number_field(found) != number;
-    let sum_error = chosen.check && sum_field(found) != fold(logical_sum(data));
-    u8::from(sequence_error) + 2 * u8::from(sum_error)
+    let [sum_read, number_read] =
+        check_words.first().map_or([0, 0], |&word| [sum_field(word), number_field(word)]);
+    let fields = Fields { sum: fold(logical_sum(data)), number, sum_read, number_read };
+    Judged { error: fields.error(chosen), fields }
 }
 
 /// Seals the block of `data_words` words at the start of `part`: its check word, if it has one, is
@@ -114,8 +147,8 @@ pub fn seal(part: &mut [u64], data_words: usize, chosen: Chosen, number: u64) ->
     Ok(())
 }
 
-/// Judges a block as delivered, check word last: its check error, or a refusal number.
-pub fn check(block: &[u64], chosen: Chosen, number: u64) -> Result<u8, u8> {
+/// Judges a block as delivered, check word last, or gives a refusal number.
+pub fn check(block: &[u64], chosen: Chosen, number: u64) -> Result<Judged, u8> {
     // 1: no block number.
     if number > LAST_NUMBER {
         return Err(1);
@@ -128,7 +161,7 @@ pub fn check(block: &[u64], chosen: Chosen, number: u64) -> Result<u8, u8> {
     if block.len() < 1 + chosen.e() {
         return Err(13);
     }
-    Ok(check_error(block, chosen, number))
+    Ok(judge(block, chosen, number))
 }
 
 #[cfg(test)]
@@ -246,22 +279,49 @@ mod tests {
         assert_eq!(seal(&mut part, 1, CHECK, 4), Ok(()));
     }
 
+    /// The error, and the fields in their order.
+    fn judged(error: u8, fields: [u64; 4]) -> Result<Judged, u8> {
+        Ok(Judged { error, fields: Fields::of(fields) })
+    }
+
     #[test]
-    fn check_tells_each_error() {
-        assert_eq!(check(&[1, 2, 786_433], BOTH, 1), Ok(0));
-        assert_eq!(check(&[1, 2, 786_433], BOTH, 2), Ok(1));
-        assert_eq!(check(&[1, 3, 786_433], BOTH, 1), Ok(2));
-        assert_eq!(check(&[1, 3, 786_433], BOTH, 2), Ok(3));
-        assert_eq!(check(&[5], NEITHER, 1), Ok(0));
+    fn check_tells_each_error_and_what_was_found() {
+        assert_eq!(check(&[1, 2, 786_433], BOTH, 1), judged(0, [3, 1, 3, 1]));
+        assert_eq!(check(&[1, 2, 786_433], BOTH, 2), judged(1, [3, 2, 3, 1]));
+        assert_eq!(check(&[1, 3, 786_433], BOTH, 1), judged(2, [4, 1, 3, 1]));
+        assert_eq!(check(&[1, 3, 786_433], BOTH, 2), judged(3, [4, 2, 3, 1]));
+        assert_eq!(check(&[ALL_ONES, ALL_ONES], BOTH, 0), judged(1, [262_143, 0, 262_143, 32_767]));
+    }
+
+    /// Readings H3 and H5: without a check word sum and number are worked out all the same, and the last
+    /// data word is not taken for one.
+    #[test]
+    fn h5_without_a_check_word_nothing_is_read() {
+        assert_eq!(check(&[5], NEITHER, 1), judged(0, [5, 1, 0, 0]));
+        assert_eq!(check(&[1, 2, 786_433], NEITHER, 32_767), judged(0, [7, 32_767, 0, 0]));
+        assert_eq!(check(&[0], NEITHER, 0), judged(0, [0; 4]));
+    }
+
+    /// Readings H3, H4 and H6: a field that is not chosen is worked out, and read as it stands; the bits
+    /// between the fields show nowhere.
+    #[test]
+    fn h4_fields_that_are_not_chosen() {
+        let word = (9 << 18) + (5 << 15) + 7;
+        assert_eq!(check(&[1, 2, word], SEQUENCE, 7), judged(0, [3, 7, 9, 7]));
+        assert_eq!(check(&[1, 2, word], SEQUENCE, 6), judged(1, [3, 6, 9, 7]));
+        assert_eq!(check(&[4, 5, word], CHECK, 6), judged(0, [9, 6, 9, 7]));
+        assert_eq!(check(&[4, 6, word], CHECK, 7), judged(2, [10, 7, 9, 7]));
+        assert_eq!(check(&[4, 6, 0], SEQUENCE, 0), judged(0, [10, 0, 0, 0]));
     }
 
     /// Reading C11: bits between the fields and fields not chosen may hold anything.
     #[test]
     fn c11_only_chosen_fields_are_compared() {
         let between = 7 << 15;
-        assert_eq!(check(&[1, 2, 786_433 + between], BOTH, 1), Ok(0));
-        assert_eq!(check(&[1, 2, ALL_ONES - 32_767 + 1], SEQUENCE, 1), Ok(0));
-        assert_eq!(check(&[1, 2, 786_433 + between + 500], CHECK, 1), Ok(0));
+        let error = |block: &[u64], chosen, number| judge(block, chosen, number).error;
+        assert_eq!(error(&[1, 2, 786_433 + between], BOTH, 1), 0);
+        assert_eq!(error(&[1, 2, ALL_ONES - 32_767 + 1], SEQUENCE, 1), 0);
+        assert_eq!(error(&[1, 2, 786_433 + between + 500], CHECK, 1), 0);
     }
 
     #[test]

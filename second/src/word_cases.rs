@@ -1,4 +1,16 @@
 //! The subcommand `word-cases`: a fixed list of cases for `words`.
+//!
+//! A case is a line of decimal numbers of 64 bits, the first its kind, and has one line of numbers for an
+//! answer. `sequence` and `check` are 0 or 1.
+//!
+//! - `1 n word ..`: n words. Answer: `small sum fold`; small is 1 if all are below 2^36, else the three are 0.
+//! - `2 sequence check number sum`: a check word. Answer: `checkword sumfield numberfield next`, the next
+//!   being the block number after this one.
+//! - `3 len n sequence check number word ..`: seals the n data words at the front of the len words that
+//!   follow. Answer: `refusal word ..`, the refusal or 0 and the len words afterwards.
+//! - `4 sequence check number len word ..`: checks a block of len words. Answer (M-102): `refusal error sum
+//!   number sumread numberread`, the error and directly after it the worked-out folded sum, the block
+//!   number, and the two fields read; all five are 0 after a refusal.
 
 use crate::random::Random;
 use crate::word::{check_word, logical_sum, ones, Chosen, ALL_ONES, HALF_BITS, LAST_NUMBER, NUMBER_BITS};
@@ -197,6 +209,7 @@ fn delivered_cases(random: &mut Random) -> Vec<Vec<u64>> {
     let mut cases = Vec::new();
     cases.extend(good_cases(random));
     cases.extend(field_cases(random));
+    cases.extend(not_chosen_cases(random));
     cases.extend(data_cases(random));
     cases.extend(refused_cases(random));
     cases.extend(delivered_long_cases(random));
@@ -240,6 +253,23 @@ fn field_cases(random: &mut Random) -> Vec<Vec<u64>> {
     // The two forms of nothing in a carry-back sum, 0 and all ones, are not the same.
     cases.push(delivered_case(&[ALL_ONES, 0], CHECK, 1));
     cases.push(delivered_case(&[0, ones(HALF_BITS) << HALF_BITS], CHECK, 1));
+    cases
+}
+
+/// Fields that are not chosen hold something, and blocks without a check word end with what could be one.
+fn not_chosen_cases(random: &mut Random) -> Vec<Vec<u64>> {
+    let mut cases = Vec::new();
+    for chosen in [SEQUENCE, CHECK, NEITHER] {
+        for damage in [0, 1] {
+            let number = random.between(1, LAST_NUMBER);
+            let data = words(random, Pattern::Random, 3);
+            let mut block = good_block(&data, BOTH, number);
+            block[3] ^= damage * (random.between(1, 7) << NUMBER_BITS);
+            cases.push(delivered_case(&block, chosen, number));
+            cases.push(delivered_case(&block, chosen, number - damage));
+        }
+        cases.push(delivered_case(&[5, ALL_ONES], chosen, LAST_NUMBER));
+    }
     cases
 }
 
@@ -301,7 +331,7 @@ mod tests {
     #[test]
     fn the_list_keeps_its_size() {
         let cases = word_cases();
-        assert!((140..=190).contains(&cases.len()), "{} cases", cases.len());
+        assert!((140..=210).contains(&cases.len()), "{} cases", cases.len());
         assert!(lines_of(&cases).len() < 120_000);
         assert!((2..=8).contains(&cases.iter().filter(|case| case.len() > 500).count()));
         assert!(cases.iter().all(|case| case.len() < 1_100));
@@ -323,9 +353,30 @@ mod tests {
         }
         let judged = answers_of_kind(4);
         for (refusal, error) in [(0, 0), (0, 1), (0, 2), (0, 3), (1, 0), (2, 0), (13, 0)] {
-            let count = judged.iter().filter(|answer| **answer == [refusal, error]).count();
+            let count = judged.iter().filter(|answer| answer[..2] == [refusal, error]).count();
             assert!(count >= 2, "{refusal} {error}: {count}");
         }
+    }
+
+    /// Each field that is found differs from the other of its pair, and is equal to it, with and without
+    /// an error.
+    #[test]
+    fn fields_of_every_sort_come_up() {
+        let cases = word_cases().into_iter().filter(|case| case[0] == 4);
+        let judged: Vec<(Vec<u64>, Vec<u64>)> =
+            cases.map(|case| (case[1..3].to_vec(), answer_case(&case).expect("a case"))).collect();
+        let count = |sequence, check, wanted: fn(&[u64]) -> bool| {
+            let of_choice =
+                judged.iter().filter(|(chosen, answer)| *chosen == [sequence, check] && answer[0] == 0);
+            of_choice.filter(|(_, answer)| wanted(answer)).count()
+        };
+        for (sequence, check) in [(0, 1), (1, 0), (1, 1)] {
+            assert!(count(sequence, check, |answer| answer[2] == answer[4]) >= 2);
+            assert!(count(sequence, check, |answer| answer[2] != answer[4] && answer[4] > 0) >= 2);
+            assert!(count(sequence, check, |answer| answer[3] == answer[5]) >= 2);
+            assert!(count(sequence, check, |answer| answer[3] != answer[5]) >= 2);
+        }
+        assert!(count(0, 0, |answer| answer[2] > 0 && answer[3] > 0 && answer[4..] == [0, 0]) >= 5);
     }
 
     #[test]
@@ -333,7 +384,7 @@ mod tests {
         let mut random = Random::new(1);
         let swapped: Vec<Vec<u64>> = data_cases(&mut random).into_iter().skip(2).step_by(3).collect();
         assert_eq!(swapped.len(), 4);
-        assert!(swapped.iter().all(|case| answer_case(case) == Some(vec![0, 0])));
+        assert!(swapped.iter().all(|case| answer_case(case).expect("a case")[..2] == [0, 0]));
     }
 
     #[test]

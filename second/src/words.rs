@@ -3,7 +3,7 @@
 use crate::text::answer_lines;
 use crate::word::{
     check, check_word, fold, is_word, logical_sum, next_number, number_field, seal, sum_field, Chosen,
-    LAST_NUMBER,
+    Judged, LAST_NUMBER,
 };
 
 /// Answers every case of `input`, one a line.
@@ -60,12 +60,13 @@ fn answer_seal(words: &[u64], data_words: usize, chosen: Chosen, number: u64) ->
     answer
 }
 
-/// `refusal error`.
+/// `refusal error sum number sumread numberread`; a refused block has zeros.
 fn answer_check(words: &[u64], chosen: Chosen, number: u64) -> Vec<u64> {
-    match check(words, chosen, number) {
-        Ok(error) => vec![0, u64::from(error)],
-        Err(refusal) => vec![u64::from(refusal), 0],
-    }
+    let (refusal, judged) = match check(words, chosen, number) {
+        Ok(judged) => (0, judged),
+        Err(refusal) => (refusal, Judged::default()),
+    };
+    [&[u64::from(refusal), u64::from(judged.error)][..], &judged.fields.in_order()].concat()
 }
 
 #[cfg(test)]
@@ -107,13 +108,15 @@ mod tests {
 
     #[test]
     fn checking() {
-        answers("4 1 1 1 3 1 2 786433\n", "0 0\n");
-        answers("4 1 1 2 3 1 2 786433\n", "0 1\n");
-        answers("4 1 1 2 3 1 1 786433\n", "0 3\n");
-        answers("4 0 0 2 0\n", "13 0\n");
-        answers("4 1 0 2 1 2\n", "13 0\n");
-        answers("4 1 0 65535 1 68719476736\n", "1 0\n");
-        answers("4 1 0 6 1 68719476736\n", "2 0\n");
+        answers("4 1 1 1 3 1 2 786433\n", "0 0 3 1 3 1\n");
+        answers("4 1 1 2 3 1 2 786433\n", "0 1 3 2 3 1\n");
+        answers("4 1 1 2 3 1 1 786433\n", "0 3 2 2 3 1\n");
+        answers("4 0 1 2 3 1 1 786433\n", "0 2 2 2 3 1\n");
+        answers("4 0 0 2 3 1 1 786433\n", "0 0 6 2 0 0\n");
+        answers("4 0 0 2 0\n", "13 0 0 0 0 0\n");
+        answers("4 1 0 2 1 2\n", "13 0 0 0 0 0\n");
+        answers("4 1 0 65535 1 68719476736\n", "1 0 0 0 0 0\n");
+        answers("4 1 0 6 1 68719476736\n", "2 0 0 0 0 0\n");
     }
 
     #[test]

@@ -10,7 +10,7 @@ use second::session::{Session, ENDED};
 
 const WHOLE_SESSION: &str = "0001000400010000000000000000\n010000000000020001\n03000000\n\
                              040000000000000005\n0500\n0500\n040000000000000005\n";
-const WHOLE_OUTPUT: &str = "00\n00\n0000\n000100FF\n00000000000005\n0001\n0B\n";
+const WHOLE_OUTPUT: &str = "00\n00\n0000\n000100000000050001000000000000FF\n00000000000005\n0001\n0B\n";
 
 /// Plays the parts and ends the input: the answers and the session at its end.
 fn played(parts: &[&[u8]]) -> (Vec<u8>, Session) {
@@ -132,10 +132,10 @@ fn sessions_of_few_characters_in_parts() {
     }
 }
 
-/// A malformed session holds carriage returns, bytes of every kind and overlong lines.
+/// The malformed sessions hold carriage returns, bytes of every kind and overlong lines.
 #[test]
-fn a_malformed_session_has_what_it_should_have() {
-    let lines = session_of(Profile::Malformed, 1, 400);
+fn malformed_sessions_have_what_they_should_have() {
+    let lines: Vec<Vec<u8>> = (1..=4).flat_map(|seed| session_of(Profile::Malformed, seed, 400)).collect();
     assert!(lines.iter().any(|line| line.len() > LONGEST_LINE));
     assert!(lines.iter().any(|line| line.len() % 2 == 1));
     assert!(lines.iter().any(|line| line.is_empty()));

@@ -28,7 +28,7 @@ fn play_answers_the_whole_session() {
         "0001000400010000000000000000\n010000000000020001\n03000000\n040000000000000005\n0500\n0500\n\
                    040000000000000005\n";
     let played = play_with(&command(&["play"]), session.as_bytes()).expect("answers");
-    assert_eq!(played.answers, b"00\n00\n0000\n000100FF\n00000000000005\n0001\n0B\n");
+    assert_eq!(played.answers, b"00\n00\n0000\n000100000000050001000000000000FF\n00000000000005\n0001\n0B\n");
     assert!(played.ended_well);
 }
 

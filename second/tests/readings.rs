@@ -22,6 +22,9 @@ const END_OF_MEDIUM: u8 = 4;
 
 const TOO_LARGE: u64 = 1 << 36;
 
+/// The digits of what was found in a block: two sums of four bytes and two numbers of two.
+const FOUND_DIGITS: usize = 24;
+
 struct Session {
     pack: Pack,
 }
@@ -38,15 +41,16 @@ impl Session {
         session
     }
 
-    /// The frame gets the answer; blanks in the answer are for reading only.
+    /// The frame gets the answer; blanks in the answer are for reading only, and two points stand for any
+    /// twelve bytes that tell what was found.
     fn gives(&mut self, frame: &str, answer: &str) {
         let given = answer_line(&mut self.pack, frame.as_bytes());
-        assert_eq!(
-            String::from_utf8_lossy(&given),
-            answer.replace(' ', ""),
-            "{}",
-            &frame[..frame.len().min(60)]
-        );
+        let mut given = String::from_utf8_lossy(&given).into_owned();
+        let answer = answer.replace(' ', "");
+        if let Some(place) = answer.find("..").filter(|&place| given.len() >= place + FOUND_DIGITS) {
+            given.replace_range(place..place + FOUND_DIGITS, "..");
+        }
+        assert_eq!(given, answer, "{}", &frame[..frame.len().min(60)]);
     }
 
     /// The frame gets the answer, and nothing is changed.
@@ -59,7 +63,7 @@ impl Session {
     /// Reads a block of file 0, which is on channel 0, unit 0, with the given check error.
     fn reads(&mut self, words: &[u64], error: u8) {
         self.gives(&ask(0, READ, 0), "00 00");
-        self.gives(&report(0, 0, GOOD, words), &format!("00 01 {error:02X} FF"));
+        self.gives(&report(0, 0, GOOD, words), &format!("00 01 {error:02X} .. FF"));
     }
 }
 
@@ -197,7 +201,7 @@ fn a6_a_block_that_is_too_long_is_13() {
         session.refuses(&report(0, 0, GOOD, &vec![7; length]), "0D");
     }
     session.refuses(&report(0, 0, GOOD, &[7; 1_025]), "01");
-    session.gives(&report(0, 0, GOOD, &[7, 7, 1]), "00 01 00 FF");
+    session.gives(&report(0, 0, GOOD, &[7, 7, 1]), "00 01 00 .. FF");
 }
 
 #[test]
@@ -348,7 +352,7 @@ fn a27_a_refused_call_changes_nothing() {
     session.refuses(&report(0, 0, GOOD, &[1, TOO_LARGE]), "02");
     session.gives(FREEZE, "00");
     session.refuses(&fresh(0, 8), "01");
-    session.gives(&report(0, 0, GOOD, &[9, 1]), "00 02 00 FF");
+    session.gives(&report(0, 0, GOOD, &[9, 1]), "00 02 00 .. FF");
     session.gives(&skip(0), "00");
     session.gives(&ask(0, READ, 0), "00 FF");
 }
@@ -422,10 +426,10 @@ fn b8_report_names_the_check_error_and_the_unit_after_the_next_start() {
     session.gives(&open(0, 0, 0, SEQUENCE, 2, 1), "00");
     session.gives(&ask(0, READ, 0), "00 00");
     session.gives(&ask(1, READ, 0), "00 00");
-    session.gives(&report(0, 0, GOOD, &[5, 2]), "00 01 01 01");
+    session.gives(&report(0, 0, GOOD, &[5, 2]), "00 01 01 .. 01");
     session.gives(&report(0, 1, REDUNDANCY, &[]), "00 00 00 01");
     session.gives(FREEZE, "00");
-    session.gives(&report(0, 1, GOOD, &[5]), "00 01 00 FF");
+    session.gives(&report(0, 1, GOOD, &[5]), "00 01 00 .. FF");
 }
 
 #[test]
@@ -510,14 +514,14 @@ fn c3_a_check_error_is_told_once_by_the_first_get() {
     let mut session = input(DOUBLE + SEQUENCE + CHECK, 3, 2);
     session.reads(&[5, 7], 3);
     session.reads(&[1, 2, 786_432 + 2], 0);
-    session.gives(&get(0), "00 03 03");
+    session.gives(&get(0), "00 03 03 ..");
     session.gives(&get(0), &format!("00 04 {}", words(&[5])));
     session.gives(&get(0), &format!("00 00 {}", words(&[1, 2])));
     session.reads(&[1, 2, 786_432 + 9], 1);
-    session.gives(&get(0), "00 03 01");
+    session.gives(&get(0), "00 03 01 ..");
     session.gives(&get(0), &format!("00 00 {}", words(&[1, 2])));
     session.reads(&[1, 3, 786_432 + 4], 2);
-    session.gives(&get(0), "00 03 02");
+    session.gives(&get(0), "00 03 02 ..");
     session.gives(&get(0), &format!("00 00 {}", words(&[1, 3])));
 }
 
@@ -604,7 +608,7 @@ fn c9_a_block_in_error_is_kept_and_its_error_number_reported() {
     for (check_word, error) in [((6 << 18) + 1, 2), ((5 << 18) + 9, 1), ((6 << 18) + 9, 3)] {
         let mut session = input(SEQUENCE + CHECK, 1, 1);
         session.reads(&[5, check_word], error);
-        session.gives(&get(0), &format!("00 03 {error:02X}"));
+        session.gives(&get(0), &format!("00 03 {error:02X} .."));
         session.gives(&get(0), &format!("00 00 {}", words(&[5])));
     }
 }
@@ -709,13 +713,13 @@ fn d1_the_scan_begins_above_the_last_ordinary_end() {
     session.gives(&ask(2, READ, 0), "00 05");
     session.gives(&ask(7, READ, 0), "00 05");
     session.gives(&report(0, 5, FILE_MARK, &[]), "00 03 00 07");
-    session.gives(&report(0, 7, GOOD, &[1]), "00 01 00 02");
-    session.gives(&report(0, 2, GOOD, &[1]), "00 01 00 FF");
+    session.gives(&report(0, 7, GOOD, &[1]), "00 01 00 .. 02");
+    session.gives(&report(0, 2, GOOD, &[1]), "00 01 00 .. FF");
     // The end of unit 7 in a freeze, the end of a priority operation, a close and an open.
     session.gives(&skip(7), "00");
     session.gives(&ask(7, READ, 0), "00 07");
     session.gives(FREEZE, "00");
-    session.gives(&report(0, 7, GOOD, &[1]), "00 01 00 FF");
+    session.gives(&report(0, 7, GOOD, &[1]), "00 01 00 .. FF");
     session.gives(&open(9, 0, 9, 0, 2, 1), "00");
     session.gives(&close(5), "00");
     session.gives(&skip(2), "00");
@@ -724,7 +728,7 @@ fn d1_the_scan_begins_above_the_last_ordinary_end() {
     session.gives(&open(0, 0, 0, 0, 2, 1), "00");
     session.gives(&ask(0, READ, 1), "00 FF");
     session.gives(THAW, "00");
-    session.gives(&report(0, 0, GOOD, &[1]), "00 01 00 09");
+    session.gives(&report(0, 0, GOOD, &[1]), "00 01 00 .. 09");
     // A fresh start resets the scan.
     session.gives(&fresh(4, 4), "00");
     session.gives(FREEZE, "00");
@@ -742,9 +746,9 @@ fn d2_on_an_idle_channel_an_ask_starts_at_once() {
     session.gives(&ask(2, READ, 0), "00 02");
     session.gives(&ask(0, READ, 0), "00 02");
     session.gives(&ask(1, READ, 0), "00 02");
-    session.gives(&report(0, 2, GOOD, &[1]), "00 01 00 00");
-    session.gives(&report(0, 0, GOOD, &[1]), "00 01 00 01");
-    session.gives(&report(0, 1, GOOD, &[1]), "00 01 00 FF");
+    session.gives(&report(0, 2, GOOD, &[1]), "00 01 00 .. 00");
+    session.gives(&report(0, 0, GOOD, &[1]), "00 01 00 .. 01");
+    session.gives(&report(0, 1, GOOD, &[1]), "00 01 00 .. FF");
 }
 
 #[test]
@@ -753,7 +757,7 @@ fn d3_a_running_priority_operation_is_not_displaced() {
     session.gives(&ask(6, READ, 1), "00 06");
     session.gives(&ask(1, READ, 1), "00 06");
     session.gives(&report(0, 6, REDUNDANCY, &[]), "00 00 00 06");
-    session.gives(&report(0, 6, GOOD, &[1]), "00 01 00 01");
+    session.gives(&report(0, 6, GOOD, &[1]), "00 01 00 .. 01");
 }
 
 #[test]
@@ -765,8 +769,8 @@ fn d4_after_a_freeze_the_lowest_priority_unit_goes_first() {
     session.gives(&ask(3, READ, 1), "00 FF");
     session.gives(&ask(1, READ, 0), "00 FF");
     session.gives(THAW, "00");
-    session.gives(&report(0, 3, GOOD, &[1]), "00 01 00 06");
-    session.gives(&report(0, 6, GOOD, &[1]), "00 01 00 01");
+    session.gives(&report(0, 3, GOOD, &[1]), "00 01 00 .. 06");
+    session.gives(&report(0, 6, GOOD, &[1]), "00 01 00 .. 01");
 
     let mut session = inputs(&[1, 6]);
     session.gives(&ask(6, READ, 0), "00 06");
@@ -774,12 +778,12 @@ fn d4_after_a_freeze_the_lowest_priority_unit_goes_first() {
     session.gives(&report(0, 6, REDUNDANCY, &[]), "00 00 00 FF");
     session.gives(&ask(1, READ, 0), "00 FF");
     session.gives(THAW, "00");
-    session.gives(&report(0, 1, GOOD, &[1]), "00 01 00 06");
+    session.gives(&report(0, 1, GOOD, &[1]), "00 01 00 .. 06");
 }
 
 /// A good end of a priority read on channel 0, which is skipped, and the unit that works then.
 fn ends(session: &mut Session, unit: u8, next: &str) {
-    session.gives(&report(0, unit, GOOD, &[1]), &format!("00 01 00 {next}"));
+    session.gives(&report(0, unit, GOOD, &[1]), &format!("00 01 00 .. {next}"));
     session.gives(&skip(unit), "00");
 }
 
@@ -897,11 +901,11 @@ fn d7_a_displaced_operation_keeps_its_counts() {
     session.gives(&report(0, 1, INCOMPLETE, &[]), "00 00 00 01");
     session.gives(&ask(0, READ, 1), "00 01");
     session.gives(&report(0, 1, REDUNDANCY, &[]), "00 00 00 00");
-    session.gives(&report(0, 0, GOOD, &[1]), "00 01 00 01");
+    session.gives(&report(0, 0, GOOD, &[1]), "00 01 00 .. 01");
     session.gives(FREEZE, "00");
     session.gives(&report(0, 1, REDUNDANCY, &[]), "00 00 00 FF");
     session.gives(THAW, "00");
-    session.gives(&report(0, 1, GOOD, &[1]), "00 02 00 FF");
+    session.gives(&report(0, 1, GOOD, &[1]), "00 02 00 .. FF");
 
     let mut session = inputs(&[1]);
     session.gives(&ask(1, READ, 0), "00 01");
@@ -917,9 +921,9 @@ fn d8_asks_in_a_freeze_wait() {
     session.gives(&ask(1, READ, 0), "00 01");
     session.gives(FREEZE, "00");
     session.gives(&ask(0, READ, 1), "00 01");
-    session.gives(&report(0, 1, GOOD, &[1]), "00 01 00 FF");
+    session.gives(&report(0, 1, GOOD, &[1]), "00 01 00 .. FF");
     session.gives(THAW, "00");
-    session.gives(&report(0, 0, GOOD, &[1]), "00 01 00 FF");
+    session.gives(&report(0, 0, GOOD, &[1]), "00 01 00 .. FF");
 }
 
 #[test]
@@ -947,8 +951,8 @@ fn e2_attempt_4_of_a_read_is_in_the_opposite_mode() {
     for outcome in [REDUNDANCY, INCOMPLETE, REDUNDANCY] {
         session.gives(&report(0, 0, outcome, &[]), "00 00 00 00");
     }
-    session.gives(&report(0, 0, GOOD, &[7, 3]), "00 02 01 FF");
-    session.gives(&get(0), "00 03 01");
+    session.gives(&report(0, 0, GOOD, &[7, 3]), "00 02 01 .. FF");
+    session.gives(&get(0), "00 03 01 ..");
     session.gives(&get(0), &format!("00 00 {}", words(&[7])));
     session.gives(&skip(0), "00");
     session.gives(&ask(0, READ, 0), "00 00");
@@ -966,6 +970,90 @@ fn e2_attempt_4_of_a_read_is_in_the_opposite_mode() {
         }
         session.gives(&report(0, 0, GOOD, &[]), answer);
     }
+}
+
+/// Document 02, M-102. Readings H1 and H2: directly after the error, sum and number worked out, then those
+/// read, and the working unit after them.
+#[test]
+fn h1_what_was_found_stands_behind_the_error() {
+    let mut session = inputs(&[4]);
+    session.gives(&open(0, 0, 0, SEQUENCE + CHECK, 3, 2), "00");
+    session.gives(&ask(0, READ, 0), "00 00");
+    session.gives(&ask(4, READ, 0), "00 00");
+    let check_word = (0x2_1234 << 18) + 0x5678;
+    session.gives(&report(0, 0, GOOD, &[1, 2, check_word]), "00 01 03 00000003 0001 00021234 5678 04");
+    session.gives(&get(0), "00 03 03 00000003 0001 00021234 5678");
+    session.gives(&get(0), &format!("00 00 {}", words(&[1, 2])));
+}
+
+/// Readings H3 and H5: without a check word the sum and the number are worked out, and nothing is read.
+#[test]
+fn h3_fields_not_chosen_are_worked_out() {
+    let mut session = input(DOUBLE, 2, 1);
+    session.gives(&ask(0, READ, 0), "00 00");
+    session.gives(&report(0, 0, GOOD, &[5, (1 << 36) - 1]), "00 01 00 00000005 0001 00000000 0000 FF");
+    session.gives(&ask(0, READ, 0), "00 00");
+    session.gives(&report(0, 0, GOOD, &[0]), "00 01 00 00000000 0002 00000000 0000 FF");
+    let mut session = input(SEQUENCE, 2, 1);
+    session.gives(&ask(0, READ, 0), "00 00");
+    session.gives(&report(0, 0, GOOD, &[1, 2, 1]), "00 01 00 00000003 0001 00000000 0001 FF");
+    let mut session = input(CHECK, 2, 1);
+    session.gives(&ask(0, READ, 0), "00 00");
+    session.gives(&report(0, 0, GOOD, &[1, 2, 3 << 18]), "00 01 00 00000003 0001 00000003 0000 FF");
+}
+
+/// Readings H4 and H6: a field that is not chosen is read as it stands; the number is the one before it goes
+/// up; the bits between the fields show nowhere.
+#[test]
+fn h4_a_field_not_chosen_is_read_as_it_stands() {
+    let mut session = input(DOUBLE + SEQUENCE, 2, 1);
+    session.gives(&ask(0, READ, 0), "00 00");
+    let check_word = (0x3_FFFF << 18) + (7 << 15) + 1;
+    session.gives(&report(0, 0, GOOD, &[1, 2, check_word]), "00 01 00 00000003 0001 0003FFFF 0001 FF");
+    session.gives(&ask(0, READ, 0), "00 00");
+    session.gives(&report(0, 0, GOOD, &[7, check_word]), "00 01 01 00000007 0002 0003FFFF 0001 FF");
+    let mut session = input(CHECK, 2, 1);
+    session.gives(&ask(0, READ, 0), "00 00");
+    session.gives(&report(0, 0, GOOD, &[9, (9 << 18) + 0x7FFF]), "00 01 00 00000009 0001 00000009 7FFF FF");
+}
+
+/// Reading H7: reports that deliver nothing, and get's other answers, are as they were.
+#[test]
+fn h7_only_deliveries_and_errors_told_carry_it() {
+    let mut session = input(SEQUENCE, 2, 2);
+    session.gives(&ask(0, READ, 0), "00 00");
+    for _ in 0..3 {
+        session.gives(&report(0, 0, REDUNDANCY, &[]), "00 00 00 00");
+    }
+    session.gives(&get(0), "00 01");
+    session.gives(&report(0, 0, GOOD, &[5, 9]), "00 02 01 00000005 0001 00000000 0009 FF");
+    session.gives(&get(0), "00 03 01 00000005 0001 00000000 0009");
+    session.gives(&get(0), &format!("00 04 {}", words(&[5])));
+    session.gives(&skip(0), "00");
+    session.gives(&ask(0, READ, 0), "00 00");
+    session.gives(&report(0, 0, FILE_MARK, &[]), "00 03 00 FF");
+    session.gives(&get(0), "00 02");
+    let mut session = output(SEQUENCE + CHECK, 1, 1);
+    session.gives(&put(0, &[5]), "00");
+    session.gives(&ask(0, WRITE, 0), "00 00");
+    session.gives(&report(0, 0, GOOD, &[]), &format!("00 01 00 FF {}", words(&[5, (5 << 18) + 1])));
+}
+
+/// Reading H9: get tells what was found at delivery, though two blocks came since.
+#[test]
+fn h9_get_tells_what_was_found_at_delivery() {
+    let mut session = input(DOUBLE + SEQUENCE + CHECK, 2, 2);
+    session.gives(&ask(0, READ, 0), "00 00");
+    session.gives(&report(0, 0, GOOD, &[5, (5 << 18) + 2]), "00 01 01 00000005 0001 00000005 0002 FF");
+    session.gives(&ask(0, READ, 0), "00 00");
+    session.gives(&report(0, 0, GOOD, &[6, (7 << 18) + 2]), "00 01 02 00000006 0002 00000007 0002 FF");
+    session.gives(&get(0), "00 03 01 00000005 0001 00000005 0002");
+    session.gives(&skip(0), "00");
+    session.gives(&ask(0, READ, 0), "00 00");
+    session.gives(&report(0, 0, GOOD, &[8, (8 << 18) + 3]), "00 01 00 00000008 0003 00000008 0003 FF");
+    session.gives(&get(0), "00 03 02 00000006 0002 00000007 0002");
+    session.gives(&get(0), &format!("00 04 {}", words(&[6])));
+    session.gives(&get(0), &format!("00 04 {}", words(&[8])));
 }
 
 #[test]
@@ -1004,7 +1092,7 @@ fn e6_each_request_counts_from_attempt_1() {
         session.gives(&ask(0, READ, 0), "00 00");
         session.gives(&report(0, 0, INCOMPLETE, &[]), "00 00 00 00");
         session.gives(&report(0, 0, REDUNDANCY, &[]), "00 00 00 00");
-        session.gives(&report(0, 0, GOOD, &[1]), "00 01 00 FF");
+        session.gives(&report(0, 0, GOOD, &[1]), "00 01 00 .. FF");
         session.gives(&skip(0), "00");
     }
 }
@@ -1026,11 +1114,11 @@ fn p10_a_priority_request_displaces() {
     session.gives(&ask(1, READ, 0), "00 01");
     session.gives(&ask(0, READ, 1), "00 01");
     session.gives(&report(0, 1, REDUNDANCY, &[]), "00 00 00 00");
-    session.gives(&report(0, 0, GOOD, &[1]), "00 01 00 01");
+    session.gives(&report(0, 0, GOOD, &[1]), "00 01 00 .. 01");
     for _ in 0..2 {
         session.gives(&report(0, 1, REDUNDANCY, &[]), "00 00 00 01");
     }
-    session.gives(&report(0, 1, GOOD, &[1]), "00 02 00 FF");
+    session.gives(&report(0, 1, GOOD, &[1]), "00 02 00 .. FF");
 }
 
 #[test]

@@ -9,13 +9,19 @@ use second::file_player::answer_walks;
 use second::file_walks::file_walks;
 use second::pack_cases::pack_cases;
 use second::pack_player::answer_script;
+use second::session::answers_to;
 use second::text::lines_of;
 use second::word_cases::word_cases;
 use second::words::answer_cases;
 
-/// A stored file of the repository.
+/// The stored file of a program.
 fn stored(folder: &str, name: &str) -> String {
-    let path = Path::new(env!("CARGO_MANIFEST_DIR")).join("../crates").join(folder).join(name);
+    file(&format!("crates/{folder}/{name}"))
+}
+
+/// A file of the repository.
+fn file(name: &str) -> String {
+    let path = Path::new(env!("CARGO_MANIFEST_DIR")).join("..").join(name);
     fs::read_to_string(&path).unwrap_or_else(|error| panic!("{}: {error}", path.display()))
 }
 
@@ -69,4 +75,16 @@ fn pack_cases_are_stored() {
 fn answers_to_pack_cases_are_stored() {
     let script = stored("pack_cases", "stdin");
     assert_same_lines(&stored("pack_cases", "stdout"), &answer_script(&script).expect("script"));
+}
+
+/// The sessions of the pages, and the one that is stored with the program that plays them.
+#[test]
+fn answers_to_sessions_are_stored() {
+    let sessions =
+        ["first", "found"].map(|name| (format!("docs/{name}.session"), format!("docs/{name}.answers")));
+    let program = ("crates/play/stdin".to_string(), "crates/play/stdout".to_string());
+    for (session, answers) in sessions.into_iter().chain([program]) {
+        let given = String::from_utf8(answers_to(file(&session).as_bytes())).expect("digits");
+        assert_same_lines(&file(&answers), &given);
+    }
 }

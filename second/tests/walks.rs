@@ -8,7 +8,7 @@ use second::file_player::{
 };
 use second::file_walks::file_walks;
 use second::pack::{Got, Opening, Pack, CHECK, DOUBLE, MOST_BUFFERS, MOST_WIDTH, OUTPUT, SEQUENCE};
-use second::word::{check_word, logical_sum, HALF_BITS};
+use second::word::{fold, logical_sum, ones, Fields, Judged, HALF_BITS};
 
 const ASK_READ: u64 = 0;
 const ASK_WRITE: u64 = 1;
@@ -44,7 +44,7 @@ impl Walker {
         match event[0] {
             OPEN => self.open(event),
             READ => self.ask(ASK_READ),
-            READ_GOOD => self.deliver(event[1], event[2]),
+            READ_GOOD => self.deliver(event[1], event[2], Fields::of(event[3..].try_into().expect("fields"))),
             READ_ERROR => {
                 assert_eq!(self.report(INCOMPLETE), (Booked::Repeated, vec![]));
                 assert_eq!(self.report(INCOMPLETE), (Booked::PermanentIncompleteWord, vec![]));
@@ -94,27 +94,40 @@ impl Walker {
         (reported.result, reported.block.to_vec())
     }
 
-    /// A good read of a block that has the error asked for.
-    fn deliver(&mut self, count: u64, error: u64) {
+    /// A good read of a block of which the error and the fields are what is asked for.
+    fn deliver(&mut self, count: u64, error: u64, found: Fields) {
         let mut words = self.new_words(count);
+        self.make_sum(&mut words, found.sum);
         let file = self.pack.files[0].as_ref().expect("an open file");
         if file.chosen.e() == 1 {
-            let right = check_word(file.chosen, file.number, logical_sum(&words));
-            words.push(right ^ (error & 1) ^ (error >> 1 << HALF_BITS));
+            words.push(found.sum_read << HALF_BITS | (self.last_word & 7) << 15 | found.number_read);
         }
         let reported = self.pack.report(0, 0, GOOD, &words).expect("a report");
         assert_eq!((reported.result, u64::from(reported.check_error)), (Booked::Good, error));
+        assert_eq!(reported.found, Some(found));
+    }
+
+    /// Makes the last word such that the folded sum is the one that is asked for, and still like no other.
+    /// A folded sum is what the plain sum is modulo 2^18 - 1.
+    fn make_sum(&mut self, words: &mut [u64], sum: u64) {
+        let modulus = ones(HALF_BITS);
+        let (last, others) = words.split_last_mut().expect("a word");
+        let far = (1 << 34) / modulus * modulus + self.last_word * modulus;
+        *last = far + (sum + modulus - fold(logical_sum(others)) % modulus) % modulus;
+        assert_eq!(fold(logical_sum(words)), sum);
     }
 
     fn get(&mut self, answer: &[u64]) {
-        let (number, words, error) = match self.pack.get(0).expect("a get") {
-            Got::Record(words) => (0, words.to_vec(), 0),
-            Got::NothingYet => (1, vec![], 0),
-            Got::End => (2, vec![], 0),
-            Got::CheckError(error) => (3, vec![], error),
-            Got::Leftover(words) => (4, words.to_vec(), 0),
+        let nothing = Judged::default();
+        let (number, words, judged) = match self.pack.get(0).expect("a get") {
+            Got::Record(words) => (0, words.to_vec(), nothing),
+            Got::NothingYet => (1, vec![], nothing),
+            Got::End => (2, vec![], nothing),
+            Got::CheckError(judged) => (3, vec![], judged),
+            Got::Leftover(words) => (4, words.to_vec(), nothing),
         };
-        assert_eq!((number, u64::from(error)), (answer[0], answer[3]));
+        assert_eq!((number, u64::from(judged.error)), (answer[0], answer[3]));
+        assert_eq!(judged.fields.in_order(), answer[4..8]);
         assert_eq!(words, self.words_at(answer[1], answer[2]));
     }
 

@@ -106,23 +106,27 @@ fn places_of_get(script: &mut Script) {
 }
 
 /// The error of a used-up block is never told; one of a block that is begun is told before the
-/// next record; a file without check words has errors too.
+/// next record.
 fn untold_errors(script: &mut Script) {
-    for (low, high) in
-        [([3, 3, 2], [4, 0, 0]), ([3, 3, 1], [4, 0, 3]), ([4, 4, 3], [4, 4, 2]), ([5, 1, 1], [1, 0, 2])]
-    {
-        for flags in [0, SEQUENCE + CHECK] {
-            double_input(script, flags);
-            script.full(0, LOW, low);
-            script.full(0, HIGH, high);
-            script.print_sound();
-            for _ in 0..4 {
-                script.get(0);
-            }
-            script.print_state();
+    let both = SEQUENCE + CHECK;
+    for (flags, low, high) in [
+        (both, [3, 3, 2], [4, 0, 0]),
+        (both, [3, 3, 1], [4, 0, 3]),
+        (both, [4, 4, 3], [4, 4, 2]),
+        (both, [5, 1, 1], [1, 0, 2]),
+        (SEQUENCE, [5, 1, 1], [1, 1, 1]),
+        (CHECK, [3, 3, 2], [4, 0, 2]),
+    ] {
+        double_input(script, flags);
+        script.full(0, LOW, low);
+        script.full(0, HIGH, high);
+        script.print_sound();
+        for _ in 0..4 {
+            script.get(0);
         }
+        script.print_state();
     }
-    double_input(script, CHECK);
+    double_input(script, both);
     script.full(0, LOW, [2, 2, 3]);
     script.full(0, HIGH, [2, 0, 1]);
     script.skip(0);

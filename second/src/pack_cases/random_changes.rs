@@ -4,9 +4,9 @@ use super::random_steps::{Step, Steps, MASK, UNITS, USED_CHANNELS};
 use super::script::{HUGE, SPOILT};
 use crate::sound::is_sound;
 use crate::state_fields::{
-    AT, ATTEMPTS, BLOCK_SIZE, BUFFERS, BUFFER_NUMBER, CHANNEL, CHECK, DECLARED, DOUBLE, ERROR, FROZEN, HIGH,
-    INCOMPLETE, LOW, MARKED, NUMBER, OPENED, OPERATION, OUTPUT, PRIORITY, RECORD_LENGTH, SEQUENCE, SLOT_KIND,
-    TURNED, TURN_KIND, UNIT, WIDTH, WORDS,
+    AT, ATTEMPTS, BLOCK_SIZE, BUFFERS, BUFFER_NUMBER, CHANNEL, CHECK, DECLARED, DOUBLE, ERROR, FOUND_NUMBER,
+    FOUND_SUM, FROZEN, HIGH, INCOMPLETE, LOW, MARKED, NUMBER, NUMBER_READ, OPENED, OPERATION, OUTPUT,
+    PRIORITY, RECORD_LENGTH, SEQUENCE, SLOT_KIND, SUM_READ, TURNED, TURN_KIND, UNIT, WIDTH, WORDS,
 };
 
 impl Steps<'_> {
@@ -82,11 +82,16 @@ impl Steps<'_> {
             0..=1 => {
                 let words = self.random.between(1, size + 1);
                 let at = if self.file_at(file).output { 0 } else { self.random.between(0, words) };
-                let error = self.random.pick(&[0, 0, 1, 2, 3]) * u64::from(at < words);
+                let mut error = self.random.pick(&[0, 0, 1, 2, 3]) * u64::from(at < words);
+                if self.random.chance(7, 8) {
+                    let opened = self.file_at(file);
+                    error &= u64::from(opened.sequence) | u64::from(opened.check) << 1;
+                }
                 self.script.full(file, side, [words, at, error]);
             }
             2 => {
-                let field = self.random.pick(&[WORDS, AT, ERROR]);
+                let field =
+                    self.random.pick(&[WORDS, AT, ERROR, FOUND_SUM, FOUND_NUMBER, SUM_READ, NUMBER_READ]);
                 let value = self.random.between(0, size);
                 self.script.file(file, side + field, value);
             }

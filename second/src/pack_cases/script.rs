@@ -6,9 +6,9 @@ use crate::pack::{CHANNELS, FILES};
 use crate::pack_player::{self as player, Player};
 use crate::state::State;
 use crate::state_fields::{
-    file_fields, pool_fields, unit_fields, AT, ATTEMPTS, ERROR, FILE_FIELDS, FREE, FULL, INCOMPLETE,
-    OPERATION, ORDINARY_MARK, PART_FILLED, POOL_FIELDS, PRIORITY, PRIORITY_MARK, SLOT_KIND, TURN_KIND,
-    UNIT_FIELDS, WORDS,
+    file_fields, pool_fields, unit_fields, AT, ATTEMPTS, ERROR, FILE_FIELDS, FOUND_SUM, FREE, FULL,
+    INCOMPLETE, NUMBER_READ, OPERATION, ORDINARY_MARK, PART_FILLED, POOL_FIELDS, PRIORITY, PRIORITY_MARK,
+    SLOT_KIND, SUM_READ, TURN_KIND, UNIT_FIELDS, WORDS,
 };
 
 pub const READ: u64 = 0;
@@ -191,11 +191,24 @@ impl Script {
         self.file(file, side + WORDS, words);
     }
 
+    /// A full block. If it has an error, what was read differs from the zeros that were worked out.
     pub fn full(&mut self, file: u64, side: u64, [words, at, error]: [u64; 3]) {
         self.slot(file, side, FULL);
         self.file(file, side + WORDS, words);
         self.file(file, side + AT, at);
         self.file(file, side + ERROR, error);
+        for (bit, field) in [(1, NUMBER_READ), (2, SUM_READ)] {
+            if error & bit != 0 {
+                self.file(file, side + field, 1);
+            }
+        }
+    }
+
+    /// What the check of a full block found.
+    pub fn found(&mut self, file: u64, side: u64, fields: [u64; 4]) {
+        for (field, value) in (FOUND_SUM..=NUMBER_READ).zip(fields) {
+            self.file(file, side + field, value);
+        }
     }
 
     /// An ordinary request of a unit, with its turn and its attempt.

@@ -7,7 +7,7 @@ use crate::sound::is_sound;
 use crate::state_fields::*;
 
 /// The clauses about ranges, each tried on a bench of its own.
-const CLAUSES: [fn(&mut Bench); 9] = [
+const CLAUSES: [fn(&mut Bench); 12] = [
     pool_sizes,
     before_fresh,
     scan_marks,
@@ -17,6 +17,9 @@ const CLAUSES: [fn(&mut Bench); 9] = [
     chosen_sizes,
     block_numbers,
     check_errors,
+    found_fields,
+    nothing_read,
+    errors_as_found,
 ];
 
 pub fn add_cases(script: &mut Script) {
@@ -101,7 +104,7 @@ fn file_sizes(bench: &mut Bench) {
     bench.file(IDLE_INPUT, RECORD_LENGTH, &[0, 7, 65_535], &[1, 6]);
     bench.file(IDLE_INPUT, BLOCK_SIZE, &[7, 2, 0, 65_535], &[3]);
     bench.file(OUTPUT_FILE, BLOCK_SIZE, &[6, 65_535], &[4]);
-    bench.file(INPUT, BLOCK_SIZE, &[7], &[6]);
+    bench.file(INPUT, BLOCK_SIZE, &[6, 7], &[]);
     bench.unsound(|script| {
         script.file(IDLE_INPUT, BLOCK_SIZE, 65_535);
         script.file(IDLE_INPUT, RECORD_LENGTH, 65_535);
@@ -130,13 +133,65 @@ fn block_numbers(bench: &mut Bench) {
 }
 
 fn check_errors(bench: &mut Bench) {
-    bench.file(INPUT, LOW + ERROR, &[4, 255], &[3]);
+    bench.file(INPUT, LOW + ERROR, &[4, 255], &[]);
     for (error, sound) in [(4, false), (3, true)] {
         let change = |script: &mut Script| script.full(INPUT, HIGH, [1, 0, error]);
         if sound {
             bench.sound(change);
         } else {
             bench.unsound(change);
+        }
+    }
+}
+
+/// A sum has 18 bits, a number 15.
+fn found_fields(bench: &mut Bench) {
+    bench.script.full(INPUT, HIGH, [1, 1, 0]);
+    for side in [LOW, HIGH] {
+        for field in [FOUND_SUM, SUM_READ] {
+            bench.file(INPUT, side + field, &[262_144, u32::MAX.into()], &[262_143]);
+        }
+        for field in [FOUND_NUMBER, NUMBER_READ] {
+            bench.file(INPUT, side + field, &[32_768, 65_535], &[32_767]);
+        }
+    }
+}
+
+/// "With no check word the fields read are zero".
+fn nothing_read(bench: &mut Bench) {
+    bench.script.full(IDLE_INPUT, LOW, [1, 0, 0]);
+    bench.file(IDLE_INPUT, LOW + SUM_READ, &[1, 262_143], &[]);
+    bench.file(IDLE_INPUT, LOW + NUMBER_READ, &[1, 32_767], &[]);
+    bench.file(IDLE_INPUT, LOW + FOUND_SUM, &[], &[262_143]);
+    bench.file(IDLE_INPUT, LOW + FOUND_NUMBER, &[], &[32_767]);
+    bench.script.file(IDLE_INPUT, BLOCK_SIZE, 5);
+    for chosen in [SEQUENCE, CHECK] {
+        bench.sound(|script| {
+            script.file(IDLE_INPUT, chosen, 1);
+            script.found(IDLE_INPUT, LOW, [0, 0, 262_143, 32_767]);
+        });
+    }
+}
+
+/// An error that is not told is what the chosen fields say; without one they may say anything.
+fn errors_as_found(bench: &mut Bench) {
+    for choice in [3, 1, 2, 0] {
+        bench.script.file(INPUT, SEQUENCE, choice & 1);
+        bench.script.file(INPUT, CHECK, choice >> 1);
+        for unequal in if choice == 0 { 0..1 } else { 0..4 } {
+            let fields = [5, 6, 5 + (unequal >> 1), 6 - (unequal & 1)];
+            let fields = if choice == 0 { [5, 6, 0, 0] } else { fields };
+            for error in if choice == 3 || unequal == 3 { 0..4 } else { 1..3 } {
+                let change = |script: &mut Script| {
+                    script.found(INPUT, LOW, fields);
+                    script.file(INPUT, LOW + ERROR, error);
+                };
+                if error == 0 || error == unequal & choice {
+                    bench.sound(change);
+                } else {
+                    bench.unsound(change);
+                }
+            }
         }
     }
 }

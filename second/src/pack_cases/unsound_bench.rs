@@ -49,18 +49,18 @@ impl<'a> Bench<'a> {
         Bench { script, states: 0, sound_states: 0 }
     }
 
-    /// Nine buffers of six words. File 0: double input with a block. 1: double output, part-filled.
+    /// Nine buffers of six words. File 0: double input with a block and check words. 1: double output, part-filled.
     /// 2: output at work on a write. 3: input, idle. 4: double input at work on a read. 8 is free.
     pub fn build(&mut self) {
         let script = &mut *self.script;
         script.start_over();
         script.fresh(9, 6, [31, 12, 1, 0, 0]);
-        script.open(INPUT, DOUBLE, 5, 2);
+        script.open(INPUT, DOUBLE + SEQUENCE + CHECK, 5, 2);
         script.open(OUTPUT_FILE, OUTPUT + DOUBLE + SEQUENCE + CHECK, 5, 2);
         script.open_on(WRITING, 1, 2, OUTPUT, 4, 4);
         script.open(IDLE_INPUT, 0, 6, 3);
         script.open_on(READING, 2, 0, DOUBLE, 6, 1);
-        script.read(INPUT, &[1, 2, 3, 4, 5]);
+        script.read(INPUT, &[1, 2, 3, 4, 5, (15 << 18) + 1]);
         script.put(OUTPUT_FILE, &[11, 12]);
         script.put(WRITING, &[21, 22, 23, 24]);
         script.ask(WRITING, WRITE);

@@ -28,7 +28,9 @@ fn closed_files(bench: &mut Bench) {
         // These numbers are not there while the slot is empty.
         bench.file(CLOSED, side + WORDS, &[], &[1]);
         bench.file(CLOSED, side + AT, &[], &[1]);
-        bench.file(CLOSED, side + ERROR, &[], &[1]);
+        for field in ERROR..=NUMBER_READ {
+            bench.file(CLOSED, side + field, &[], &[1]);
+        }
     }
     bench.file(15, UNIT, &[9], &[]);
 }
@@ -63,7 +65,7 @@ fn block_orders(bench: &mut Bench) {
     bench.file(OUTPUT_FILE, TURNED, &[], &[1]);
 }
 
-/// An output file reads no mark, and get has no part in its blocks.
+/// An output file reads no mark, get has no part in its blocks, and nothing was found in them.
 fn output_zeros(bench: &mut Bench) {
     for file in [OUTPUT_FILE, WRITING] {
         bench.file(file, MARKED, &[1], &[]);
@@ -75,6 +77,10 @@ fn output_zeros(bench: &mut Bench) {
     bench.script.full(OUTPUT_FILE, HIGH, [3, 0, 0]);
     bench.file(OUTPUT_FILE, HIGH + AT, &[1], &[]);
     bench.file(OUTPUT_FILE, HIGH + ERROR, &[2], &[]);
+    for field in FOUND_SUM..=NUMBER_READ {
+        bench.file(OUTPUT_FILE, HIGH + field, &[1], &[]);
+    }
+    bench.file(WRITING, LOW + FOUND_SUM, &[262_143], &[]);
 }
 
 /// "no buffer is held by two files": low or high of each.
