@@ -32,6 +32,8 @@ pub mod reel_cases;
 pub mod reel_make;
 pub mod refusals;
 pub mod session;
+pub mod sheet;
+pub mod sheet_cases;
 pub mod shorten;
 pub mod sound;
 pub mod state;

@@ -23,6 +23,8 @@ use second::program::play_with;
 use second::reel::{show_image, Form, Written};
 use second::reel_cases::write_reel_cases;
 use second::reel_make::{make_image, Parity};
+use second::sheet::sheet_texts;
+use second::sheet_cases::write_sheet_cases;
 use second::talk::{talk, talk_options};
 use second::text::lines_of;
 use second::word_cases::word_cases;
@@ -50,9 +52,9 @@ second: documents 01 and 02 of Plorrettix, written a second time
   word-cases, channel-events, file-walks, pack-cases   print fixed cases
   plan                           proposes buffers for a list of openings
   plan-check LIST PROPOSAL       accepts a proposal for a list, or says why not
-  reel list|words|octal          shows a tape image, standard input to output
-  reel make [--bcd]              makes a tape image of what `reel words` shows
-  plan-cases, reel-cases DIR SEED COUNT   write random cases N.list, N.tap, ..
+  reel list|words|octal          shows a tape image; reel make [--bcd] makes one
+  sheet SESSION ANSWERS          the first frame that differs, and the requests
+  plan-cases, reel-cases, sheet-cases DIR SEED COUNT   write random cases N.*
   help                           prints this
 Exit status: 0 all well, 1 a refusal, a difference or a failure, 2 a complaint
 ";
@@ -95,6 +97,12 @@ fn run(arguments: &[String]) -> Result<ExitCode, String> {
         ["reel", "make", "--bcd"] => return written(&make_image(&standard_bytes()?, Parity::Even)),
         ["reel-cases", folder, seed, count] => {
             write_reel_cases(Path::new(folder), number(seed)?, number(count)?)?;
+        }
+        ["sheet", session, answers] if !is_option(session) && !is_option(answers) => {
+            return sheet(session, answers);
+        }
+        ["sheet-cases", folder, seed, count] | ["sheet-cases", folder, "--seed", seed, "--count", count] => {
+            write_sheet_cases(Path::new(folder), number(seed)?, number(count)?)?;
         }
         ["help"] => print(HELP)?,
         _ => return Err("what shall be done? See `second help`".to_string()),
@@ -212,6 +220,22 @@ fn standard_bytes() -> Result<Vec<u8>, String> {
 fn answer(answer: &Answer) -> Result<ExitCode, String> {
     print(&answer.text)?;
     Ok(if answer.well { ExitCode::SUCCESS } else { ExitCode::from(1) })
+}
+
+fn is_option(word: &str) -> bool {
+    word.starts_with('-') && word != "-"
+}
+
+/// Prints the sheet of two files. One that cannot be read is named and has status 1.
+fn sheet(session: &str, answers: &str) -> Result<ExitCode, String> {
+    let texts = read_file(session).and_then(|session| Ok((session, read_file(answers)?)));
+    match texts {
+        Ok((session, answers)) => answer(&sheet_texts(&session, &answers)),
+        Err(complaint) => {
+            eprintln!("second: {complaint}");
+            Ok(ExitCode::from(1))
+        }
+    }
 }
 
 /// Writes what was made of a reel, then the refusal, if there is one, to standard error with status 1.

@@ -111,7 +111,7 @@ fn help_names_every_subcommand() {
     let help = text(&run(&["help"]));
     let names =
         "play generate compare talk bench words word-cases channel channel-events files file-walks pack \
-                 pack-cases plan plan-check plan-cases reel reel-cases help";
+                 pack-cases plan plan-check plan-cases reel reel-cases sheet sheet-cases help";
     let heads: Vec<&str> = help.lines().filter_map(|line| line.strip_prefix("  ")).collect();
     for name in names.split_ascii_whitespace() {
         let named = |head: &&str| head.split([' ', ',']).any(|word| word == name);
