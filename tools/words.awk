@@ -51,7 +51,8 @@ function flagsText(flags,    text) {
     return text ", no check words"
 }
 
-function named(n, names, other,    parts) { return n < split(names, parts, "|") ? parts[n + 1] : other " " n }
+# The name with the number n in a list of names, or the number where the list has none.
+function named(n, names, other,    parts) { return n < split(names, parts, "|") && parts[n + 1] != "" ? parts[n + 1] : other " " n }
 
 # Whether a line is a frame, by its kind and its count of bytes.
 function isFrame(s,    n, kind) {
