@@ -26,6 +26,7 @@ use Rattle.channel.specs.declared.Work.{Work}
 use Rattle.channel.specs.declared.Work.the-variants as work
 use Rattle.channel.specs.Units.{turnAt, workOf, operationAt}
 use Rattle.channel_turns.specs.Turns.{judgeOf}
+use Rattle.word.specs.declared.Checked.{Checked}
 use Rattle.file.specs.declared.File.{File}
 use Rattle.file.specs.declared.Side.{Side}
 use Rattle.file.specs.declared.Side.the-variants.{Neither}
@@ -283,13 +284,13 @@ asked-channel op f = go (eqb op 0)
     go true = event-alike f read .channel
     go false = refl
 
-reported-channel : (x : Effect) (f : File) (n error : ℕ) → reportedFile x f n error .channel ≡ f .channel
+reported-channel : (x : Effect) (f : File) (n : ℕ) (found : Checked) → reportedFile x f n found .channel ≡ f .channel
 unfolding reportedFile afterWrite
-reported-channel Delivers f n error = event-alike f (deliver (n - extra (f .sequence) (f .check)) error) .channel
-reported-channel MeetsMark f n error = event-alike f mark .channel
-reported-channel GivesBack f n error = event-alike f giveBack .channel
-reported-channel Sends f n error = event-alike f send .channel
-reported-channel Keeps f n error = refl
+reported-channel Delivers f n found = event-alike f (deliver (n - extra (f .sequence) (f .check)) found) .channel
+reported-channel MeetsMark f n found = event-alike f mark .channel
+reported-channel GivesBack f n found = event-alike f giveBack .channel
+reported-channel Sends f n found = event-alike f send .channel
+reported-channel Keeps f n found = refl
 
 module _ (s : State) (area : List ℕ) (g : Good s) where
   ask-did : (file op priority : ℕ) → answerOf s area (ask file op priority) .refusal ≡ 0
