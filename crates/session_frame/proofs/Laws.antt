@@ -8,3 +8,4 @@ pub mod Sizes
 pub mod Words
 pub mod Backs
 pub mod Texts
+pub mod Alls

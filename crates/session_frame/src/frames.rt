@@ -37,19 +37,18 @@ fn value(c: u8) -> u8
     0
 }
 
-// Whether every character of a line is a digit.
+// Whether every character of a line is a digit. It looks at all of them without a branch, which a processor does many at a time.
 fn all_digits(line: &[u8]) -> bool
     ensures { λ r. ⌜ r ≡ allOf isDigit (now (line .entry)) ⌝ }
 {
+    let mut all = true;
     let mut i = 0;
     while i < line.len() {
         let good = is_digit(line[i]);
-        if !good {
-            return false;
-        }
+        all = all & good;
         i += 1;
     }
-    true
+    all
 }
 
 // Byte k of a line, 0 past its end.

@@ -3,3 +3,4 @@ pub mod Grows
 pub mod Holding
 pub mod Sessions
 pub mod Steps
+pub mod Strides

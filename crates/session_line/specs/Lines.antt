@@ -1,9 +1,10 @@
 -- The lines of a session (document 01, "The session program"). Assumes nothing.
-use mathlib.Core.Bool.{cond}
+use mathlib.Core.Bool.{Bool, cond, not}
 use mathlib.Core.List.{List, [], _∷_, _++_}
 use Prim.Native.Nat.{ℕ, suc}
 use lib.Dec.{eqb, leb}
 use lib.ListN.{length}
+use Rattle.area.specs.Lists.{allOf}
 
 -- the line feed
 abbrev pub feed : ℕ
@@ -25,6 +26,10 @@ linesOf (c ∷ cs) = cond (eqb c feed) ([] ∷ linesOf cs) (onto c (linesOf cs))
 unfoldable pub feedAt : List ℕ → ℕ
 feedAt [] = 0
 feedAt (c ∷ cs) = cond (eqb c feed) 0 (suc (feedAt cs))
+
+-- there is no line feed
+unfoldable pub feedless : List ℕ → Bool
+feedless xs = allOf (λ (c : ℕ). not (eqb c feed)) xs
 
 -- the lines that end in the part
 unfoldable pub endedLines : List ℕ → List ℕ → List (List ℕ)

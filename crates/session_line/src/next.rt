@@ -2,7 +2,7 @@
 ghost use mathlib.Core.Path.{_≡_};
 ghost use Prim.Native.Nat.{_+_, _-_, _≤_, max};
 ghost use lib.ListN.{length, take, drop};
-ghost use Rattle.session_line.specs.Lines.{feedAt};
+ghost use Rattle.session_line.specs.Lines.{feedAt, feedless};
 ghost use Rattle.session_line.specs.Machine.{noLine, hasBegun, stepOf, roomOf};
 use crate::Line;
 use crate::Step;
@@ -28,11 +28,46 @@ pub fn has_begun(line: Line) -> bool
     line.overlong | (line.filled != 0)
 }
 
+// How many bytes are passed over together where no line feed is among them.
+const STRIDE: usize = 16;
+
+// Whether no line feed is among the bytes. It looks at all of them without a branch, which a processor does many at a time.
+fn is_feedless(piece: &[u8]) -> bool
+    ensures { λ r. ⌜ r ≡ feedless (now (piece .entry)) ⌝ }
+{
+    let mut all = true;
+    let mut i = 0;
+    while i < piece.len() {
+        all = all & (piece[i] != FEED);
+        i += 1;
+    }
+    all
+}
+
+// A place from `at` on, up to which there is no line feed: less than a stride before the next, or before the end.
+fn feedless_from(bytes: &[u8], at: usize) -> usize
+    ensures { λ r. ⌜ (at + feedAt (drop at (now (bytes .entry))) ≡ r + feedAt (drop r (now (bytes .entry)))) × (at ≤ r) × (r ≤ max at (length (now (bytes .entry)))) ⌝ }
+{
+    let mut i = at;
+    while i < bytes.len() {
+        if bytes.len() - i < STRIDE {
+            return i;
+        }
+        let end = i + STRIDE;
+        let none = is_feedless(&bytes[i..end]);
+        if !none {
+            return i;
+        }
+        i = end;
+    }
+    i
+}
+
 // The place of the next line feed from `at` on, or the end.
 fn feed_from(bytes: &[u8], at: usize) -> usize
     ensures { λ r. ⌜ (r ≡ at + feedAt (drop at (now (bytes .entry)))) × (at ≤ r) × (r ≤ max at (length (now (bytes .entry)))) ⌝ }
 {
-    let mut i = at;
+    let mut i = feedless_from(bytes, at);
     while i < bytes.len() {
         if bytes[i] == FEED {
             return i;

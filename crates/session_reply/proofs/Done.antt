@@ -1,12 +1,13 @@
 -- What each call's code makes of its inner form comes to its definition. Assumes nothing.
 use mathlib.Core.Path.{_≡_, sym, ap, ap₂, _∙_}
-use mathlib.Core.Bool.{Bool, cond, _||_}
+use mathlib.Core.Bool.{Bool, true, cond, _||_, _&&_}
 use mathlib.Core.List.{List}
 use Prim.Native.Nat.{ℕ, _*_}
 use borrow.Author.Tests.{ne-eqb}
 use lib.Dec.{leb, ltb, eqb}
 use lib.ListN.{length}
-use Rattle.area.proofs.Marks.{cond-false}
+use Rattle.area.proofs.Marks.{cond-true, cond-false}
+use Rattle.area.proofs.Walks.{and-left, and-right}
 use Rattle.session_frame.specs.declared.Answer.{Answer}
 use Rattle.session_frame.specs.declared.Answer.the-variants as answer
 use Rattle.channel.specs.declared.Channel.{Channel}
@@ -195,3 +196,60 @@ module _ (frame : Frame) (i : ℕ) (old f : File) (ef : f ≡ fileOr i old) wher
       pub request-area : (after : List ℕ) → after ≡ requestArea unsound m w frame f c area words
           → after ≡ requestArea unsound m w frame (fileOr i old) (channelOr (channelFor frame i old) was) area words
       request-area after e = e ∙ ap₂ (λ (g : File) (d : Channel). requestArea unsound m w frame g d area words) ef channel-there
+
+-- ---- the same of numbers that are in range: nothing has to be chosen
+
+module _ (i : ℕ) (old : File) (there : ltb i fileCount ≡ true) where
+  file-there : fileOr i old ≡ old
+  unfolding fileOr
+  file-there = cond-true _ _ there
+
+  told-there : (x : Told) → toldAt i old x ≡ x
+  unfolding toldAt fileKept
+  told-there x = ap (λ (g : File). record { answer = x .answer; start = x .start; count = x .count; file = g }) (cond-true _ _ there)
+
+  module _ (unsound : Bool) (m w : ℕ) (frame : Frame) (area words : List ℕ) where
+    pub record-within : (x : Told) → x ≡ recordOf unsound m w frame old area words → x ≡ recordAt unsound m w frame i old area words
+    unfolding recordAt
+    record-within x e = e ∙ sym (told-there _) ∙ ap (λ (f : File). toldAt i old (recordOf unsound m w frame f area words)) (sym file-there)
+
+    pub record-area-within : (after : List ℕ) → after ≡ recordArea unsound m w frame old area words → after ≡ recordArea unsound m w frame (fileOr i old) area words
+    record-area-within after e = e ∙ ap (λ (f : File). recordArea unsound m w frame f area words) (sym file-there)
+
+module _ (frame : Frame) (i : ℕ) (old f : File) (ef : f ≡ fileOr i old) (j : ℕ) (was : Channel) (ej : j ≡ channelNumber frame (f .channel))
+    (both : (ltb i fileCount && ltb j channelCount) ≡ true) where
+  first : ltb i fileCount ≡ true
+  first = and-left (ltb i fileCount) (ltb j channelCount) both
+
+  number : j ≡ channelFor frame i old
+  number = channel-for frame i old f ef j ej
+
+  second : ltb (channelFor frame i old) channelCount ≡ true
+  second = ap (λ (n : ℕ). ltb n channelCount) (sym number) ∙ and-right (ltb i fileCount) (ltb j channelCount) both
+
+  channel-within : channelOr (channelFor frame i old) was ≡ was
+  unfolding channelOr
+  channel-within = cond-true _ _ second
+
+  pub binding-within : (unsound : Bool) (w free : ℕ) (files : List File) (x : Told) → x ≡ bindingOf unsound w free files frame old was
+      → x ≡ bindingAt unsound w free files frame i old was
+  unfolding bindingAt
+  binding-within unsound w free files x e =
+      e ∙ sym (told-there i old first _)
+      ∙ ap₂ (λ (g : File) (c : Channel). toldAt i old (bindingOf unsound w free files frame g c)) (sym (file-there i old first)) (sym channel-within)
+
+  module _ (unsound : Bool) (m w : ℕ) (frozen : Bool) (area words : List ℕ) where
+    change-there : (x : Change) → changeAt i old (channelFor frame i old) was x ≡ x
+    unfolding changeAt fileKept channelKept
+    change-there x =
+        ap₂ (λ (g : File) (c : Channel). record { answer = x .answer; start = x .start; count = x .count; file = g; channel = c }) (cond-true _ _ first) (cond-true _ _ second)
+
+    pub request-within : (x : Change) → x ≡ requestOf unsound m w frozen frame old was area words → x ≡ requestAt unsound m w frozen frame i old was area words
+    unfolding requestAt
+    request-within x e =
+        e ∙ sym (change-there _)
+        ∙ ap₂ (λ (g : File) (c : Channel). changeAt i old (channelFor frame i old) was (requestOf unsound m w frozen frame g c area words)) (sym (file-there i old first)) (sym channel-within)
+
+    pub request-area-within : (after : List ℕ) → after ≡ requestArea unsound m w frame old was area words
+        → after ≡ requestArea unsound m w frame (fileOr i old) (channelOr (channelFor frame i old) was) area words
+    request-area-within after e = e ∙ ap₂ (λ (g : File) (c : Channel). requestArea unsound m w frame g c area words) (sym (file-there i old first)) (sym channel-within)

@@ -378,6 +378,9 @@ pub fn record_on(
     ensures { λ r. ⌜ r ≡ recordAt unsound m w frame i old (now (area .entry)) (now (words .entry)) ⌝ }
     ensures { λ _. ⌜ now (area .exit) ≡ recordArea unsound m w frame (fileOr i old) (now (area .entry)) (now (words .entry)) ⌝ }
 {
+    if i < FILES {
+        return record_of(unsound, m, w, frame, old, area, words);
+    }
     let f = file_or(i, old);
     let x = record_of(unsound, m, w, frame, f, area, words);
     let g = x.file;
@@ -415,6 +418,9 @@ pub fn binding_on(
 {
     let f = file_or(i, old);
     let j = channel_number(frame, f.channel);
+    if (i < FILES) & (j < CHANNELS) {
+        return binding_of(unsound, w, free, files, frame, old, was);
+    }
     let c = channel_or(j, was);
     let x = binding_of(unsound, w, free, files, frame, f, c);
     let g = x.file;
@@ -446,6 +452,9 @@ pub fn request_on(
 {
     let f = file_or(i, old);
     let j = channel_number(frame, f.channel);
+    if (i < FILES) & (j < CHANNELS) {
+        return request_of(unsound, m, w, frozen, frame, old, was, area, words);
+    }
     let c = channel_or(j, was);
     let x = request_of(unsound, m, w, frozen, frame, f, c, area, words);
     let g = x.file;
