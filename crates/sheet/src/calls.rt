@@ -85,15 +85,16 @@ fn followed(d: Desk, state: State, e: Event, length: usize) -> Desk
     }
 }
 
-// Plays a line of the session, which is the next frame; its answer stays in `out`.
-fn played(d: Desk, area: &mut [u64], line: &[u8], words: &mut [u64], out: &mut [u8]) -> Desk
+// Plays a line of the session, which is the next frame; its answer stays in `out`, and the line stays.
+fn played(d: Desk, area: &mut [u64], line: &mut [u8], words: &mut [u64], out: &mut [u8]) -> Desk
     ensures { λ r. ⌜ r ≡ playedDesk d (frameOf (now (line .entry))) (lineAfter d (now (area .entry)) (now (line .entry)) (now (words .entry)) (now (out .entry))) ⌝ }
     ensures { λ _. ⌜ now (area .exit) ≡ lineAfter d (now (area .entry)) (now (line .entry)) (now (words .entry)) (now (out .entry)) .area ⌝ }
     ensures { λ _. ⌜ now (words .exit) ≡ lineAfter d (now (area .entry)) (now (line .entry)) (now (words .entry)) (now (out .entry)) .words ⌝ }
     ensures { λ _. ⌜ now (out .exit) ≡ lineAfter d (now (area .entry)) (now (line .entry)) (now (words .entry)) (now (out .entry)) .out ⌝ }
+    ensures { λ _. ⌜ now (line .exit) ≡ now (line .entry) ⌝ }
 {
     let s = d.state;
-    let f = frame_of(line);
+    let f = frame_of(&line[..]);
     let r = answer_line(s, area, line, words, out);
     let length = r.length;
     let e = event_of(s, f, front(&out[..], length));
@@ -203,8 +204,8 @@ pub fn session_part(
     let step = next_line(bytes, at, room, line);
     let more = step.line;
     if step.ended {
-        let text = text_of(more, &room[..]);
-        let desk = played(d, area, text, words, out);
+        let n = held_length(more, room.len());
+        let desk = played(d, area, &mut room[..n], words, out);
         return Taken { desk, at: step.at };
     }
     let desk = with_session(d, more);
@@ -215,7 +216,7 @@ pub fn session_part(
 pub fn session_end(
     d: Desk,
     area: &mut [u64],
-    room: &[u8],
+    room: &mut [u8],
     words: &mut [u64],
     out: &mut [u8],
 ) -> Desk
@@ -223,6 +224,7 @@ pub fn session_end(
     ensures { λ _. ⌜ now (area .exit) ≡ sessionEnd d (now (area .entry)) (now (room .entry)) (now (words .entry)) (now (out .entry)) .area ⌝ }
     ensures { λ _. ⌜ now (words .exit) ≡ sessionEnd d (now (area .entry)) (now (room .entry)) (now (words .entry)) (now (out .entry)) .words ⌝ }
     ensures { λ _. ⌜ now (out .exit) ≡ sessionEnd d (now (area .entry)) (now (room .entry)) (now (words .entry)) (now (out .entry)) .out ⌝ }
+    ensures { λ _. ⌜ now (room .exit) ≡ now (room .entry) ⌝ }
 {
     let shut = asks_no_line(d, room.len(), words.len(), out.len());
     if shut {
@@ -231,8 +233,8 @@ pub fn session_end(
     let line = d.session;
     let begun = has_begun(line);
     if begun {
-        let text = text_of(line, room);
-        let last = played(d, area, text, words, out);
+        let n = held_length(line, room.len());
+        let last = played(d, area, &mut room[..n], words, out);
         return with_over(last);
     }
     with_over(d)
