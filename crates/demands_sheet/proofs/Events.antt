@@ -7,7 +7,7 @@ use Prim.Native.Nat.{ℕ, zero, suc, _+_, _/_, _%_, _≤_, _<_}
 use native.Mathlib.Omega.{arith}
 use borrow.Author.Tests.{eqb-true, eqb-false, eq-eqb, ne-eqb, ltb-true, ltb-false}
 use lib.Dec.{eqb, ltb}
-use lib.ListN.{length, take, getD}
+use lib.ListN.{length, take, drop, getD}
 use Rattle.area.specs.Lists.{oneIf, countOf}
 use Rattle.area.proofs.Walks.{by-test, and-left, and-right, true-not-false}
 use Rattle.session_frame.specs.Digits.{digitOf, byteDigits, concatMap}
@@ -15,13 +15,15 @@ use Rattle.session_frame.specs.declared.Frame.{Frame}
 use Rattle.session_frame.specs.declared.Frame.the-variants.{Malformed, Fresh, Open, Close, Ask, Report, Get, Put, Seal, Skip, Freeze, Thaw}
 use Rattle.session_frame.specs.Frames.{frameOf}
 use Rattle.session_frame.specs.declared.Answer as said
-use Rattle.session_frame.specs.declared.Answer.the-variants.{Refused, Done, Asked, Reported}
+use Rattle.session_frame.specs.declared.Answer.the-variants.{Refused, Done, Asked}
 use Rattle.session_frame.specs.Answers.{answerBytes, answerText}
 use Rattle.session_frame.proofs.Laws.Values.{digit-decimal, digit-letter}
 use Rattle.state.specs.declared.State.{State}
-use Rattle.session_reply.specs.Replies.{Reply, answerOr, masksOf, givenWords, replyTo, answerTo, textOf}
+use Rattle.session_reply.specs.Replies.{Reply, answerOr, reportAnswer, masksOf, givenWords, replyTo, answerTo, textOf}
 use Rattle.area.specs.Parts.{partOf}
 use Rattle.pack_start.specs.Fresh.{freshBy}
+use Rattle.call_request.specs.declared.Delivery.{Delivery}
+use Rattle.call_request.specs.declared.Delivery.the-variants.{Without, With}
 use Rattle.pack_request.specs.declared.Reporting.{Reporting}
 use Rattle.pack_request.specs.Calls.{askBy, reportBy, reportByArea}
 use Rattle.pack.specs.Calls.{Call, fresh, opening, close, ask, report, get, put, seal, skip, freeze, thaw, Answer, answerOf}
@@ -78,15 +80,22 @@ module _ (n : ℕ) (a : said.Answer) (ws bs : List ℕ) (begins : answerBytes a 
       (λ q t. ap (λ (xs : List ℕ). isZero (concatMap byteDigits xs ++ (10 ∷ [])) 0 1) begins ∙ first-zero 0 bs)
       (λ q t. first-zero n [] ∙ t) refl
 
-reported-is : (n result error working : ℕ) (ws : List ℕ)
-    → (isAccepted (answerText (answerOr n (Reported result error working)) ws) && not (isRepeated (answerText (answerOr n (Reported result error working)) ws)))
-    ≡ (eqb n 0 && not (eqb result 0))
+-- a report's answer has its result after the 0
+reported-is : (n result : ℕ) (a : said.Answer) (ws bs : List ℕ) → answerBytes a ws ≡ 0 ∷ result ∷ bs
+    → (isAccepted (answerText (answerOr n a) ws) && not (isRepeated (answerText (answerOr n a) ws))) ≡ (eqb n 0 && not (eqb result 0))
 unfolding answerText answerBytes
-reported-is n result error working ws =
-    by-test (λ b. eqb n 0 ≡ b → (isZero (concatMap byteDigits (answerBytes (cond b (Reported result error working) (Refused n)) ws) ++ (10 ∷ [])) 0 1
-    && not (isZero (concatMap byteDigits (answerBytes (cond b (Reported result error working) (Refused n)) ws) ++ (10 ∷ [])) 2 3)) ≡ (b && not (eqb result 0))) (eqb n 0)
-    (λ q t. ap₂ (λ (x y : Bool). x && not y) (first-zero 0 _) (second-zero 0 result _))
+reported-is n result a ws bs begins =
+    by-test (λ b. eqb n 0 ≡ b → (isZero (concatMap byteDigits (answerBytes (cond b a (Refused n)) ws) ++ (10 ∷ [])) 0 1
+    && not (isZero (concatMap byteDigits (answerBytes (cond b a (Refused n)) ws) ++ (10 ∷ [])) 2 3)) ≡ (b && not (eqb result 0))) (eqb n 0)
+    (λ q t. ap (λ (xs : List ℕ). isZero (concatMap byteDigits xs ++ (10 ∷ [])) 0 1 && not (isZero (concatMap byteDigits xs ++ (10 ∷ [])) 2 3)) begins
+    ∙ ap₂ (λ (x y : Bool). x && not y) (first-zero 0 _) (second-zero 0 result bs))
     (λ q t. ap (λ (x : Bool). x && not (isZero (concatMap byteDigits (n ∷ []) ++ (10 ∷ [])) 2 3)) (first-zero n [] ∙ t)) refl
+
+report-begins : (result : ℕ) (d : Delivery) (working : ℕ) (ws : List ℕ)
+    → answerBytes (reportAnswer result d working) ws ≡ 0 ∷ result ∷ drop 2 (answerBytes (reportAnswer result d working) ws)
+unfolding answerBytes
+report-begins result Without working ws = refl
+report-begins result (With found) working ws = refl
 
 -- ---- a line
 
@@ -101,13 +110,14 @@ frame-event s area words (Ask q) =
 frame-event s area words (Report q) = told (reportBy s area (q .channel) (q .unit) (q .outcome) words) (reportByArea s area (q .channel) (q .unit) (q .outcome) words)
   where
     told : (x : Reporting) (after : List ℕ)
-        → reportEvent q (isAccepted (answerText (answerOr (x .refusal) (Reported (x .result) (x .error) (x .working))) (partOf (x .start) (x .count) after)))
-        (isRepeated (answerText (answerOr (x .refusal) (Reported (x .result) (x .error) (x .working))) (partOf (x .start) (x .count) after)))
+        → reportEvent q (isAccepted (answerText (answerOr (x .refusal) (reportAnswer (x .result) (x .delivery) (x .working))) (partOf (x .start) (x .count) after)))
+        (isRepeated (answerText (answerOr (x .refusal) (reportAnswer (x .result) (x .delivery) (x .working))) (partOf (x .start) (x .count) after)))
         ≡ record { asked = false; reported = eqb (x .refusal) 0; answered = eqb (x .refusal) 0 && not (eqb (x .result) 0); started = false; file = 0; channel = q .channel; unit = q .unit }
     told x after =
+        let begins = report-begins (x .result) (x .delivery) (x .working) (partOf (x .start) (x .count) after) in
         ap₂ (λ (a b : Bool). record { asked = false; reported = a; answered = b; started = false; file = 0; channel = q .channel; unit = q .unit })
-        (accepted-is (x .refusal) (Reported (x .result) (x .error) (x .working)) (partOf (x .start) (x .count) after) _ refl)
-        (reported-is (x .refusal) (x .result) (x .error) (x .working) (partOf (x .start) (x .count) after))
+        (accepted-is (x .refusal) (reportAnswer (x .result) (x .delivery) (x .working)) (partOf (x .start) (x .count) after) _ begins)
+        (reported-is (x .refusal) (x .result) (reportAnswer (x .result) (x .delivery) (x .working)) (partOf (x .start) (x .count) after) _ begins)
 frame-event s area words (Get file) = refl
 frame-event s area words (Put q) = refl
 frame-event s area words (Seal file) = refl

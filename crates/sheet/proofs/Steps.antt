@@ -1,13 +1,13 @@
 -- What each function of the sheet does in each of its branches, as its definition says it. Assumes nothing.
 use mathlib.Core.Path.{_≡_, refl, sym, ap, ap₂, _∙_}
 use mathlib.Core.Bool.{Bool, true, false, not, cond, _&&_, _||_}
-use mathlib.Core.List.{List, [], _∷_, map}
+use mathlib.Core.List.{List, [], _∷_, _++_, map}
 use Prim.Native.Nat.{ℕ, suc, _+_, _-_, _≤_, _<_}
 use native.Mathlib.Numerals.{add-one}
 use native.Mathlib.Omega.{arith}
 use borrow.Author.Tests.{eq-eqb, ne-eqb, le-leb, lt-leb, lt-ltb, le-ltb}
 use lib.Dec.{eqb, leb, ltb}
-use lib.ListN.{length, getD, take, drop, drop-of-length-le}
+use lib.ListN.{length, getD, take, drop, drop-of-length-le, take-append-drop}
 use lib.Seq.{drop-cons}
 use Rattle.area.proofs.Marks.{cond-true, cond-false}
 use Rattle.area.proofs.Walks.{by-test, or-first, or-second, or-neither}
@@ -112,10 +112,10 @@ followed-is d s e n k ek listed el differs ed m em none ez = rw (el, ed, em, ez,
 
 pub played-is : (d : Desk) (x : After) (line : List ℕ) (f : Frame) → f ≡ frameOf line
     → (s : State) (n : ℕ) (area words out : List ℕ) → s ≡ x .state → n ≡ x .length → area ≡ x .area → words ≡ x .words → out ≡ x .out
-    → (text : List ℕ) → text ≡ take n out → (e : Event) → e ≡ eventOf (d .state) f text → (t : Desk) → t ≡ followedDesk d s e n
-    → (t ≡ playedDesk d (frameOf line) x) × ((area ≡ x .area) × ((words ≡ x .words) × (out ≡ x .out)))
+    → (line' : List ℕ) → line' ≡ line → (text : List ℕ) → text ≡ take n out → (e : Event) → e ≡ eventOf (d .state) f text → (t : Desk) → t ≡ followedDesk d s e n
+    → (t ≡ playedDesk d (frameOf line) x) × ((area ≡ x .area) × ((words ≡ x .words) × ((out ≡ x .out) × (line' ≡ line))))
 unfolding playedDesk
-played-is d x line f ef s n area words out es en ea ew eo text et e ee t ed = (rw (ed, es, ee, et, en, eo, ef), (ea, (ew, eo)))
+played-is d x line f ef s n area words out es en ea ew eo line' el text et e ee t ed = (rw (ed, es, ee, et, en, eo, ef), (ea, (ew, (eo, el))))
 
 -- ---- what becomes of the answer that waits
 
@@ -147,6 +147,10 @@ played-sat : (d : Desk) (line : List ℕ) (at : ℕ) (area room words out : List
 unfolding playedSat
 played-sat d line at area room words out t area' words' out' et ea ew eo = rw (et, ea, ew, eo)
 
+-- the room in which a line stood that stayed
+back : (n : ℕ) (room line : List ℕ) → line ≡ take n room → line ++ drop n room ≡ room
+back n room line e = ap (λ (xs : List ℕ). xs ++ drop n room) e ∙ take-append-drop n room
+
 module _ (d : Desk) (area room words bytes : List ℕ) (at : ℕ) (out : List ℕ) (shut : Bool)
     (asks : shut ≡ asksNoLine d (length room) (length words) (length out)) where
   pub session-shut : shut ≡ true → IsSat (sessionPart d area room words bytes at out) (takenWith d at) area room words out
@@ -159,14 +163,15 @@ module _ (d : Desk) (area room words bytes : List ℕ) (at : ℕ) (out : List �
     unfolding sessionPart
     goes = ap₂ (λ (r : List ℕ) (s : Step). steppedSat d area r words out s) fills stepped ∙ sym (cond-false _ _ (sym asks ∙ h))
 
-    pub session-ended : step .ended ≡ true → (text : List ℕ) → text ≡ heldText (step .line) filled → (t : Desk) (area' words' out' : List ℕ)
-        → (t ≡ playedDesk d (frameOf text) (lineAfter d area text words out)) × ((area' ≡ lineAfter d area text words out .area)
-        × ((words' ≡ lineAfter d area text words out .words) × (out' ≡ lineAfter d area text words out .out)))
-        → IsSat (sessionPart d area room words bytes at out) (takenWith t (step .at)) area' filled words' out'
+    pub session-ended : step .ended ≡ true → (n : ℕ) → take n filled ≡ heldText (step .line) filled → (t : Desk) (area' line' words' out' : List ℕ)
+        → (t ≡ playedDesk d (frameOf (take n filled)) (lineAfter d area (take n filled) words out)) × ((area' ≡ lineAfter d area (take n filled) words out .area)
+        × ((words' ≡ lineAfter d area (take n filled) words out .words) × ((out' ≡ lineAfter d area (take n filled) words out .out) × (line' ≡ take n filled))))
+        → IsSat (sessionPart d area room words bytes at out) (takenWith t (step .at)) area' (line' ++ drop n filled) words' out'
     unfolding steppedSat
-    session-ended e text et t area' words' out' w =
-        sat-is (sessionPart d area room words bytes at out) (satWith t (step .at) area' filled words' out')
-        (played-sat d text (step .at) area filled words out t area' words' out' (w .0) (w .1 .0) (w .1 .1 .0) (w .1 .1 .1)
+    session-ended e n et t area' line' words' out' w =
+        sat-is (sessionPart d area room words bytes at out) (satWith t (step .at) area' (line' ++ drop n filled) words' out')
+        (ap (λ (r : List ℕ). satWith t (step .at) area' r words' out') (back n filled line' (w .1 .1 .1 .1))
+        ∙ played-sat d (take n filled) (step .at) area filled words out t area' words' out' (w .0) (w .1 .0) (w .1 .1 .0) (w .1 .1 .1 .0)
         ∙ ap (λ (l : List ℕ). playedSat d l (step .at) area filled words out) et
         ∙ sym (cond-true _ _ e)
         ∙ goes)
@@ -179,40 +184,45 @@ module _ (d : Desk) (area room words bytes : List ℕ) (at : ℕ) (out : List �
         (ap (λ (z : Desk). satWith z (step .at) area filled words out) et ∙ sym (cond-false _ _ e) ∙ goes)
 
 module _ (d : Desk) (area room words out : List ℕ) (shut : Bool) (asks : shut ≡ asksNoLine d (length room) (length words) (length out)) where
-  abbrev IsEnd : Desk → List ℕ → List ℕ → List ℕ → Type 0
-  IsEnd t area' words' out' =
+  abbrev IsEnd : Desk → List ℕ → List ℕ → List ℕ → List ℕ → Type 0
+  IsEnd t area' room' words' out' =
       (t ≡ sessionEnd d area room words out .desk) × ((area' ≡ sessionEnd d area room words out .area)
-      × ((words' ≡ sessionEnd d area room words out .words) × (out' ≡ sessionEnd d area room words out .out)))
+      × ((words' ≡ sessionEnd d area room words out .words) × ((out' ≡ sessionEnd d area room words out .out) × (room' ≡ room))))
 
-  end-is : (y : Sat) → y ≡ sessionEnd d area room words out → IsEnd (y .desk) (y .area) (y .words) (y .out)
-  end-is y e = (ap (λ (z : Sat). z .desk) e, (ap (λ (z : Sat). z .area) e, (ap (λ (z : Sat). z .words) e, ap (λ (z : Sat). z .out) e)))
+  end-is : (y : Sat) → y ≡ sessionEnd d area room words out → (room' : List ℕ) → room' ≡ room → IsEnd (y .desk) (y .area) room' (y .words) (y .out)
+  end-is y e room' er = (
+    ap (λ (z : Sat). z .desk) e,
+    (ap (λ (z : Sat). z .area) e, (ap (λ (z : Sat). z .words) e, (ap (λ (z : Sat). z .out) e, er))),
+  )
 
-  pub end-shut : shut ≡ true → IsEnd d area words out
+  pub end-shut : shut ≡ true → IsEnd d area room words out
   unfolding sessionEnd
-  end-shut h = end-is (satWith d 0 area room words out) (sym (cond-true _ _ (sym asks ∙ h)))
+  end-shut h = end-is (satWith d 0 area room words out) (sym (cond-true _ _ (sym asks ∙ h))) room refl
 
   module _ (h : shut ≡ false) (begun : Bool) (begins : begun ≡ hasBegun (d .session)) where
-    pub end-begun : begun ≡ true → (text : List ℕ) → text ≡ heldText (d .session) room → (t : Desk) (area' words' out' : List ℕ)
-        → (t ≡ playedDesk d (frameOf text) (lineAfter d area text words out)) × ((area' ≡ lineAfter d area text words out .area)
-        × ((words' ≡ lineAfter d area text words out .words) × (out' ≡ lineAfter d area text words out .out)))
-        → (u : Desk) → u ≡ withOver t → IsEnd u area' words' out'
+    pub end-begun : begun ≡ true → (n : ℕ) → take n room ≡ heldText (d .session) room → (t : Desk) (area' line' words' out' : List ℕ)
+        → (t ≡ playedDesk d (frameOf (take n room)) (lineAfter d area (take n room) words out)) × ((area' ≡ lineAfter d area (take n room) words out .area)
+        × ((words' ≡ lineAfter d area (take n room) words out .words) × ((out' ≡ lineAfter d area (take n room) words out .out) × (line' ≡ take n room))))
+        → (u : Desk) → u ≡ withOver t → IsEnd u area' (line' ++ drop n room) words' out'
     unfolding sessionEnd
-    end-begun g text et t area' words' out' w u eu =
+    end-begun g n et t area' line' words' out' w u eu =
         end-is (satWith u 0 area' room words' out')
         (ap (λ (z : Desk). satWith z 0 area' room words' out') eu
         ∙ ap (λ (z : Sat). overSat z)
-        (played-sat d text 0 area room words out t area' words' out' (w .0) (w .1 .0) (w .1 .1 .0) (w .1 .1 .1)
+        (played-sat d (take n room) 0 area room words out t area' words' out' (w .0) (w .1 .0) (w .1 .1 .0) (w .1 .1 .1 .0)
         ∙ ap (λ (l : List ℕ). playedSat d l 0 area room words out) et
         ∙ sym (cond-true _ _ (sym begins ∙ g)))
         ∙ sym (cond-false _ _ (sym asks ∙ h)))
+        (line' ++ drop n room) (back n room line' (w .1 .1 .1 .1))
 
-    pub end-none : begun ≡ false → (u : Desk) → u ≡ withOver d → IsEnd u area words out
+    pub end-none : begun ≡ false → (u : Desk) → u ≡ withOver d → IsEnd u area room words out
     unfolding sessionEnd
     end-none g u eu =
         end-is (satWith u 0 area room words out)
         (ap (λ (z : Desk). satWith z 0 area room words out) eu
         ∙ ap (λ (z : Sat). overSat z) (sym (cond-false _ (satWith d 0 area room words out) (sym begins ∙ g)))
         ∙ sym (cond-false _ _ (sym asks ∙ h)))
+        room refl
 
 -- ---- the calls on the recorded answers
 

@@ -5,6 +5,7 @@ use crate::Event;
 use crate::Taken;
 use crate::events::event_of;
 use crate::lines::front;
+use crate::lines::held_length;
 use crate::lines::same;
 use crate::lines::text_of;
 use crate::rows::listed_after;
@@ -204,7 +205,7 @@ pub fn session_part(
     let step = next_line(bytes, at, room, line);
     let more = step.line;
     if step.ended {
-        let n = held_length(more, room.len());
+        let n = held_length(more, &room[..]);
         let desk = played(d, area, &mut room[..n], words, out);
         return Taken { desk, at: step.at };
     }
@@ -233,7 +234,7 @@ pub fn session_end(
     let line = d.session;
     let begun = has_begun(line);
     if begun {
-        let n = held_length(line, room.len());
+        let n = held_length(line, &room[..]);
         let last = played(d, area, &mut room[..n], words, out);
         return with_over(last);
     }

@@ -120,7 +120,7 @@ fn more_session(
     let session = filled(s, input);
     if session.ended {
         let good = 0 <= session.fd;
-        let desk = session_end(d, area, &room[..], words, out);
+        let desk = session_end(d, area, room, words, out);
         return Standing {
             desk,
             session,

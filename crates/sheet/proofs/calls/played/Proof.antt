@@ -20,7 +20,7 @@ followed-requires : tie.Need-followed-requires
 followed-requires c κs = search needs
 
 same-length : tie.Need-same-length
-same-length c = search needs
+same-length c = search (needs, c .before .before .before .before .before .before .before .before .before .before .before .before .area, c .before .before .before .before .before .before .before .before .before .before .before .slice-known5)
 
 same-length-2 : tie.Need-same-length-2
 same-length-2 c = search needs
@@ -28,8 +28,23 @@ same-length-2 c = search needs
 same-length-3 : tie.Need-same-length-3
 same-length-3 c = search needs
 
+same-length-4 : tie.Need-same-length-4
+same-length-4 c = search needs
+
 returns : tie.Need-returns
-returns c = played-is (c .before .before .before .before .before .before .before .before .before .before .before .before .before .before .before .before .before .before .before .before .before .args .d) _ (c .before .before .before .before .before .before .before .before .before .before .before .before .before .before .before .before .before .before .before .before .before .args .line .now) _ (c .before .before .before .before .before .before .before .before .before .before .before .before .before .before .before .frame-of .ensures) _ _ _ _ _ (c .before .before .before .before .before .before .before .before .before .before .before .answer-line .ensures .0) (c .before .before .before .before .before .before .before .before .before .before .before .answer-line .ensures .1 .0) (c .before .before .before .before .before .before .before .before .before .before .before .answer-line .ensures .1 .1 .0) (c .before .before .before .before .before .before .before .before .before .before .before .answer-line .ensures .1 .1 .1 .0) (c .before .before .before .before .before .before .before .before .before .before .before .answer-line .ensures .1 .1 .1 .1) _ (c .before .before .before .front .ensures) _ (c .before .before .event-of .ensures) _ (c .followed .ensures)
+returns c = played-is (c .before .before .before .before .before .before .before .before .before .before .before .before .before .before .before .before .before .before .before .before .before .before .before .before .before .args .d) _ (c .before .before .before .before .before .before .before .before .before .before .before .before .before .before .before .before .before .before .before .before .before .before .before .before .before .args .line .now) _ (c .before .before .before .before .before .before .before .before .before .before .before .before .before .before .before .before .before .before .frame-of .ensures) _ _ _ _ _ (c .before .before .before .before .before .before .before .before .before .before .before .before .before .answer-line .ensures .0) (c .before .before .before .before .before .before .before .before .before .before .before .before .before .answer-line .ensures .1 .0) (c .before .before .before .before .before .before .before .before .before .before .before .before .before .answer-line .ensures .1 .1 .0) (c .before .before .before .before .before .before .before .before .before .before .before .before .before .answer-line .ensures .1 .1 .1 .0) (c .before .before .before .before .before .before .before .before .before .before .before .before .before .answer-line .ensures .1 .1 .1 .1 .0) _ (c .before .before .before .before .before .before .before .before .before .before .before .before .before .answer-line .ensures .1 .1 .1 .1 .1) _ (c .before .before .before .front .ensures) _ (c .before .before .event-of .ensures) _ (c .followed .ensures)
 
 pub played-spec : {M : Type 1} → statement M
-played-spec = tie.close (tie.spec frame-of-requires answer-line-requires front-requires event-of-requires followed-requires same-length same-length-2 same-length-3 returns)
+played-spec =
+    tie.close
+    (tie.spec
+    frame-of-requires
+    answer-line-requires
+    front-requires
+    event-of-requires
+    followed-requires
+    same-length
+    same-length-2
+    same-length-3
+    same-length-4
+    returns)

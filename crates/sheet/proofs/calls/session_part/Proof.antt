@@ -1,4 +1,6 @@
 -- `sheet::calls::session_part` meets its contract, branch by branch. Assumes nothing.
+use mathlib.Core.Path.{sym}
+use lib.Seq.{length-take-le}
 use Rattle.sheet.proofs.Steps.{session-shut, session-ended, session-open}
 use borrow.Author.Needs.{needs}
 use Rattle.sheet.proofs.calls.session_part.Statement.{statement}
@@ -13,8 +15,14 @@ returns c = session-shut (c .before .before .before .before .before .before .bef
 next-line-requires : tie.Need-next-line-requires
 next-line-requires c κs = search needs
 
-text-of-requires : tie.Need-text-of-requires
-text-of-requires c κs = search needs
+held-length-requires : tie.Need-held-length-requires
+held-length-requires c κs = search needs
+
+slice-relend-prefix-played : tie.Need-slice-relend-prefix-played
+slice-relend-prefix-played c = search needs
+
+slice-aggregate-played : tie.Need-slice-aggregate-played
+slice-aggregate-played c = sym (length-take-le _ _ (c .before .before .held-length .ensures .1))
 
 played-requires : tie.Need-played-requires
 played-requires c κs = search needs
@@ -32,7 +40,7 @@ same-length-4 : tie.Need-same-length-4
 same-length-4 c = search needs
 
 returns-2 : tie.Need-returns-2
-returns-2 c = session-ended (c .before .before .before .before .before .before .before .before .before .before .before .before .before .before .before .before .before .before .before .before .before .before .before .before .before .before .args .d) (c .before .before .before .before .before .before .before .before .before .before .before .before .before .before .before .before .before .before .before .before .before .before .before .before .before .before .args .area .now) (c .before .before .before .before .before .before .before .before .before .before .before .before .before .before .before .before .before .before .before .before .before .before .before .before .before .before .args .room .now) (c .before .before .before .before .before .before .before .before .before .before .before .before .before .before .before .before .before .before .before .before .before .before .before .before .before .before .args .words .now) (c .before .before .before .before .before .before .before .before .before .before .before .before .before .before .before .before .before .before .before .before .before .before .before .before .before .before .args .bytes .now) (c .before .before .before .before .before .before .before .before .before .before .before .before .before .before .before .before .before .before .before .before .before .before .before .before .before .before .args .at) (c .before .before .before .before .before .before .before .before .before .before .before .before .before .before .before .before .before .before .before .before .before .before .before .before .before .before .args .out .now) _ (c .before .before .before .before .before .before .before .before .before .before .before .before .before .before .before .before .before .before .before .before .asks-no-line .ensures) (c .before .before .before .before .before .before .before .before .before .before .before .before .before .before .before .before .before .before .before .if1 .left) (c .before .before .before .before .before .before .before .before .before .before .before .before .before .before .before .before .next-line .result) (c .before .before .before .before .before .before .before .before .before .before .before .before .before .before .before .before .next-line .ensures .0) _ (c .before .before .before .before .before .before .before .before .before .before .before .before .before .before .before .before .next-line .ensures .1) (c .before .before .before .before .before .before .before .before .before .before .before .before .if2 .taken) _ (c .before .before .before .before .before .before .before .before .before .before .text-of .ensures) _ _ _ _ (c .before .before .before .before .before .before .played .ensures)
+returns-2 c = session-ended (c .before .before .before .before .before .before .before .before .before .before .before .before .before .before .before .before .before .before .before .before .before .before .before .before .before .before .before .before .before .args .d) (c .before .before .before .before .before .before .before .before .before .before .before .before .before .before .before .before .before .before .before .before .before .before .before .before .before .before .before .before .before .args .area .now) (c .before .before .before .before .before .before .before .before .before .before .before .before .before .before .before .before .before .before .before .before .before .before .before .before .before .before .before .before .before .args .room .now) (c .before .before .before .before .before .before .before .before .before .before .before .before .before .before .before .before .before .before .before .before .before .before .before .before .before .before .before .before .before .args .words .now) (c .before .before .before .before .before .before .before .before .before .before .before .before .before .before .before .before .before .before .before .before .before .before .before .before .before .before .before .before .before .args .bytes .now) (c .before .before .before .before .before .before .before .before .before .before .before .before .before .before .before .before .before .before .before .before .before .before .before .before .before .before .before .before .before .args .at) (c .before .before .before .before .before .before .before .before .before .before .before .before .before .before .before .before .before .before .before .before .before .before .before .before .before .before .before .before .before .args .out .now) _ (c .before .before .before .before .before .before .before .before .before .before .before .before .before .before .before .before .before .before .before .before .before .before .before .asks-no-line .ensures) (c .before .before .before .before .before .before .before .before .before .before .before .before .before .before .before .before .before .before .before .before .before .before .if1 .left) (c .before .before .before .before .before .before .before .before .before .before .before .before .before .before .before .before .before .before .before .next-line .result) (c .before .before .before .before .before .before .before .before .before .before .before .before .before .before .before .before .before .before .before .next-line .ensures .0) _ (c .before .before .before .before .before .before .before .before .before .before .before .before .before .before .before .before .before .before .before .next-line .ensures .1) (c .before .before .before .before .before .before .before .before .before .before .before .before .before .before .before .if2 .taken) (c .before .before .before .before .before .before .before .before .before .before .before .before .before .held-length .result) (c .before .before .before .before .before .before .before .before .before .before .before .before .before .held-length .ensures .0) _ _ _ _ _ (c .before .before .before .before .before .before .before .before .played .ensures)
 
 with-session-requires : tie.Need-with-session-requires
 with-session-requires c κs = search needs
@@ -44,4 +52,21 @@ returns-3 : tie.Need-returns-3
 returns-3 c = session-open (c .before .before .before .before .before .before .before .before .before .before .before .before .before .before .before .args .d) (c .before .before .before .before .before .before .before .before .before .before .before .before .before .before .before .args .area .now) (c .before .before .before .before .before .before .before .before .before .before .before .before .before .before .before .args .room .now) (c .before .before .before .before .before .before .before .before .before .before .before .before .before .before .before .args .words .now) (c .before .before .before .before .before .before .before .before .before .before .before .before .before .before .before .args .bytes .now) (c .before .before .before .before .before .before .before .before .before .before .before .before .before .before .before .args .at) (c .before .before .before .before .before .before .before .before .before .before .before .before .before .before .before .args .out .now) _ (c .before .before .before .before .before .before .before .before .before .asks-no-line .ensures) (c .before .before .before .before .before .before .before .before .if1 .left) (c .before .before .before .before .before .next-line .result) (c .before .before .before .before .before .next-line .ensures .0) _ (c .before .before .before .before .before .next-line .ensures .1) (c .before .if2 .left) _ (c .with-session .ensures)
 
 pub session-part-spec : {M : Type 1} → statement M
-session-part-spec = tie.close (tie.spec asks-no-line-requires returns next-line-requires text-of-requires played-requires same-length same-length-2 same-length-3 same-length-4 returns-2 with-session-requires same-length-5 returns-3)
+session-part-spec =
+    tie.close
+    (tie.spec
+    asks-no-line-requires
+    returns
+    next-line-requires
+    held-length-requires
+    slice-relend-prefix-played
+    slice-aggregate-played
+    played-requires
+    same-length
+    same-length-2
+    same-length-3
+    same-length-4
+    returns-2
+    with-session-requires
+    same-length-5
+    returns-3)

@@ -5,7 +5,7 @@ use mathlib.Core.List.{_++_, map}
 use Prim.Native.Nat.{_≤_, _-_}
 use native.Mathlib.Omega.{arith}
 use lib.ListN.{length, take, drop, length-set}
-use Rattle.pack_start.proofs.Maps.{map-step, map-done}
+use Rattle.area.proofs.Maps.{map-step, map-done}
 use Rattle.sheet.specs.Rows.{mostListed, rowAfter}
 use borrow.Author.Needs.{needs}
 use Rattle.sheet.proofs.rows.rows_after.Statement.{statement}
