@@ -1,12 +1,15 @@
 -- A turn of the player's loop, by the group of the line's frame, comes to its definition, and what is left gives the part. Assumes nothing.
 use mathlib.Core.Path.{_≡_, refl, sym, ap, _∙_, subst}
-use mathlib.Core.Bool.{Bool, true, false, not}
+use mathlib.Core.Bool.{Bool, true, false, not, cond}
 use mathlib.Core.List.{List, _++_}
 use Prim.Native.Nat.{ℕ, _+_, _-_, _≤_, _<_}
 use native.Mathlib.Omega.{arith}
+use borrow.Author.Tests.{ltb-false}
+use lib.Dec.{ltb}
 use lib.ListN.{length, getD, set, take, drop, length-append, length-drop}
 use lib.Seq.{length-take-le}
 use Rattle.area.specs.Parts.{partOf, paste, pastedIn}
+use Rattle.area.proofs.Walks.{by-test}
 use Rattle.session_frame.specs.declared.Answer.{Answer}
 use Rattle.session_frame.specs.declared.Answer.the-variants as answer
 use Rattle.session_frame.specs.Answers.{answerText}
@@ -15,6 +18,7 @@ use Rattle.session_frame.specs.declared.Frame.{Frame}
 use Rattle.session_frame.specs.Frames.{frameOf}
 use Rattle.session_line.specs.declared.Line.{Line}
 use Rattle.session_line.specs.declared.Step.{Step}
+use Rattle.session_line.specs.Lines.{feedAt}
 use Rattle.session_line.specs.Machine.{noLine, stepOf, roomOf}
 use Rattle.channel.specs.declared.Channel.{Channel}
 use Rattle.file.specs.declared.File.{File}
@@ -36,6 +40,18 @@ use Rattle.session.specs.Player.{Player, playerWith, heldText, playPart}
 use Rattle.session.proofs.Written.{front-fits, pasted-length}
 use Rattle.session.proofs.Turning.{turn-open, turn-ended, Onward, onward}
 
+-- each turn goes on in the part
+pub step-on : (line : Line) (bytes : List ℕ) (at : ℕ) (room : List ℕ) (step : Step) → step ≡ stepOf line (drop at bytes) at room → at < length bytes
+    → length bytes - step .at < length bytes - at
+unfolding stepOf
+step-on line bytes at room step e h =
+    let place = ap (λ (z : Step). z .at) e in
+    by-test (λ b. ltb (feedAt (drop at bytes)) (length (drop at bytes)) ≡ b → step .at ≡ cond b (at + feedAt (drop at bytes) + 1) (at + feedAt (drop at bytes)) → length bytes - step .at < length bytes - at)
+    (ltb (feedAt (drop at bytes)) (length (drop at bytes)))
+    (λ q t z. omega (arith, z, h))
+    (λ q t z. omega (arith, z, h, ltb-false (feedAt (drop at bytes)) (length (drop at bytes)) t, length-drop at bytes))
+    refl place
+
 not-not : (b : Bool) → not (not b) ≡ b
 not-not true = refl
 not-not false = refl
@@ -48,7 +64,7 @@ module _ (unsound : Bool) (bytes : List ℕ) (x : Player) (s : State) (area : Li
   before = playerWith s area line room words at out end
 
   -- the line has not ended
-  pub onward-open : not (step .ended) ≡ true → Onward unsound bytes x before (playerWith s area (step .line) filled words (step .at) out end)
+  pub onward-open : not (step .ended) ≡ true → Onward unsound bytes x (playerWith s area (step .line) filled words (step .at) out end)
   onward-open e = onward unsound bytes x before left more space _ (turn-open unsound s area line room words bytes at out end step filled stepped made (sym (not-not (step .ended)) ∙ ap not e)) counts within roomy
 
   module _ (ended : not (step .ended) ≡ false) (f : Frame) (n : ℕ) (given : List ℕ)
@@ -64,7 +80,7 @@ module _ (unsound : Bool) (bytes : List ℕ) (x : Player) (s : State) (area : Li
         × (out' ≡ take end out ++ pastedIn 0 (answerText a (partOf start count after)) (drop end out))
 
     onward-by : (y : Turned) → y ≡ turnedOn unsound s area f (take n given) → (after : List ℕ) → after ≡ areaOn unsound s area f (take n given)
-        → (end' : ℕ) (out' : List ℕ) → Wrote (y .answer) (y .start) (y .count) after end' out' → Onward unsound bytes x before (then (y .state) after out' end')
+        → (end' : ℕ) (out' : List ℕ) → Wrote (y .answer) (y .start) (y .count) after end' out' → Onward unsound bytes x (then (y .state) after out' end')
     onward-by y ey after moved end' out' w =
         onward unsound bytes x before left more space (then (y .state) after out' end')
         (turn-ended unsound s area line room words bytes at out end step filled stepped made (sym (not-not (step .ended)) ∙ ap not ended) roomy space f n given framed counted gave none new y ey after moved end' out' (w .0 .0) (w .1))
@@ -86,7 +102,7 @@ module _ (unsound : Bool) (bytes : List ℕ) (x : Player) (s : State) (area : Li
         → (y : Change) (mask : ℕ) (after : List ℕ) → y ≡ requestAt unsound (s .m) (s .w) (s .frozen) f i old was area (take n given)
         → after ≡ requestArea unsound (s .m) (s .w) f (fileOr i old) (channelOr (channelFor f i old) was) area (take n given)
         → mask ≡ freeAfter (s .free) old (y .file) → (end' : ℕ) (out' : List ℕ) → Wrote (y .answer) (y .start) (y .count) after end' out'
-        → Onward unsound bytes x before
+        → Onward unsound bytes x
         (then (record { m = s .m; w = s .w; frozen = s .frozen; channels = set (s .channels) l (y .channel); files = set (s .files) k (y .file); free = mask }) after out' end')
     onward-request e i k d₁ old number place read l d₂ was place₂ read₂ y mask after ey em e₃ end' out' w =
         let h = as-request unsound s area f (take n given) g is e in
@@ -96,7 +112,7 @@ module _ (unsound : Bool) (bytes : List ℕ) (x : Player) (s : State) (area : Li
 
     module _ (n1 : g ≡ 1 → ⊥) where
       pub onward-whole : g ≡ 3 → (y : Called) → y ≡ wholeOf unsound s (length area) f → (a : Answer) → a ≡ answerOr (y .refusal) answer.Done
-          → (end' : ℕ) (out' : List ℕ) → Wrote a 0 0 area end' out' → Onward unsound bytes x before (then (y .state) area out' end')
+          → (end' : ℕ) (out' : List ℕ) → Wrote a 0 0 area end' out' → Onward unsound bytes x (then (y .state) area out' end')
       unfolding wholeTurn
       onward-whole e y ey a ea end' out' w =
           let h = as-whole unsound s area f (take n given) g is n1 e in
@@ -109,7 +125,7 @@ module _ (unsound : Bool) (bytes : List ℕ) (x : Player) (s : State) (area : Li
 
         pub onward-binding : g ≡ 2 → (l : ℕ) (d₂ was : Channel) → l ≡ placeOf (channelFor f i old) channelCount → was ≡ getD (s .channels) l d₂
             → (y : Told) (mask : ℕ) → y ≡ bindingAt unsound (s .w) (s .free) (s .files) f i old was → mask ≡ freeAfter (s .free) old (y .file)
-            → (end' : ℕ) (out' : List ℕ) → Wrote (y .answer) (y .start) (y .count) area end' out' → Onward unsound bytes x before (then (stored (y .file) mask) area out' end')
+            → (end' : ℕ) (out' : List ℕ) → Wrote (y .answer) (y .start) (y .count) area end' out' → Onward unsound bytes x (then (stored (y .file) mask) area out' end')
         onward-binding e l d₂ was place₂ read₂ y mask ey e₃ end' out' w =
             let h = as-binding unsound s area f (take n given) g is n1 n3 e in
             onward-by (turnedIs (y .answer) (y .start) (y .count) (stored (y .file) mask))
@@ -117,7 +133,7 @@ module _ (unsound : Bool) (bytes : List ℕ) (x : Player) (s : State) (area : Li
 
         pub onward-record : (g ≡ 2 → ⊥) → (y : Told) (mask : ℕ) (after : List ℕ) → y ≡ recordAt unsound (s .m) (s .w) f i old area (take n given)
             → after ≡ recordArea unsound (s .m) (s .w) f (fileOr i old) area (take n given) → mask ≡ freeAfter (s .free) old (y .file)
-            → (end' : ℕ) (out' : List ℕ) → Wrote (y .answer) (y .start) (y .count) after end' out' → Onward unsound bytes x before (then (stored (y .file) mask) after out' end')
+            → (end' : ℕ) (out' : List ℕ) → Wrote (y .answer) (y .start) (y .count) after end' out' → Onward unsound bytes x (then (stored (y .file) mask) after out' end')
         onward-record n2 y mask after ey em e₃ end' out' w =
             let h = as-record unsound s area f (take n given) g is n1 n3 n2 in
             onward-by (turnedIs (y .answer) (y .start) (y .count) (stored (y .file) mask))

@@ -1,5 +1,5 @@
 -- One line more, as the code goes, comes to its definition. Assumes nothing.
-use mathlib.Core.Path.{_≡_, refl, sym, ap, ap₂, _∙_, subst}
+use mathlib.Core.Path.{_≡_, refl, sym, ap, ap₂, _∙_}
 use mathlib.Core.Bool.{Bool, true, false, cond}
 use mathlib.Core.List.{List, _++_}
 use Prim.Native.Nat.{ℕ, zero, suc, _+_, _-_, _≤_, _<_}
@@ -131,12 +131,11 @@ module _ (unsound : Bool) (bytes : List ℕ) (p : Player) where
 
 -- ---- the loop: what is left gives the part
 
--- q comes after p: what is left then gives the same, it has its sixteen files and five channels, its rooms take what they should
-pub record Onward (unsound : Bool) (bytes : List ℕ) (x p q : Player) : Type 0 where
+-- q comes next: what is left then gives the same, it has its sixteen files and five channels, its rooms take what they should
+pub record Onward (unsound : Bool) (bytes : List ℕ) (x q : Player) : Type 0 where
   pub within : q .length ≤ length (q .out)
   pub roomy : mostWords ≤ length (q .words)
   pub same : playPart unsound bytes q ≡ x
-  pub further : p .at < q .at
   pub counts : Counts (q .state)
 
 module _ (unsound : Bool) (bytes : List ℕ) (x p : Player) (left : playPart unsound bytes p ≡ x) where
@@ -150,12 +149,11 @@ module _ (unsound : Bool) (bytes : List ℕ) (x p : Player) (left : playPart uns
   full-up h = stopped (or-second (leb (length bytes) (p .at)) _ (lt-ltb (length (p .out) - p .length) mostText h))
 
   pub onward : p .at < length bytes → mostText ≤ length (p .out) - p .length → (q : Player) → q ≡ turnOf unsound bytes p → Counts (q .state)
-      → q .length ≤ length (q .out) → mostWords ≤ length (q .words) → Onward unsound bytes x p q
+      → q .length ≤ length (q .out) → mostWords ≤ length (q .words) → Onward unsound bytes x q
   onward more space q e k h h₂ =
       let going : isDone bytes p ≡ false = or-neither _ _ (lt-leb (length bytes) (p .at) more) (le-ltb (length (p .out) - p .length) mostText space) in
       record {
         same = ap (playPart unsound bytes) e ∙ sym (part-goes unsound bytes p going) ∙ left;
-        further = subst (λ (n : ℕ). p .at < n) (ap (λ (z : Player). z .at) (sym e)) (turn-further unsound bytes p going);
         counts = k;
         within = h;
         roomy = h₂;

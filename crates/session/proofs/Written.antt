@@ -127,7 +127,7 @@ module _ (out t shown : List ℕ) (a : Answer) (end n : ℕ) (fit : end ≤ leng
       ap (λ (l : List ℕ). take end out ++ l)
       (ap (λ (l : List ℕ). sub ++ l) (drop-of-length-le (drop end out) none-left) ∙ append-nil sub ∙ e ∙ ap₂ (pastedIn 0) is rest)
 
--- ---- without the rooms nothing is done
+-- ---- with the rooms that it needs a line is answered
 
 -- the five parts of what is after a line, each by an equation
 unfoldable pub IsAfter : After → State → ℕ → List ℕ → List ℕ → List ℕ → Type 0
@@ -140,15 +140,7 @@ after-is x y e = (
   (ap (λ (z : After). z .length) e, (ap (λ (z : After). z .area) e, (ap (λ (z : After). z .words) e, ap (λ (z : After). z .out) e))),
 )
 
--- the same of another reply that is equal
-pub after-same : (x y : After) → x ≡ y → (s : State) (n : ℕ) (area words out : List ℕ) → IsAfter x s n area words out → IsAfter y s n area words out
-after-same x y e s n area words out h = subst (λ (z : After). IsAfter z s n area words out) e h
-
 module _ (r : Reply) (s : State) (area line words out : List ℕ) where
-  pub without-rooms : lacksRooms words out ≡ true → IsAfter (afterLine r s area line words out) s 0 area words out
-  unfolding afterLine
-  without-rooms e = after-is _ (record { state = s; length = 0; area = area; words = words; out = out }) (sym (cond-true _ _ e))
-
   pub with-rooms : lacksRooms words out ≡ false
       → IsAfter (afterLine r s area line words out) (r .state) (placeAfter 0 (textOf r) out) (r .area) (paste 0 (givenWords (frameOf line) line) words) (pastedIn 0 (textOf r) out)
   unfolding afterLine
