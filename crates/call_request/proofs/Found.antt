@@ -79,7 +79,7 @@ forbidden-number c u outcome = go (turnAt c u)
 pub record Seen (f : File) (c : Channel) (u outcome w : ℕ) (area words : List ℕ) (x : Work) (v : Verdict) (e : Effect) (fits clean room : Bool) (start count : ℕ) : Type 0 where
   pub work : x ≡ operationAt c u
   pub verdict : v ≡ judgeOf c u outcome
-  pub effect : e ≡ effectOf x v
+  pub effect : e ≡ effectOf (ltb 0 (length words)) x v
   pub given : fits ≡ allOf isWord words
   pub from : start ≡ shownStart e w f
   pub many : count ≡ shownCount e f
@@ -88,8 +88,8 @@ pub record Seen (f : File) (c : Channel) (u outcome w : ℕ) (area words : List 
 
 module _ (wrong frozen : Bool) {f : File} {c : Channel} {u outcome w : ℕ} {area words : List ℕ} {x : Work} {v : Verdict} {e : Effect} {fits clean room : Bool}
     {start count : ℕ} (S : Seen f c u outcome w area words x v e fits clean room start count) where
-  same : e ≡ effectAt c u outcome
-  same = S .effect ∙ ap (λ (y : Work). effectOf y v) (S .work) ∙ ap (effectOf (operationAt c u)) (S .verdict)
+  same : e ≡ effectAt c u outcome (length words)
+  same = S .effect ∙ ap (λ (y : Work). effectOf (ltb 0 (length words)) y v) (S .work) ∙ ap (effectOf (ltb 0 (length words)) (operationAt c u)) (S .verdict)
 
   pub refusal-found : lowest (rowsBy wrong u outcome x v e fits clean room (length words)) ≡ reportRefusal wrong f c u outcome w area words
   unfolding reportRefusal
@@ -103,13 +103,13 @@ module _ (wrong frozen : Bool) {f : File} {c : Channel} {u outcome w : ℕ} {are
       let b = lowest-none 2 _ _ (λ q. omega arith) (a .1) in
       let g = lowest-none 11 _ _ (λ q. omega arith) (b .1) in
       let h = lowest-none 12 _ _ (λ q. omega arith) (g .1) in
-      let k = lowest-none 13 (isDelivery e && not room) _ (λ q. omega arith) (h .1) in
-      sym (S .space) ∙ so room (isDelivery e) brings (k .0)
+      let k = lowest-none 13 ((isDelivery e || ltb 0 (length words)) && not room) _ (λ q. omega arith) (h .1) in
+      sym (S .space) ∙ so room (isDelivery e) (ltb 0 (length words)) brings (k .0)
     where
-      so : (r b : Bool) → b ≡ true → (b && not r) ≡ false → r ≡ true
-      so true b t q = refl
-      so false true t q = true-not-false refl q
-      so false false t q = true-not-false t refl
+      so : (r b w : Bool) → b ≡ true → ((b || w) && not r) ≡ false → r ≡ true
+      so true b w t q = refl
+      so false true w t q = true-not-false refl q
+      so false false w t q = true-not-false t refl
 
   module _ (no : ℕ) (found : no ≡ reportRefusal wrong f c u outcome w area words) where
     pub report-refused : (no ≡ 0 → ⊥) → (refusedReport no f c ≡ reportOn wrong f c u outcome w frozen area words) × (area ≡ reportOnArea wrong f c u outcome w area words)

@@ -13,7 +13,7 @@ use Rattle.channel.specs.declared.Work.{Work}
 use Rattle.channel.specs.declared.Work.the-variants as work
 use Rattle.channel.specs.declared.Channel.{Channel}
 use Rattle.channel_outcomes.specs.declared.Verdict.{Verdict}
-use Rattle.channel_outcomes.specs.Rules.{outcomeCount, isAllowed, resultNumber, refusalNumber}
+use Rattle.channel_outcomes.specs.Rules.{outcomeCount, incompleteWord, isAllowed, resultNumber, refusalNumber}
 use Rattle.channel.specs.Units.{unitCount, operationAt}
 use Rattle.channel_turns.specs.Scans.{workingIn, unitNumber}
 use Rattle.channel_turns.specs.Turns.{judgeOf, bookOf}
@@ -34,9 +34,9 @@ use Rattle.call_request.specs.Effects.{effectOf, isDelivery}
 
 -- ---- what is reported of unit u of the channel c, with an outcome
 
--- what the report comes to, and what that means for the file
-abbrev pub effectAt : Channel → ℕ → ℕ → Effect
-effectAt c u outcome = effectOf (operationAt c u) (judgeOf c u outcome)
+-- what the report, which gives n words, comes to, and what that means for the file
+abbrev pub effectAt : Channel → ℕ → ℕ → ℕ → Effect
+effectAt c u outcome n = effectOf (ltb 0 n) (operationAt c u) (judgeOf c u outcome)
 
 -- "11 | report: the channel is not working for that unit"
 abbrev pub isIdleFor : Work → Bool
@@ -58,14 +58,14 @@ isForbidden work.Nothing outcome = false
 -- the block that a report hands out lies in the area from `shownStart` on and has `shownCount` words, check word last; there is none
 -- unless a write has ended well or at the end of medium
 abbrev pub shownStart : Effect → ℕ → File → ℕ
-shownStart Delivers w f = 0
+shownStart (Delivers failed) w f = 0
 shownStart MeetsMark w f = 0
 shownStart GivesBack w f = 0
 shownStart Sends w f = sendStart w f
 shownStart Keeps w f = 0
 
 abbrev pub shownCount : Effect → File → ℕ
-shownCount Delivers f = 0
+shownCount (Delivers failed) f = 0
 shownCount MeetsMark f = 0
 shownCount GivesBack f = 0
 shownCount Sends f = sendWords f
@@ -78,25 +78,26 @@ shownBlock x w f area = partOf (shownStart x w f) (shownCount x f) area
 
 abbrev pub reportRows : Bool → File → Channel → ℕ → ℕ → ℕ → List ℕ → List ℕ → Rows
 reportRows wrong f c u outcome w area words =
-    -- "an argument is outside its range"; "Words given with an outcome other than 0, or to a write or mark, are refused 1"
-    (1, wrong || ((leb unitCount u || leb outcomeCount outcome) || (ltb 0 (length words) && (ltb 0 outcome || takesNoWords (operationAt c u))))) ∷
+    -- "an argument is outside its range"; "Words given with an outcome other than 0, or to a write or mark, are refused 1", and document 02, M-101:
+    -- "reports of read redundancy or incomplete word may carry words", "refusal 1 for words there goes"
+    (1, wrong || ((leb unitCount u || leb outcomeCount outcome) || (ltb 0 (length words) && (ltb incompleteWord outcome || takesNoWords (operationAt c u))))) ∷
     -- "a given word, or a buffer word that the call .. hands out, is 2^36 or more"
-    (2, not (allOf isWord words) || not (allOf isWord (shownBlock (effectAt c u outcome) w f area))) ∷
+    (2, not (allOf isWord words) || not (allOf isWord (shownBlock (effectAt c u outcome (length words)) w f area))) ∷
     (11, isIdleFor (operationAt c u)) ∷
     (12, isForbidden (operationAt c u) outcome) ∷
-    -- "A delivered block has 1 + e to B + e words, else 13."
-    (13, isDelivery (effectAt c u outcome) && not (blockFits f (length words))) ∷
+    -- "A delivered block has 1 + e to B + e words, else 13."; "sized as good blocks", though the attempt be repeated (M-101)
+    (13, (isDelivery (effectAt c u outcome (length words)) || ltb 0 (length words)) && not (blockFits f (length words))) ∷
     []
 
 -- the same rows by what the code has found: what is worked for, what the report comes to and means, whether the words given and those handed
 -- out are below 2^36, and whether n words are as many as a delivered block may have
 abbrev pub rowsBy : Bool → ℕ → ℕ → Work → Verdict → Effect → Bool → Bool → Bool → ℕ → Rows
 rowsBy wrong u outcome x v e fits clean room n =
-    (1, wrong || ((leb unitCount u || leb outcomeCount outcome) || (ltb 0 n && (ltb 0 outcome || takesNoWords x)))) ∷
+    (1, wrong || ((leb unitCount u || leb outcomeCount outcome) || (ltb 0 n && (ltb incompleteWord outcome || takesNoWords x)))) ∷
     (2, not fits || not clean) ∷
     (11, eqb (refusalNumber v) 11) ∷
     (12, eqb (refusalNumber v) 12) ∷
-    (13, isDelivery e && not room) ∷
+    (13, (isDelivery e || ltb 0 n) && not room) ∷
     []
 
 unfoldable pub reportRefusal : Bool → File → Channel → ℕ → ℕ → ℕ → List ℕ → List ℕ → ℕ
@@ -117,9 +118,9 @@ abbrev pub toldBy : Delivery → Checked
 toldBy (With found) = found
 toldBy Without = unchecked
 
--- the file: the taken buffer is full with the data words and what was found, or is empty again; the block that was sent is gone
+-- the file: the taken buffer is full with the data words, how they were read and what was found, or is empty again; the block that was sent is gone
 unfoldable pub reportedFile : Effect → File → ℕ → Checked → File
-reportedFile Delivers f n found = delivered f (n - extra (f .sequence) (f .check)) found
+reportedFile (Delivers failed) f n found = delivered f (n - extra (f .sequence) (f .check)) (record { failed = failed; check = found })
 reportedFile MeetsMark f n found = metMark f
 reportedFile GivesBack f n found = gaveBack f
 reportedFile Sends f n found = afterWrite true f
@@ -137,7 +138,7 @@ refusedReport refusal f c = record { refusal = refusal; result = 0; delivery = W
 unfoldable pub reportOn : Bool → File → Channel → ℕ → ℕ → ℕ → Bool → List ℕ → List ℕ → ReportChange
 reportOn wrong f c u outcome w frozen area words =
     let refusal = reportRefusal wrong f c u outcome w area words in
-    let x = effectAt c u outcome in
+    let x = effectAt c u outcome (length words) in
     let after = bookOf c u (judgeOf c u outcome) frozen in
     cond (eqb refusal 0)
     (record {
@@ -155,4 +156,4 @@ reportOn wrong f c u outcome w frozen area words =
 -- the area afterwards: "A refusal .. changes nothing."
 unfoldable pub reportOnArea : Bool → File → Channel → ℕ → ℕ → ℕ → List ℕ → List ℕ → List ℕ
 reportOnArea wrong f c u outcome w area words =
-    cond (eqb (reportRefusal wrong f c u outcome w area words) 0) (reportedArea (effectAt c u outcome) f w words area) area
+    cond (eqb (reportRefusal wrong f c u outcome w area words) 0) (reportedArea (effectAt c u outcome (length words)) f w words area) area

@@ -4,6 +4,7 @@ use crate::Effect;
 use crate::effects::is_delivery;
 use area::are_words;
 use area::copy_in;
+use file::Arrival;
 use file::File;
 use file_input::delivered;
 use file_input::gave_back;
@@ -67,7 +68,7 @@ pub fn shown_start(x: Effect, w: u16, f: File) -> usize
     ensures { λ r. ⌜ (r ≡ shownStart x w f) × (r < 16777216) ⌝ }
 {
     match x {
-        Effect::Delivers => 0,
+        Effect::Delivers(_) => 0,
         Effect::MeetsMark => 0,
         Effect::GivesBack => 0,
         Effect::Sends => send_start(f, w),
@@ -80,7 +81,7 @@ pub fn shown_count(x: Effect, f: File) -> usize
     ensures { λ r. ⌜ (r ≡ shownCount x f) × (r < 65537) ⌝ }
 {
     match x {
-        Effect::Delivers => 0,
+        Effect::Delivers(_) => 0,
         Effect::MeetsMark => 0,
         Effect::GivesBack => 0,
         Effect::Sends => send_words(f),
@@ -88,13 +89,17 @@ pub fn shown_count(x: Effect, f: File) -> usize
     }
 }
 
-// The file with a delivered block of n words, its check word among them.
-fn with_delivery(f: File, n: usize, found: Checked) -> File
+// The file with a delivered block of n words, its check word among them, by the error of the read.
+fn with_delivery(f: File, n: usize, failed: u8, found: Checked) -> File
     requires { ⌜ blockFits f n ≡ true ⌝ }
-    ensures { λ r. ⌜ r ≡ reportedFile Effect.Delivers f n found ⌝ }
+    ensures { λ r. ⌜ r ≡ reportedFile (Effect.Delivers failed) f n found ⌝ }
 {
     let e = extra(f.sequence, f.check) as usize;
-    delivered(f, (n - e) as u16, found)
+    let arrival = Arrival {
+        failed,
+        check: found,
+    };
+    delivered(f, (n - e) as u16, arrival)
 }
 
 // The file after the report, which gave n words.
@@ -103,7 +108,7 @@ pub fn reported_file(x: Effect, f: File, n: usize, found: Checked) -> File
     ensures { λ r. ⌜ r ≡ reportedFile x f n found ⌝ }
 {
     match x {
-        Effect::Delivers => with_delivery(f, n, found),
+        Effect::Delivers(failed) => with_delivery(f, n, failed, found),
         Effect::MeetsMark => met_mark(f),
         Effect::GivesBack => gave_back(f),
         Effect::Sends => after_write(f, true),

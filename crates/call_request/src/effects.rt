@@ -4,21 +4,33 @@ use channel::Op;
 use channel::Work;
 use channel_outcomes::Ending;
 use channel_outcomes::Verdict;
+use file::INCOMPLETE_ERROR;
+use file::REDUNDANCY_ERROR;
 ghost use mathlib.Core.Path.{_≡_};
-ghost use Rattle.call_request.specs.Effects.{readEffect, writeEffect, opEffect, workEffect, effectOf, isDelivery};
+ghost use Rattle.call_request.specs.Effects.{keptIf, readEffect, writeEffect, opEffect, workEffect, effectOf, isDelivery};
 ghost use Rattle.call_request.specs.Report.{takesNoWords};
 
-// The end of a read.
-fn read_effect(e: Ending) -> Effect
-    ensures { λ r. ⌜ r ≡ readEffect e ⌝ }
+// A read that ends with this permanent error keeps the block if the report carries words.
+fn kept_if(some: bool, error: u8) -> Effect
+    ensures { λ r. ⌜ r ≡ keptIf some error ⌝ }
+{
+    if some {
+        return Effect::Delivers(error);
+    }
+    Effect::GivesBack
+}
+
+// The end of a read, by whether the report carries words.
+fn read_effect(some: bool, e: Ending) -> Effect
+    ensures { λ r. ⌜ r ≡ readEffect some e ⌝ }
 {
     match e {
-        Ending::Good => Effect::Delivers,
-        Ending::Opposite => Effect::Delivers,
+        Ending::Good => Effect::Delivers(0),
+        Ending::Opposite => Effect::Delivers(0),
         Ending::MarkRead => Effect::MeetsMark,
         Ending::MediumEnd => Effect::GivesBack,
-        Ending::LostRedundancy => Effect::GivesBack,
-        Ending::LostIncomplete => Effect::GivesBack,
+        Ending::LostRedundancy => kept_if(some, REDUNDANCY_ERROR),
+        Ending::LostIncomplete => kept_if(some, INCOMPLETE_ERROR),
     }
 }
 
@@ -36,33 +48,33 @@ fn write_effect(e: Ending) -> Effect
     }
 }
 
-fn op_effect(op: Op, e: Ending) -> Effect
-    ensures { λ r. ⌜ r ≡ opEffect op e ⌝ }
+fn op_effect(some: bool, op: Op, e: Ending) -> Effect
+    ensures { λ r. ⌜ r ≡ opEffect some op e ⌝ }
 {
     match op {
-        Op::Read => read_effect(e),
+        Op::Read => read_effect(some, e),
         Op::Write => write_effect(e),
         Op::Mark => Effect::Keeps,
     }
 }
 
-fn work_effect(x: Work, e: Ending) -> Effect
-    ensures { λ r. ⌜ r ≡ workEffect x e ⌝ }
+fn work_effect(some: bool, x: Work, e: Ending) -> Effect
+    ensures { λ r. ⌜ r ≡ workEffect some x e ⌝ }
 {
     match x {
-        Work::At(op) => op_effect(op, e),
+        Work::At(op) => op_effect(some, op, e),
         Work::Nothing => Effect::Keeps,
     }
 }
 
-// What a report of the operation that is worked for means, by what it came to.
-pub fn effect_of(x: Work, v: Verdict) -> Effect
-    ensures { λ r. ⌜ r ≡ effectOf x v ⌝ }
+// What a report of the operation that is worked for means, by whether it carries words and what it came to.
+pub fn effect_of(some: bool, x: Work, v: Verdict) -> Effect
+    ensures { λ r. ⌜ r ≡ effectOf some x v ⌝ }
 {
     match v {
         Verdict::Refused(_) => Effect::Keeps,
         Verdict::Repeats(_) => Effect::Keeps,
-        Verdict::Ends(e) => work_effect(x, e),
+        Verdict::Ends(e) => work_effect(some, x, e),
     }
 }
 
@@ -70,7 +82,7 @@ pub fn is_delivery(x: Effect) -> bool
     ensures { λ r. ⌜ r ≡ isDelivery x ⌝ }
 {
     match x {
-        Effect::Delivers => true,
+        Effect::Delivers(_) => true,
         Effect::MeetsMark => false,
         Effect::GivesBack => false,
         Effect::Sends => false,

@@ -19,10 +19,10 @@ pub struct AskChange {
     pub channel: Channel,
 }
 
-// What a report that is booked means for the file of its unit: the taken buffer is full, is empty and a file mark was met, or is empty
-// again; the block that a write sent is gone; or the file is as it was.
+// What a report that is booked means for the file of its unit: the taken buffer is full, with the error of the read, 0 for none; it is empty
+// and a file mark was met, or is empty again; the block that a write sent is gone; or the file is as it was.
 pub enum Effect {
-    Delivers,
+    Delivers(u8),
     MeetsMark,
     GivesBack,
     Sends,

@@ -30,6 +30,9 @@ ghost use mathlib.Core.Path.{_≡_};
 ghost use Rattle.area.specs.Refusals.{lowest};
 ghost use Rattle.call_request.specs.Report.{rowsBy, refusedReport, reportOn, reportOnArea};
 
+// The outcomes up to this one, good, redundancy and incomplete word, may carry words.
+const LAST_WITH_WORDS: u8 = 2;
+
 // The refusal of a report, 0 for none: by what the channel makes of it, whether the words given and those handed out are below 2^36, and
 // whether n words are as many as a delivered block may have.
 fn report_refusal(
@@ -49,12 +52,13 @@ fn report_refusal(
     let silent = takes_no_words(x);
     let number = refusal_number(v);
     let brings = is_delivery(e);
-    let given = (0 < n) & ((0 < outcome) | silent);
+    let some = 0 < n;
+    let given = some & ((LAST_WITH_WORDS < outcome) | silent);
     let c1 = wrong | (((UNITS <= unit as usize) | (OUTCOMES <= outcome)) | given);
     let c2 = !fits | !clean;
     let c11 = number == 11;
     let c12 = number == 12;
-    let c13 = brings & !room;
+    let c13 = (brings | some) & !room;
     row(
         1,
         c1,
@@ -81,7 +85,7 @@ pub fn report_on(
     let n = words.len();
     let v = judge(c, u, outcome);
     let x = operation_of(c, u);
-    let e = effect_of(x, v);
+    let e = effect_of(0 < n, x, v);
     let looked = look(e, f, words);
     let start = shown_start(e, w, f);
     let count = shown_count(e, f);

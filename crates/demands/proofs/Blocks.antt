@@ -1,5 +1,5 @@
 -- Demand 2 on blocks and records, from what the ledgers keep. Assumes nothing.
-use mathlib.Core.Path.{_≡_, sym, ap, _∙_}
+use mathlib.Core.Path.{_≡_, sym, ap, subst, _∙_}
 use mathlib.Core.Logic.{_≢_}
 use mathlib.Core.Bool.{true, false}
 use mathlib.Core.List.{List, []}
@@ -14,12 +14,17 @@ use Rattle.state.specs.Places.{fileAt}
 use Rattle.pack_request.specs.Calls.{fileOf}
 use Rattle.pack_request.proofs.ReportTheorems.{report-books-own}
 use Rattle.pack.specs.Calls.{close, report, answerOf}
+use Rattle.pack.specs.Books.{toldResult}
 use Rattle.demands_ledger.specs.Ledgers.{Ledger, toldDelivery}
 use Rattle.demands_ledger.specs.Blocks.{joined}
 use Rattle.demands_ledger.proofs.Frames.{Kept}
 use Rattle.demands_ledger.proofs.Shown.{wrote-checks, wrote-words, numbers}
 use Rattle.demands_ledger.proofs.Closed.{sent-all, close-unsent}
-use Rattle.demands_ledger.proofs.Reported.{report-judged}
+use Rattle.demands_ledger.proofs.Reported.{ready, report-brings, report-judged}
+use Rattle.call_request.specs.Report.{toldBy}
+use Rattle.call_request.proofs.Found.{fits-bounds}
+use Rattle.demands.specs.Records.{Finds}
+use Rattle.demands.proofs.Finding.{judged-finds}
 use Rattle.demands.specs.Demands.{dataIn, Writes, Reads}
 
 module _ (s : State) (area : List ℕ) (ledgers : ℕ → Ledger) (K : Kept s area ledgers) where
@@ -42,13 +47,32 @@ module _ (s : State) (area : List ℕ) (ledgers : ℕ → Ledger) (K : Kept s ar
     ledger-reads u = let T = K .told i .brought o u in record { items = T .items; lies = T .lies }
 
   pub ledger-judged : (i channel unit outcome : ℕ) (words : List ℕ) → serves channel unit (fileAt s i) ≡ true → words ≢ []
+      → toldResult (answerOf s area (report channel unit outcome words) .added) ≢ 0
       → answerOf s area (report channel unit outcome words) .refusal ≡ 0
       → toldDelivery (answerOf s area (report channel unit outcome words) .added)
       ≡ With (judgedBlock words (fileAt s i .sequence) (fileAt s i .check) ((1 + length (ledgers i .came)) % blockNumbers) .found)
   unfolding answerOf
-  ledger-judged i channel unit outcome words on some z =
+  ledger-judged i channel unit outcome words on some ended z =
       let j = fileOf s channel unit in
-      report-judged s area ledgers K channel unit outcome words z some
+      report-judged s area ledgers K channel unit outcome words z some ended
       ∙ ap (λ (n : ℕ). With (judgedBlock words (fileAt s j .sequence) (fileAt s j .check) n .found)) (numbers (ledgers j .came))
       ∙ ap (λ (k : ℕ). With (judgedBlock words (fileAt s k .sequence) (fileAt s k .check) ((1 + length (ledgers k .came)) % blockNumbers) .found))
       (sym (report-books-own s area channel unit outcome words (K .good .sixteen) z .only i on))
+
+  -- the same said of the words alone
+  pub ledger-found : (i channel unit outcome : ℕ) (words : List ℕ) → serves channel unit (fileAt s i) ≡ true → words ≢ []
+      → toldResult (answerOf s area (report channel unit outcome words) .added) ≢ 0
+      → answerOf s area (report channel unit outcome words) .refusal ≡ 0
+      → Finds (fileAt s i .sequence) (fileAt s i .check) (length (ledgers i .came)) words
+      (toldBy (toldDelivery (answerOf s area (report channel unit outcome words) .added)))
+  unfolding answerOf
+  ledger-found i channel unit outcome words on some ended z =
+      let j = fileOf s channel unit in
+      let B = report-books-own s area channel unit outcome words (K .good .sixteen) z in
+      let R = ready s area ledgers K channel unit outcome words z in
+      let brings = report-brings s area ledgers K channel unit outcome words z some ended in
+      subst (λ (k : ℕ). Finds (fileAt s k .sequence) (fileAt s k .check) (length (ledgers k .came)) words
+      (toldBy (toldDelivery (answerOf s area (report channel unit outcome words) .added)))) (sym (B .only i on))
+      (subst (Finds (fileAt s j .sequence) (fileAt s j .check) (length (ledgers j .came)) words)
+      (sym (ap toldBy (ledger-judged j channel unit outcome words (B .bound) some ended z)))
+      (judged-finds words (fileAt s j .sequence) (fileAt s j .check) (length (ledgers j .came)) (R .given) (fits-bounds (fileAt s j) (length words) (R .fits brings) .0)))

@@ -8,6 +8,7 @@ use Prim.Native.Nat.{ℕ, _+_, _%_, _<_}
 use lib.ListN.{length}
 use Rattle.word.specs.CheckWords.{checkWord, IsCheckWord, blockNumbers}
 use Rattle.block.specs.Blocks.{judgedBlock}
+use Rattle.call_request.specs.Report.{toldBy}
 use Rattle.word.proofs.Laws.CheckWord.{check-word-is, check-word-only}
 use Rattle.call_request.specs.declared.Delivery.the-variants.{With}
 use Rattle.file.specs.declared.File.{File}
@@ -36,11 +37,11 @@ use Rattle.demands.specs.Marks.{Marks}
 use Rattle.demands.specs.Turns.{worksFor, isPending, Turns, Continues, toldWorking, Tells}
 use Rattle.demands_ledger.proofs.Asks.{Asked, always-asked, started-asked}
 use Rattle.demands.specs.Demands.{Refuses, Holds, Frees, Takes, Books, dataIn, Writes, Reads, Answers, AnswersUrgent}
-use Rattle.demands.specs.Records.{Gives, Drops}
+use Rattle.demands.specs.Records.{Finds, Gives, Drops}
 use Rattle.demands.specs.Written.{Cuts, Due, HandsOut}
 use Rattle.demands.proofs.Refusals.{refuses}
 use Rattle.demands.proofs.Buffers.{good-holds, closed-frees, opened-takes, reported-books}
-use Rattle.demands.proofs.Blocks.{ledger-writes, ledger-closed, ledger-reads, ledger-judged}
+use Rattle.demands.proofs.Blocks.{ledger-writes, ledger-closed, ledger-reads, ledger-judged, ledger-found}
 use Rattle.demands.proofs.Results.{reported-results, refused-forbids}
 use Rattle.demands.proofs.Marks.{asked-marks}
 use Rattle.demands.proofs.Turns.{call-turns, report-continues, ask-tells, report-tells, ask-single, report-idle, ask-holding}
@@ -227,12 +228,22 @@ module _ (s₀ : State) (area₀ : List ℕ) (m w : ℕ) (masks : Masks) (starte
       → Reads (stateAfter start area₀ calls .w) (fileThen calls i) (areaAfter start area₀ calls) (account calls i)
   demand2-reads calls i = ledger-reads (stateAfter start area₀ calls) (areaAfter start area₀ calls) (account calls) (kept calls) i
 
-  -- the report of a delivered block, for the file i on its unit, answers that judgement and all that was found, with the number after those of the blocks before it
+  -- the report of a delivered block, for the file i on its unit, answers that judgement and all that was found, with the number after those of the blocks
+  -- before it; words are a delivered block if the report answers its request, by a permanent error too (document 02, M-101)
   pub demand2-judged : (calls : List Call) (i channel unit outcome : ℕ) (words : List ℕ) → serves channel unit (fileThen calls i) ≡ true → words ≢ []
+      → toldResult (answerOf (stateAfter start area₀ calls) (areaAfter start area₀ calls) (report channel unit outcome words) .added) ≢ 0
       → answerOf (stateAfter start area₀ calls) (areaAfter start area₀ calls) (report channel unit outcome words) .refusal ≡ 0
       → toldDelivery (answerOf (stateAfter start area₀ calls) (areaAfter start area₀ calls) (report channel unit outcome words) .added)
       ≡ With (judgedBlock words (fileThen calls i .sequence) (fileThen calls i .check) ((1 + length (account calls i .came)) % blockNumbers) .found)
   demand2-judged calls = ledger-judged (stateAfter start area₀ calls) (areaAfter start area₀ calls) (account calls) (kept calls)
+
+  -- and that answer, said of the delivered words alone: the sum, the number, the fields read and the error
+  pub demand2-found : (calls : List Call) (i channel unit outcome : ℕ) (words : List ℕ) → serves channel unit (fileThen calls i) ≡ true → words ≢ []
+      → toldResult (answerOf (stateAfter start area₀ calls) (areaAfter start area₀ calls) (report channel unit outcome words) .added) ≢ 0
+      → answerOf (stateAfter start area₀ calls) (areaAfter start area₀ calls) (report channel unit outcome words) .refusal ≡ 0
+      → Finds (fileThen calls i .sequence) (fileThen calls i .check) (length (account calls i .came)) words
+      (toldBy (toldDelivery (answerOf (stateAfter start area₀ calls) (areaAfter start area₀ calls) (report channel unit outcome words) .added)))
+  demand2-found calls = ledger-found (stateAfter start area₀ calls) (areaAfter start area₀ calls) (account calls) (kept calls)
 
   -- records follow document 01: what an accepted get answers,
   pub demand2-got : (calls : List Call) (i : ℕ) → answerOf (stateAfter start area₀ calls) (areaAfter start area₀ calls) (get i) .refusal ≡ 0

@@ -1,6 +1,7 @@
 pub mod Refusals
 pub mod Buffers
 pub mod Answering
+pub mod Finding
 pub mod Blocks
 pub mod Rows
 pub mod Results

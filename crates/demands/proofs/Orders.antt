@@ -209,7 +209,7 @@ reportAct wrong file f channel c u outcome w frozen area words =
       channel = channel;
       newFile = x .file;
       newChannel = x .channel;
-      delivers = isDelivery (effectAt c u outcome);
+      delivers = isDelivery (effectAt c u outcome (length words));
       at = startAt f w (takenSide f);
       words = words;
     }
@@ -238,7 +238,7 @@ cond-same false x = refl
 area-is : (wrong : Bool) (f : File) (c : Channel) (u outcome w : ℕ) (frozen : Bool) (area words : List ℕ)
     → reportOnArea wrong f c u outcome w area words
     ≡ cond (eqb (reportOn wrong f c u outcome w frozen area words .refusal) 0)
-    (cond (isDelivery (effectAt c u outcome)) (pastedIn (startAt f w (takenSide f)) words area) area) area
+    (cond (isDelivery (effectAt c u outcome (length words))) (pastedIn (startAt f w (takenSide f)) words area) area) area
 unfolding reportOn reportOnArea reportedArea
 area-is wrong f c u outcome w frozen area words = go (ℕ-discrete (reportRefusal wrong f c u outcome w area words) 0)
   where
@@ -248,7 +248,7 @@ area-is wrong f c u outcome w frozen area words = go (ℕ-discrete (reportRefusa
     go : Dec (n ≡ 0)
         → reportOnArea wrong f c u outcome w area words
         ≡ cond (eqb (reportOn wrong f c u outcome w frozen area words .refusal) 0)
-        (cond (isDelivery (effectAt c u outcome)) (pastedIn (startAt f w (takenSide f)) words area) area) area
+        (cond (isDelivery (effectAt c u outcome (length words))) (pastedIn (startAt f w (takenSide f)) words area) area) area
     go (yes e) = rw (eq-eqb (reportRefusal wrong f c u outcome w area words) 0 e)
     go (no e) =
         rw (ne-eqb (reportRefusal wrong f c u outcome w area words) 0 e)
@@ -286,7 +286,7 @@ asked-channel op f = go (eqb op 0)
 
 reported-channel : (x : Effect) (f : File) (n : ℕ) (found : Checked) → reportedFile x f n found .channel ≡ f .channel
 unfolding reportedFile afterWrite
-reported-channel Delivers f n found = event-alike f (deliver (n - extra (f .sequence) (f .check)) found) .channel
+reported-channel (Delivers failed) f n found = event-alike f (deliver (n - extra (f .sequence) (f .check)) (record { failed = failed; check = found })) .channel
 reported-channel MeetsMark f n found = event-alike f mark .channel
 reported-channel GivesBack f n found = event-alike f giveBack .channel
 reported-channel Sends f n found = event-alike f send .channel
@@ -319,7 +319,7 @@ module _ (s : State) (area : List ℕ) (g : Good s) where
     unfolding answerOf
     served = report-books-own s area channel unit outcome words (g .sixteen) z .bound
 
-    effect-lies : (b : Bool) → isDelivery (effectAt (channelAt s channel) unit outcome) ≡ b → Lies s i area (answerOf s area x .area)
+    effect-lies : (b : Bool) → isDelivery (effectAt (channelAt s channel) unit outcome (length words)) ≡ b → Lies s i area (answerOf s area x .area)
     unfolding answerOf reportRefusal reportAct
     effect-lies true d =
         let D = report-delivers s area channel unit outcome words (g .sixteen) (sym (report-exactly s area channel unit outcome words .number) ∙ z) d in
@@ -342,10 +342,10 @@ module _ (s : State) (area : List ℕ) (g : Good s) where
       frame = report-frame s area channel unit outcome words;
       same =
           ap (λ (k : File). k .channel) (report-file s area channel unit outcome words (g .sixteen) z)
-          ∙ reported-channel (effectAt (channelAt s channel) unit outcome) f (length words) _
+          ∙ reported-channel (effectAt (channelAt s channel) unit outcome (length words)) f (length words) _
           ∙ eqb-true (f .channel) channel (and-left (eqb (f .channel) channel) _ (and-right (f .opened) _ served));
       good = call-kept s area g x;
-      lies = effect-lies (isDelivery (effectAt (channelAt s channel) unit outcome)) refl;
+      lies = effect-lies (isDelivery (effectAt (channelAt s channel) unit outcome (length words))) refl;
     }
 
   did : (x : Call) → Requests x → answerOf s area x .refusal ≡ 0
@@ -365,7 +365,7 @@ first-same next test other (suc n) u e =
 
 -- a report goes by the area only where it shows a block
 shown-alike : (wrong : Bool) (k : ℕ) (f : File) (n : ℕ) (c : Channel) (u outcome w : ℕ) (frozen : Bool) (xs zs words : List ℕ)
-    → shownBlock (effectAt c u outcome) w f zs ≡ shownBlock (effectAt c u outcome) w f xs
+    → shownBlock (effectAt c u outcome (length words)) w f zs ≡ shownBlock (effectAt c u outcome (length words)) w f xs
     → reportAct wrong k f n c u outcome w frozen zs words ≡ reportAct wrong k f n c u outcome w frozen xs words
 unfolding reportAct reportOn reportRefusal
 shown-alike wrong k f n c u outcome w frozen xs zs words e = rw e
@@ -471,16 +471,16 @@ module _ (s : State) (area : List ℕ) (g : Good s) (i c : ℕ) (t : State) (zs 
             buffer ys kept = refl
             buffer ys (written b _ h O) = others-same s g i b h area ys O (fileOf s n u) not-own isOpen k o
 
-    shown-same : (outcome : ℕ) → shownBlock (effectAt (channelAt s n) u outcome) (s .w) own zs ≡ shownBlock (effectAt (channelAt s n) u outcome) (s .w) own area
+    shown-same : (outcome k : ℕ) → shownBlock (effectAt (channelAt s n) u outcome k) (s .w) own zs ≡ shownBlock (effectAt (channelAt s n) u outcome k) (s .w) own area
     unfolding operationAt
-    shown-same outcome = go (effectAt (channelAt s n) u outcome) refl
+    shown-same outcome k = go (effectAt (channelAt s n) u outcome k) refl
       where
-        go : (x : Effect) → effectAt (channelAt s n) u outcome ≡ x → shownBlock x (s .w) own zs ≡ shownBlock x (s .w) own area
-        go Delivers e = refl
+        go : (x : Effect) → effectAt (channelAt s n) u outcome k ≡ x → shownBlock x (s .w) own zs ≡ shownBlock x (s .w) own area
+        go (Delivers failed) e = refl
         go MeetsMark e = refl
         go GivesBack e = refl
         go Sends e =
-            let sends = sym (sends-exactly (operationAt (channelAt s n) u) (judgeOf (channelAt s n) u outcome)) ∙ ap isSending e in
+            let sends = sym (sends-exactly (ltb 0 k) (operationAt (channelAt s n) u) (judgeOf (channelAt s n) u outcome)) ∙ ap isSending e in
             block-same (writes (and-left (isWrite (operationAt (channelAt s n) u)) _ sends))
           where
             writes : isWrite (operationAt (channelAt s n) u) ≡ true → isWrite (requested (turnAt (channelAt s n) u)) ≡ true
@@ -490,7 +490,7 @@ module _ (s : State) (area : List ℕ) (g : Good s) (i c : ℕ) (t : State) (zs 
     report-same : (outcome : ℕ) (words : List ℕ) → actOf t zs (report n u outcome words) ≡ actOf s area (report n u outcome words)
     report-same outcome words =
         rw (right-same, serving-same, file-same, channel-same, long, D .frame .buffers, D .frame .words, D .frame .frozen)
-        (shown-alike _ (fileOf s n u) own n (channelAt s n) u outcome (s .w) (s .frozen) area zs words (shown-same outcome))
+        (shown-alike _ (fileOf s n u) own n (channelAt s n) u outcome (s .w) (s .frozen) area zs words (shown-same outcome (length words)))
 
 -- ---- the answer to another call
 
@@ -510,18 +510,18 @@ refused-says s area x h = ap says (call-alone s area x h)
 
 -- the words that an answer shows are the same in an area that shows the same block
 shows-alike : (wrong : Bool) (k : ℕ) (f : File) (n : ℕ) (c : Channel) (u outcome w : ℕ) (frozen : Bool) (xs zs words : List ℕ)
-    → shownBlock (effectAt c u outcome) w f zs ≡ shownBlock (effectAt c u outcome) w f xs
+    → shownBlock (effectAt c u outcome (length words)) w f zs ≡ shownBlock (effectAt c u outcome (length words)) w f xs
     → let A = reportAct wrong k f n c u outcome w frozen xs words in partOf (A .start) (A .count) (areaBy A zs) ≡ partOf (A .start) (A .count) (areaBy A xs)
 unfolding reportAct reportOn
-shows-alike wrong k f n c u outcome w frozen xs zs words e = go (ℕ-discrete (reportRefusal wrong f c u outcome w xs words) 0) (effectAt c u outcome) refl
+shows-alike wrong k f n c u outcome w frozen xs zs words e = go (ℕ-discrete (reportRefusal wrong f c u outcome w xs words) 0) (effectAt c u outcome (length words)) refl
   where
     A : Act
     A = reportAct wrong k f n c u outcome w frozen xs words
 
-    go : Dec (reportRefusal wrong f c u outcome w xs words ≡ 0) → (x : Effect) → effectAt c u outcome ≡ x
+    go : Dec (reportRefusal wrong f c u outcome w xs words ≡ 0) → (x : Effect) → effectAt c u outcome (length words) ≡ x
         → partOf (A .start) (A .count) (areaBy A zs) ≡ partOf (A .start) (A .count) (areaBy A xs)
     go (no h) x q = rw (ne-eqb (reportRefusal wrong f c u outcome w xs words) 0 h)
-    go (yes z) Delivers q = rw (eq-eqb (reportRefusal wrong f c u outcome w xs words) 0 z, q)
+    go (yes z) (Delivers failed) q = rw (eq-eqb (reportRefusal wrong f c u outcome w xs words) 0 z, q)
     go (yes z) MeetsMark q = rw (eq-eqb (reportRefusal wrong f c u outcome w xs words) 0 z, q)
     go (yes z) GivesBack q = rw (eq-eqb (reportRefusal wrong f c u outcome w xs words) 0 z, q)
     go (yes z) Sends q =
@@ -565,7 +565,7 @@ module _ (s : State) (area : List ℕ) (g : Good s) (i c : ℕ) (t : State) (zs 
       ∙ ap (λ (A : Act). record { refusal = A .refusal; added = A .added; shows = partOf (A .start) (A .count) (areaBy A zs) }) same
       ∙ ap (λ (ws : List ℕ). record { refusal = actOf s area y .refusal; added = actOf s area y .added; shows = ws })
       (shows-alike _ (fileOf s channel unit) (fileAt s (fileOf s channel unit)) channel (channelAt s channel) unit outcome (s .w) (s .frozen) area zs words
-      (shown-same s area g i c t zs D channel unit ne outcome))
+      (shown-same s area g i c t zs D channel unit ne outcome (length words)))
       ∙ sym (ap says (answer-by s area y reporting))
 
   -- an accepted one does after it what it does before it

@@ -5,7 +5,7 @@ use mathlib.Core.List.{List, [], _∷_, _++_, map}
 use Prim.Native.Nat.{ℕ, zero, suc, _+_, _-_, _*_, _≤_, _<_}
 use native.Mathlib.Nat.{le-trans}
 use native.Mathlib.Omega.{arith}
-use borrow.Author.Tests.{eq-eqb, leb-true, leb-false, le-leb, lt-leb, lt-ltb}
+use borrow.Author.Tests.{eq-eqb, eqb-true, leb-true, leb-false, le-leb, lt-leb, lt-ltb}
 use lib.Dec.{eqb, leb, ltb}
 use lib.ListN.{length, take, length-map, length-append}
 use lib.Seq.{take-at}
@@ -13,7 +13,10 @@ use Rattle.area.specs.Parts.{partOf}
 use Rattle.area.proofs.Walks.{true-not-false}
 use Rattle.area.proofs.Marks.{cond-true, cond-false}
 use Rattle.area.proofs.Pastes.{length-part}
-use Rattle.word.specs.Checks.{unchecked}
+use Rattle.word.specs.Checks.{unchecked, withError}
+use Rattle.file.specs.declared.Arrival.{Arrival}
+use Rattle.file.specs.Arrivals.{errorDue}
+use Rattle.file.proofs.ArrivalLaws.{arrival}
 use Rattle.word.specs.declared.Checked.{Checked}
 use Rattle.file.specs.declared.Slot.{Slot}
 use Rattle.file.specs.declared.Slot.the-variants.{Empty, Taken, Part, Full}
@@ -40,7 +43,7 @@ use Rattle.pack_record.proofs.GetTheorems.{get-open, get-input, get-area-long, 
 use Rattle.pack_record.proofs.SkipTheorems.{skip-open, skip-input, skip-full, skip-drops}
 use Rattle.pack_record.proofs.Written.{part-join}
 use Rattle.pack.specs.Calls.{Added, nothing, working, reported, got, get, skip, answerOf}
-use Rattle.demands_ledger.specs.Ledgers.{Item, word, wrong, wrongsBy, Ledger, pastUsed, firstOf, restOf, withSkip, noted}
+use Rattle.demands_ledger.specs.Ledgers.{Item, word, wrong, Came, wrongsBy, wrongs, Ledger, pastUsed, firstOf, restOf, withSkip, noted}
 use Rattle.demands_ledger.specs.Blocks.{unreadIn, unreadOf}
 use Rattle.demands_ledger.proofs.Told.{Brought}
 use Rattle.demands_ledger.proofs.Brings.{passed-brought}
@@ -114,23 +117,45 @@ module _ (w b r n at : ℕ) (xs : List ℕ) (within : at ≤ n) (inside : b * w 
   words-told false false x q l some =
       leaves (b * w + at) (n - at) (partOf (b * w + at) (n - at) xs) (long-part (n - at) (omega arith)) some (leb-false r (n - at) l)
 
-  block-given : (e : Checked) → 1 ≤ length (unreadIn w xs (block b n at e))
+  -- its check error, or its next words
+  check-told : (i : ℕ) (c : Checked) → 1 ≤ length (wrongsBy i c ++ map word (partOf (b * w + at) (n - at) xs))
+      → Gives r marked ((wrongsBy i c ++ map word (partOf (b * w + at) (n - at) xs)) ∷ blocks)
+      (got (cond (ltb 0 i) (Error c) (cond (leb r (n - at)) (Record (b * w + at) r) (Leftover (b * w + at) (n - at)))))
+      (shown xs (cond (ltb 0 i) (Error c) (cond (leb r (n - at)) (Record (b * w + at) r) (Leftover (b * w + at) (n - at)))))
+  check-told (suc i) c some = error-told (ltb 0 (suc i)) c _ _ (lt-ltb 0 (suc i) (omega arith))
+  check-told zero c some =
+      words-told (ltb 0 0) (leb r (n - at)) (Error c) refl refl
+      (omega (arith, some, length-map (partOf (b * w + at) (n - at) xs) word, long-part (n - at) (omega arith)))
+
+  -- its read error
+  read-told : (t : Bool) (x : ℕ) (c : Checked) (items : List Item) (other : Got) → t ≡ true → (x ≡ 0 → ⊥)
+      → Gives r marked ((wrongs x c ++ items) ∷ blocks) (got (cond t (Error (withError x c)) other)) (shown xs (cond t (Error (withError x c)) other))
+  read-told true zero c items other q some = absurd (some refl)
+  read-told true (suc x) c items other q some = tells (withError (suc x) c)
+  read-told false x c items other q some = true-not-false q refl
+
+  block-given : (e : Arrival) → 1 ≤ length (unreadIn w xs (block b n at e))
       → Gives r marked (unreadIn w xs (block b n at e) ∷ blocks) (got (foundIn (b * w) r (Full n at e))) (shown xs (foundIn (b * w) r (Full n at e)))
-  block-given e = go (e .error)
+  block-given e = go (eqb (e .failed) 0) refl
     where
-      go : (i : ℕ) → 1 ≤ length (wrongsBy i e ++ map word (partOf (b * w + at) (n - at) xs))
-          → Gives r marked ((wrongsBy i e ++ map word (partOf (b * w + at) (n - at) xs)) ∷ blocks)
-          (got (cond (ltb 0 i) (Error e) (cond (leb r (n - at)) (Record (b * w + at) r) (Leftover (b * w + at) (n - at)))))
-          (shown xs (cond (ltb 0 i) (Error e) (cond (leb r (n - at)) (Record (b * w + at) r) (Leftover (b * w + at) (n - at)))))
-      go (suc i) some = error-told (ltb 0 (suc i)) e _ _ (lt-ltb 0 (suc i) (omega arith))
-      go zero some =
-          words-told (ltb 0 0) (leb r (n - at)) (Error e) refl refl
-          (omega (arith, some, length-map (partOf (b * w + at) (n - at) xs) word, long-part (n - at) (omega arith)))
+      To : Arrival → Got → Type 0
+      To a g = Gives r marked (unreadIn w xs (block b n at a) ∷ blocks) (got g) (shown xs g)
+
+      go : (t : Bool) → eqb (e .failed) 0 ≡ t → 1 ≤ length (unreadIn w xs (block b n at e)) → To e (foundIn (b * w) r (Full n at e))
+      go true q =
+          subst (λ (a : Arrival). 1 ≤ length (unreadIn w xs (block b n at a)) → To a (foundIn (b * w) r (Full n at a)))
+          (ap (λ (m : ℕ). arrival m (e .check)) (sym (eqb-true (e .failed) 0 q))) (check-told (e .check .error) (e .check))
+      go false q = λ some.
+          let due : errorDue e ≡ e .failed = cond-false (e .check .error) (e .failed) q in
+          let failed : e .failed ≡ 0 → ⊥ = λ z. true-not-false (eq-eqb (e .failed) 0 z) q in
+          subst (λ (m : ℕ). To e
+          (cond (ltb 0 (errorDue e)) (Error (withError m (e .check))) (cond (leb r (n - at)) (Record (b * w + at) r) (Leftover (b * w + at) (n - at))))) (sym due)
+          (read-told (ltb 0 (errorDue e)) (e .failed) (e .check) _ _ (lt-ltb 0 (errorDue e) (omega (arith, due, failed))) failed)
 
 -- ---- get
 
 found-given : (m w : ℕ) (f : File) → Sound m w f → (xs : List ℕ) → m * w ≤ length xs
-    → (came : List (List ℕ)) (gone : List Item) (owed : List (List Item))
+    → (came : List Came) (gone : List Item) (owed : List (List Item))
     → Fresh owed → Brought w f xs came gone owed → Gives (f .rlen) (f .marked) owed (got (found w f)) (shown xs (found w f))
 unfolding found
 found-given m w f S xs long came gone owed fresh T = go (oldest f) (aged f)
@@ -158,7 +183,7 @@ found-given m w f S xs long came gone owed fresh T = go (oldest f) (aged f)
         (fresh-head (unreadIn w xs (block (bufferAt f k .number) n at e)) (map (unreadIn w xs) rest) (subst Fresh z fresh))))
 
 file-given : (m w : ℕ) (f : File) → Sound m w f → (xs : List ℕ) → m * w ≤ length xs
-    → (came : List (List ℕ)) (gone : List Item) (owed : List (List Item))
+    → (came : List Came) (gone : List Item) (owed : List (List Item))
     → Brought w f xs came gone owed → Gives (f .rlen) (f .marked) owed (got (getFrom w f .got)) (shown xs (getFrom w f .got))
 unfolding getFrom lookedAt
 file-given m w f S xs long came gone owed T =

@@ -19,6 +19,7 @@ use Rattle.file_input.specs.Delivers.{tookBuffer, delivered, gaveBack, metMark}
 use Rattle.file_output.specs.Puts.{putSide, putStart, added, afterPut}
 use Rattle.file_output.specs.Parts.{partStart, partLength, isComplete, sealedFile}
 use Rattle.file_output.specs.Sends.{sendStart, sendWords, afterWrite}
+use Rattle.file.specs.Arrivals.{isArrival}
 use Rattle.file.specs.Sizes.{openedFile}
 use Rattle.pool.specs.Free.{lowestFree, freeCount, freeOf}
 use Rattle.pool.specs.Masks.{freeAfter}
@@ -50,8 +51,12 @@ use Rattle.call_open.specs.Close.{closeRows, closeOn}
 use Rattle.pack_open.specs.Close.{closeBy}
 use Rattle.pack_start.specs.Freeze.{stateRows, frozenState, thawedState, freezeBy, thawBy}
 use Rattle.demands_ledger.specs.Ledgers.{ledgerAfter}
-use Rattle.demands.specs.Witness.{toldBy, steps1, steps2, steps3, midway, readAll, wroteAll, played, wanted}
+use Rattle.demands.specs.Witness.{toldBy, steps1, steps2, steps3, midway, readAll, wroteAll, played, wanted, keptSteps, keptNoted, keptPlayed, keptWanted}
 
 pub witness : played ≡ wanted
-unfolding toldBy ledgerAfter steps1 steps2 steps3 midway readAll wroteAll anyOf allOf allPairs countOf firstAlong countAlong paste pastedIn lowest allFrom carryBack sumFrom logicalSum firstHalf lastHalf folded address checkWord blocks.blockSealRefusal blocks.withCheckWord blocks.sealedBlock blocks.judgeRefusal checks.errorOf checks.checkOf checks.isChecked blocks.judgedBlock rowOf isAllowed isPermanent nextAttempt endingOf verdictOf withTurn freshWith bitsFrom freshOf hasRequest acceptsAt operationAt scanFrom workingIn priorityIn ordinaryIn nextTurn startOf askOf judgeOf goesOn repeatOf markAfter urgentAfter endOf bookOf emptySide takenSide partSide oldest filledAt emptiedAt withoutOldest tookBuffer delivered gaveBack metMark putSide putStart added partStart partLength isComplete sealedFile afterPut sendStart sendWords afterWrite openedFile lowestFree freeCount servingFile isBlank beforeStart withFile withChannel numbersInRange noBufferHeldTwice eachHasItsOwn requestsFit channelsWork readsAloneTake writesHaveBlocks fullBlocksRight partBuffersRight placesRight attemptsInLimit sound freshRows freshState freshBy freeOf openRows openOn openBy changedState opOf askRefusal askedFile askedChannel askOn askBy reportRefusal reportedFile reportedArea reportOn reportOnArea reportBy reportByArea sealedIn sealedArea putRows putRefusal filledArea putArea putOn putOnArea putBy putByArea answerOf passed lookedAt found afterFound getFrom getRows getRefusal getOn getBy getWords skipRows skipRefusal skipOn skipBy sealRows sealRefusal sealOn sealOnArea sealBy sealByArea closeRows closeOn closeBy stateRows frozenState thawedState freezeBy thawBy thawOf freeMaskRight freeAfter maskAlong
+unfolding toldBy ledgerAfter steps1 steps2 steps3 midway readAll wroteAll anyOf allOf allPairs countOf firstAlong countAlong paste pastedIn lowest allFrom carryBack sumFrom logicalSum firstHalf lastHalf folded address checkWord blocks.blockSealRefusal blocks.withCheckWord blocks.sealedBlock blocks.judgeRefusal checks.errorOf checks.checkOf checks.isChecked blocks.judgedBlock rowOf isAllowed isPermanent nextAttempt endingOf verdictOf withTurn freshWith bitsFrom freshOf hasRequest acceptsAt operationAt scanFrom workingIn priorityIn ordinaryIn nextTurn startOf askOf judgeOf goesOn repeatOf markAfter urgentAfter endOf bookOf emptySide takenSide partSide oldest filledAt emptiedAt withoutOldest tookBuffer delivered gaveBack metMark putSide putStart added partStart partLength isComplete sealedFile afterPut sendStart sendWords afterWrite openedFile lowestFree freeCount servingFile isBlank beforeStart withFile withChannel numbersInRange noBufferHeldTwice eachHasItsOwn requestsFit channelsWork readsAloneTake writesHaveBlocks fullBlocksRight partBuffersRight placesRight attemptsInLimit sound freshRows freshState freshBy freeOf openRows openOn openBy changedState opOf askRefusal askedFile askedChannel askOn askBy reportRefusal reportedFile reportedArea reportOn reportOnArea reportBy reportByArea sealedIn sealedArea putRows putRefusal filledArea putArea putOn putOnArea putBy putByArea answerOf passed lookedAt found afterFound getFrom getRows getRefusal getOn getBy getWords skipRows skipRefusal skipOn skipBy sealRows sealRefusal sealOn sealOnArea sealBy sealByArea closeRows closeOn closeBy stateRows frozenState thawedState freezeBy thawBy thawOf freeMaskRight freeAfter maskAlong isArrival
 witness = refl
+
+pub witness-kept : keptPlayed ≡ keptWanted
+unfolding toldBy ledgerAfter keptSteps keptNoted anyOf allOf allPairs countOf firstAlong countAlong paste pastedIn lowest allFrom carryBack sumFrom logicalSum firstHalf lastHalf folded address checkWord blocks.blockSealRefusal blocks.withCheckWord blocks.sealedBlock blocks.judgeRefusal checks.errorOf checks.checkOf checks.isChecked blocks.judgedBlock rowOf isAllowed isPermanent nextAttempt endingOf verdictOf withTurn freshWith bitsFrom freshOf hasRequest acceptsAt operationAt scanFrom workingIn priorityIn ordinaryIn nextTurn startOf askOf judgeOf goesOn repeatOf markAfter urgentAfter endOf bookOf emptySide takenSide partSide oldest filledAt emptiedAt withoutOldest tookBuffer delivered gaveBack metMark putSide putStart added partStart partLength isComplete sealedFile afterPut sendStart sendWords afterWrite openedFile lowestFree freeCount servingFile isBlank beforeStart withFile withChannel numbersInRange noBufferHeldTwice eachHasItsOwn requestsFit channelsWork readsAloneTake writesHaveBlocks fullBlocksRight partBuffersRight placesRight attemptsInLimit sound freshRows freshState freshBy freeOf openRows openOn openBy changedState opOf askRefusal askedFile askedChannel askOn askBy reportRefusal reportedFile reportedArea reportOn reportOnArea reportBy reportByArea sealedIn sealedArea putRows putRefusal filledArea putArea putOn putOnArea putBy putByArea answerOf passed lookedAt found afterFound getFrom getRows getRefusal getOn getBy getWords skipRows skipRefusal skipOn skipBy sealRows sealRefusal sealOn sealOnArea sealBy sealByArea closeRows closeOn closeBy stateRows frozenState thawedState freezeBy thawBy thawOf freeMaskRight freeAfter maskAlong isArrival
+witness-kept = refl

@@ -90,8 +90,9 @@ pub record Writes (w : ℕ) (f : File) (area : List ℕ) (g : Ledger) : Type 0 w
 
 -- of an input file f
 pub record Reads (w : ℕ) (f : File) (area : List ℕ) (g : Ledger) : Type 0 where
-  -- what get gave and skip dropped, then what is owed still, is for each delivered block the error that it is judged to have, as delivered
-  -- and with the number that it is due, together with what was found, and then its data words: in order, each once
+  -- what get gave and skip dropped, then what is owed still, is for each delivered block the error of the read that brought it, if that was permanent
+  -- (document 02, M-101), the error that it is judged to have, as delivered and with the number that it is due, each together with what was found, and
+  -- then its data words: in order, each once
   pub items : g .gone ++ joined (g .owed) ≡ contents (f .sequence) (f .check) 1 (g .came)
   -- and what is owed lies unread in the area
   pub lies : g .owed ≡ unreadOf w f area

@@ -10,7 +10,7 @@ use Rattle.file_input.specs.declared.Got.the-variants.{Record, Leftover, Error,
 use Rattle.state.specs.declared.State.{State}
 use Rattle.state.specs.Places.{beforeStart}
 use Rattle.pack.specs.Calls.{Call, fresh, opening, close, ask, report, get, put, seal, skip, freeze, thaw, Added, nothing, working, reported, got, Answer, answerOf}
-use Rattle.demands_ledger.specs.Ledgers.{Item, word, wrong, Ledger, blankLedger, ledgerAfter}
+use Rattle.demands_ledger.specs.Ledgers.{Item, word, wrong, Came, Ledger, blankLedger, ledgerAfter}
 
 -- what a call shows: its refusal, what its answer adds, and the words
 pub data Told : Type 0 where
@@ -115,10 +115,14 @@ lent = replicate 12 0
 
 -- what is noted of a file: the words put, the blocks sent, the blocks that came, what was given and dropped, and what is owed
 pub data Noted : Type 0 where
-  noted : List ℕ → List (List ℕ) → List (List ℕ) → List Item → List (List Item) → Noted
+  noted : List ℕ → List (List ℕ) → List Came → List Item → List (List Item) → Noted
 
 abbrev pub notedOf : Ledger → Noted
 notedOf g = noted (g .puts) (g .sent) (g .came) (g .gone) (g .owed)
+
+-- a block that was read well
+abbrev pub well : List ℕ → Came
+well words = record { failed = 0; words = words }
 
 -- the ledger of file i after calls from before the first fresh start on
 abbrev pub notedBy : ℕ → List Call → Noted
@@ -127,13 +131,13 @@ notedBy i calls = notedOf (ledgerAfter i beforeStart lent blankLedger calls)
 -- file 0 after the second part: two blocks are owed, of one the error is told
 unfoldable pub midway : Noted
 midway =
-    noted [] [] ((1 ∷ 2 ∷ 786433 ∷ []) ∷ (3 ∷ 0 ∷ []) ∷ (4 ∷ 5 ∷ 2359299 ∷ []) ∷ []) (word 1 ∷ word 2 ∷ wrong (found 3 3 2 0 0) ∷ [])
+    noted [] [] (well (1 ∷ 2 ∷ 786433 ∷ []) ∷ well (3 ∷ 0 ∷ []) ∷ well (4 ∷ 5 ∷ 2359299 ∷ []) ∷ []) (word 1 ∷ word 2 ∷ wrong (found 3 3 2 0 0) ∷ [])
     ((word 3 ∷ []) ∷ (word 4 ∷ word 5 ∷ []) ∷ [])
 
 -- both at the end
 unfoldable pub readAll : Noted
 readAll =
-    noted [] [] ((1 ∷ 2 ∷ 786433 ∷ []) ∷ (3 ∷ 0 ∷ []) ∷ (4 ∷ 5 ∷ 2359299 ∷ []) ∷ [])
+    noted [] [] (well (1 ∷ 2 ∷ 786433 ∷ []) ∷ well (3 ∷ 0 ∷ []) ∷ well (4 ∷ 5 ∷ 2359299 ∷ []) ∷ [])
     (word 1 ∷ word 2 ∷ wrong (found 3 3 2 0 0) ∷ word 3 ∷ word 4 ∷ word 5 ∷ []) []
 
 unfoldable pub wroteAll : Noted
@@ -160,3 +164,32 @@ played = record {
 
 abbrev pub wanted : Course
 wanted = record { tells = tellsOf steps; mid = midway; read = readAll; wrote = wroteAll }
+
+-- ---- a second course (document 02, M-101): a read of two incomplete words. The first one's words are dropped; the block of the second is kept, in error too
+
+unfoldable pub keptSteps : List Step
+keptSteps =
+    so (fresh 4 3 (record { a = 3; b = 0; c = 0; d = 0; e = 0 })) done
+    ∷ so (opening 0 0 0 14 2 2) done
+    ∷ so (ask 0 0 0) (told 0 (working 0) [])
+    ∷ so (report 0 0 incompleteWord (1 ∷ 2 ∷ 786433 ∷ [])) (told 0 (reported 0 Without 0) [])
+    ∷ so (report 0 0 incompleteWord (8 ∷ 0 ∷ [])) (told 0 (reported 6 (With (found 3 8 1 0 0)) 255) [])
+    ∷ so (get 0) (told 0 (got (Error (found 10 8 1 0 0))) [])
+    ∷ so (get 0) (told 0 (got (Error (found 3 8 1 0 0))) [])
+    ∷ so (get 0) (told 0 (got (Leftover 0 1)) (8 ∷ []))
+    ∷ []
+
+unfoldable pub keptNoted : Noted
+keptNoted =
+    noted [] [] (record { failed = 10; words = 8 ∷ 0 ∷ [] } ∷ []) (wrong (found 10 8 1 0 0) ∷ wrong (found 3 8 1 0 0) ∷ word 8 ∷ []) ([] ∷ [])
+
+-- the answers of all calls, and the ledger at the end
+pub record KeptCourse : Type 0 where
+  pub tells : List Told
+  pub read : Noted
+
+abbrev pub keptPlayed : KeptCourse
+keptPlayed = record { tells = toldBy beforeStart lent (callsOf keptSteps); read = notedBy 0 (callsOf keptSteps) }
+
+abbrev pub keptWanted : KeptCourse
+keptWanted = record { tells = tellsOf keptSteps; read = keptNoted }

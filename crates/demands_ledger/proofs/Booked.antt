@@ -12,6 +12,8 @@ use Rattle.area.proofs.Walks.{true-not-false}
 use Rattle.area.proofs.Pastes.{length-part}
 use Rattle.block.specs.Blocks.{judgedBlock}
 use Rattle.word.specs.declared.Checked.{Checked}
+use Rattle.file.specs.declared.Arrival.{Arrival}
+use Rattle.file.proofs.ArrivalLaws.{arrival}
 use Rattle.file.specs.declared.Slot.{Slot}
 use Rattle.file.specs.declared.Slot.the-variants.{Empty, Taken, Part, Full}
 use Rattle.file.specs.declared.Side.{Side}
@@ -32,7 +34,7 @@ use Rattle.state_sound.proofs.Changes.{numbers, own-taken, taken-input}
 use Rattle.state_sound.proofs.Inside.{send-inside}
 use Rattle.call_request.proofs.Found.{fits-bounds}
 use Rattle.pack_record.proofs.Written.{only-wider, pasted-only, pasted-part}
-use Rattle.demands_ledger.specs.Ledgers.{Item, word, wrongs, Ledger, asBlock, contentsOf, owedFor}
+use Rattle.demands_ledger.specs.Ledgers.{Item, word, wrongs, Came, Ledger, asBlock, cameBy, contentsOf, owedFor}
 use Rattle.demands_ledger.specs.Blocks.{partIn}
 use Rattle.demands_ledger.proofs.Told.{Wrote, Brought, Told}
 use Rattle.demands_ledger.proofs.Lines.{unread-same, beside}
@@ -44,7 +46,7 @@ use Rattle.demands_ledger.proofs.Moves.{drop-same}
 
 -- ---- the ledger with a mark or a block more, or none
 
-abbrev pub plus : Ledger → Bool → List (List ℕ) → List (List ℕ) → List (List Item) → Ledger
+abbrev pub plus : Ledger → Bool → List (List ℕ) → List Came → List (List Item) → Ledger
 plus L mark sent came owed = record {
   opened = L .opened;
   chosen = L .chosen;
@@ -65,9 +67,13 @@ one-block : (ws : List ℕ) → 1 ≤ length ws → asBlock ws ≡ ws ∷ []
 one-block [] h = absurd (omega arith)
 one-block (x ∷ ws) h = refl
 
-one-owed : (s c : Bool) (e : Checked) (ws : List ℕ) → 1 ≤ length ws → owedFor s c e ws ≡ contentsOf s c e ws ∷ []
-one-owed s c e [] h = absurd (omega arith)
-one-owed s c e (x ∷ ws) h = refl
+one-came : (failed : ℕ) (ws : List ℕ) → 1 ≤ length ws → cameBy failed ws ≡ record { failed = failed; words = ws } ∷ []
+one-came failed [] h = absurd (omega arith)
+one-came failed (x ∷ ws) h = refl
+
+one-owed : (s c : Bool) (failed : ℕ) (e : Checked) (ws : List ℕ) → 1 ≤ length ws → owedFor s c failed e ws ≡ contentsOf s c failed e ws ∷ []
+one-owed s c failed e [] h = absurd (omega arith)
+one-owed s c failed e (x ∷ ws) h = refl
 
 -- ---- a buffer that a read gives back
 
@@ -139,9 +145,12 @@ module _ (m w : ℕ) (f : File) (S : Sound m w f) (xs : List ℕ) (long : m * w 
 
   -- ---- a block that is delivered
 
-  module _ (words : List ℕ) (side : isSide (takenSide f) ≡ true) (fits : blockFits f (length words) ≡ true) where
+  module _ (failed : ℕ) (words : List ℕ) (side : isSide (takenSide f) ≡ true) (fits : blockFits f (length words) ≡ true) where
     abbrev err : Checked
     err = judgedBlock words (f .sequence) (f .check) (f .block) .found
+
+    abbrev how : Arrival
+    how = arrival failed err
 
     abbrev size : ℕ
     size = length words - extra (f .sequence) (f .check)
@@ -150,8 +159,8 @@ module _ (m w : ℕ) (f : File) (S : Sound m w f) (xs : List ℕ) (long : m * w 
     zs = pastedIn (startAt f w (takenSide f)) words xs
 
     pub told-came : startAt f w (takenSide f) + length words ≤ length xs → length words ≤ w → f .opened ≡ true → Told w f xs L
-        → Told w (delivered f size err) zs
-        (plus L false [] (asBlock words) (owedFor (L .chosen .sequence) (L .chosen .check) err words))
+        → Told w (delivered f size how) zs
+        (plus L false [] (cameBy failed words) (owedFor (L .chosen .sequence) (L .chosen .check) failed err words))
     unfolding delivered filledAt
     told-came fit room o T =
         let k = takenSide f in
@@ -161,19 +170,19 @@ module _ (m w : ℕ) (f : File) (S : Sound m w f) (xs : List ℕ) (long : m * w 
         let only = only-wider (startAt f w k) (length words) (startAt f w k) w xs zs (pasted-only (startAt f w k) words xs fit) (omega arith)
         (omega arith) in
         let same = T .chose o in
-        told-in w f (delivered f size err) (slot-same f k (Full size 0 err) (turnedBy f k) (nextNumber (f .block))) zs
-        (plus L false [] (asBlock words) (owedFor (L .chosen .sequence) (L .chosen .check) err words)) input (T .opened) same
-        (T .marks o input ∙ sym (mark-stays f k (Full size 0 err) (turnedBy f k) (nextNumber (f .block))))
-        (subst (λ (bs : List (List ℕ)). Brought w (delivered f size err) zs (L .came ++ bs) (L .gone)
-        (L .owed ++ owedFor (L .chosen .sequence) (L .chosen .check) err words)) (sym (one-block words some))
-        (subst (λ (bs : List (List Item)). Brought w (delivered f size err) zs (L .came ++ (words ∷ [])) (L .gone) (L .owed ++ bs))
-        (sym (one-owed (L .chosen .sequence) (L .chosen .check) err words some ∙ ap₂ (λ (s c : Bool). contentsOf s c err words ∷ []) (same .sequences)
+        told-in w f (delivered f size how) (slot-same f k (Full size 0 how) (turnedBy f k) (nextNumber (f .block))) zs
+        (plus L false [] (cameBy failed words) (owedFor (L .chosen .sequence) (L .chosen .check) failed err words)) input (T .opened) same
+        (T .marks o input ∙ sym (mark-stays f k (Full size 0 how) (turnedBy f k) (nextNumber (f .block))))
+        (subst (λ (bs : List Came). Brought w (delivered f size how) zs (L .came ++ bs) (L .gone)
+        (L .owed ++ owedFor (L .chosen .sequence) (L .chosen .check) failed err words)) (sym (one-came failed words some))
+        (subst (λ (bs : List (List Item)). Brought w (delivered f size how) zs (L .came ++ (record { failed = failed; words = words } ∷ [])) (L .gone) (L .owed ++ bs))
+        (sym (one-owed (L .chosen .sequence) (L .chosen .check) failed err words some ∙ ap₂ (λ (s c : Bool). contentsOf s c failed err words ∷ []) (same .sequences)
         (same .checks)))
-        (brought-more w f (delivered f size err) xs zs (L .came) (L .gone) (L .owed)
-        (slot-same f k (Full size 0 err) (turnedBy f k) (nextNumber (f .block))) (T .brought o input)
-        words (bufferAt f k .number) size (unread-same m w f S xs zs (beside m w f S k xs zs (own-taken m w f S side) (taken-no f .1) only))
-        (delivered-line f size err side) (slot-block f k (Full size 0 err) (turnedBy f k) (nextNumber (f .block)) side)
-        (ap (λ (l : List ℕ). wrongs err ++ map word l) there))))
+        (brought-more w f (delivered f size how) xs zs (L .came) (L .gone) (L .owed)
+        (slot-same f k (Full size 0 how) (turnedBy f k) (nextNumber (f .block))) (T .brought o input)
+        (record { failed = failed; words = words }) (bufferAt f k .number) size (unread-same m w f S xs zs (beside m w f S k xs zs (own-taken m w f S side) (taken-no f .1) only))
+        (delivered-line f size how side) (slot-block f k (Full size 0 how) (turnedBy f k) (nextNumber (f .block)) side)
+        (ap (λ (l : List ℕ). wrongs failed err ++ map word l) there))))
       where
         there : partOf (startAt f w (takenSide f) + 0) (size - 0) zs ≡ take size words
         there =

@@ -5,15 +5,18 @@ use mathlib.Core.Bool.{Bool, true, false, cond}
 use mathlib.Core.List.{List, [], _∷_, _++_, map, append-assoc, append-nil}
 use Prim.Native.Nat.{ℕ, zero, suc, _+_, _-_, _*_, _≤_, _<_}
 use native.Mathlib.Omega.{arith}
-use borrow.Author.Tests.{leb-true, leb-false}
-use lib.Dec.{leb}
-use lib.ListN.{length, length-map}
+use borrow.Author.Tests.{leb-true, leb-false, ltb-false}
+use lib.Dec.{leb, ltb}
+use lib.ListN.{length, length-append, length-map}
 use lib.Seq.{drop-append-seam}
 use Rattle.area.specs.Parts.{partOf}
 use Rattle.area.proofs.Walks.{true-not-false}
+use Rattle.area.proofs.Marks.{cond-true}
 use Rattle.area.proofs.Pastes.{length-part}
 use Rattle.block.specs.Blocks.{judgedBlock}
-use Rattle.word.specs.declared.Checked.{Checked}
+use Rattle.file.specs.declared.Arrival.{Arrival}
+use Rattle.file.specs.Arrivals.{errorDue, afterTold}
+use Rattle.file.proofs.ArrivalLaws.{arrival, told-nothing, told-all}
 use Rattle.file.specs.declared.Slot.the-variants.{Empty, Full}
 use Rattle.file.specs.declared.Side.{Side}
 use Rattle.file.specs.declared.Side.the-variants.{Neither}
@@ -24,12 +27,12 @@ use Rattle.file.specs.Fills.{withSlot, emptiedAt, withoutOldest}
 use Rattle.word.specs.CheckWords.{nextNumber}
 use Rattle.file_input.specs.Ages.{Block, line}
 use Rattle.file_input.proofs.Ages.{block, Aged, noBlock, old, aged}
-use Rattle.file_input.specs.Gets.{isUsedUp, passed}
+use Rattle.file_input.specs.Gets.{isUsedUp, passed, wordsGiven}
 use Rattle.state_sound.proofs.FileFacts.{Sound}
 use Rattle.state_sound.proofs.FilesKept.{owns-used}
 use Rattle.state_sound.proofs.Changes.{numbers}
 use Rattle.state_sound.proofs.Inside.{number-less, size-fits, buffer-inside}
-use Rattle.demands_ledger.specs.Ledgers.{Item, word, wrongsBy, contentsOf, pastUsed, without, firstOf, restOf}
+use Rattle.demands_ledger.specs.Ledgers.{Item, word, Came, wrongs, contentsOf, pastUsed, without, firstOf, restOf}
 use Rattle.demands_ledger.specs.Blocks.{unreadIn, unreadOf, joined, contents}
 use Rattle.demands_ledger.proofs.Told.{All, none, more, UntoldFirst, Brought}
 use Rattle.demands_ledger.proofs.Lists.{joined-last, contents-last, number-last, map-append, all-append}
@@ -38,12 +41,12 @@ use Rattle.demands_ledger.proofs.Sides.{Same, slot-same, block-stays}
 tail-all : {A : Type 0} (P : A → Type 0) (x : A) (xs : List A) → All P (x ∷ xs) → All P xs
 tail-all P x xs (more h p) = p
 
-head-all : {A : Type 0} (P : A → Type 0) (x : A) (xs : List A) → All P (x ∷ xs) → P x
+pub head-all : {A : Type 0} (P : A → Type 0) (x : A) (xs : List A) → All P (x ∷ xs) → P x
 head-all P x xs (more h p) = h
 
-module _ (w : ℕ) (f g : File) (xs zs : List ℕ) (came : List (List ℕ)) (gone : List Item) (owed : List (List Item)) (A : Same f g)
+module _ (w : ℕ) (f g : File) (xs zs : List ℕ) (came : List Came) (gone : List Item) (owed : List (List Item)) (A : Same f g)
     (T : Brought w f xs came gone owed) where
-  same-contents : (bs : List (List ℕ)) → contents (f .sequence) (f .check) 1 bs ≡ contents (g .sequence) (g .check) 1 bs
+  same-contents : (bs : List Came) → contents (f .sequence) (f .check) 1 bs ≡ contents (g .sequence) (g .check) 1 bs
   same-contents bs = ap₂ (λ (s c : Bool). contents s c 1 bs) (sym (A .sequence)) (sym (A .check))
 
   -- no block more or less
@@ -56,31 +59,32 @@ module _ (w : ℕ) (f g : File) (xs zs : List ℕ) (came : List (List ℕ)) (gon
   }
 
   -- a block is delivered
-  pub brought-more : (ys : List ℕ) (b n : ℕ) → unreadOf w f zs ≡ unreadOf w f xs
-      → line g ≡ line f ++ (block b n 0 (judgedBlock ys (f .sequence) (f .check) (f .block) .found) ∷ []) → g .block ≡ nextNumber (f .block)
-      → unreadIn w zs (block b n 0 (judgedBlock ys (f .sequence) (f .check) (f .block) .found))
-      ≡ contentsOf (f .sequence) (f .check) (judgedBlock ys (f .sequence) (f .check) (f .block) .found) ys
-      → Brought w g zs (came ++ (ys ∷ [])) gone
-      (owed ++ (contentsOf (f .sequence) (f .check) (judgedBlock ys (f .sequence) (f .check) (f .block) .found) ys ∷ []))
-  brought-more ys b n still l e c = record {
+  pub brought-more : (y : Came) (b n : ℕ) → unreadOf w f zs ≡ unreadOf w f xs
+      → line g ≡ line f ++ (block b n 0 (arrival (y .failed) (judgedBlock (y .words) (f .sequence) (f .check) (f .block) .found)) ∷ [])
+      → g .block ≡ nextNumber (f .block)
+      → unreadIn w zs (block b n 0 (arrival (y .failed) (judgedBlock (y .words) (f .sequence) (f .check) (f .block) .found)))
+      ≡ contentsOf (f .sequence) (f .check) (y .failed) (judgedBlock (y .words) (f .sequence) (f .check) (f .block) .found) (y .words)
+      → Brought w g zs (came ++ (y ∷ [])) gone
+      (owed ++ (contentsOf (f .sequence) (f .check) (y .failed) (judgedBlock (y .words) (f .sequence) (f .check) (f .block) .found) (y .words) ∷ []))
+  brought-more y b n still l e c = record {
     lies =
         ap₂ (λ (u : List (List Item)) (v : List Item). u ++ (v ∷ [])) (T .lies ∙ sym still) (sym c)
         ∙ sym (map-append (unreadIn w zs) (line f) (new ∷ [])) ∙ sym (ap (map (unreadIn w zs)) l);
     items =
         ap (λ (v : List Item). gone ++ v) (joined-last owed now) ∙ sym (append-assoc gone (joined owed) now)
         ∙ ap (λ (v : List Item). v ++ now) (T .items)
-        ∙ ap (λ (k : ℕ). contents (f .sequence) (f .check) 1 came ++ contentsOf (f .sequence) (f .check) (judgedBlock ys (f .sequence) (f .check) k .found)
-        ys) (T .number)
-        ∙ sym (contents-last (f .sequence) (f .check) 1 came ys) ∙ same-contents (came ++ (ys ∷ []));
-    number = e ∙ ap nextNumber (T .number) ∙ sym (number-last 1 came ys);
+        ∙ ap (λ (k : ℕ). contents (f .sequence) (f .check) 1 came ++ contentsOf (f .sequence) (f .check) (y .failed)
+        (judgedBlock (y .words) (f .sequence) (f .check) k .found) (y .words)) (T .number)
+        ∙ sym (contents-last (f .sequence) (f .check) 1 came y) ∙ same-contents (came ++ (y ∷ []));
+    number = e ∙ ap nextNumber (T .number) ∙ sym (number-last 1 came y);
     untold = subst (All UntoldFirst) (sym l) (all-append UntoldFirst (line f) (new ∷ []) (T .untold) (more (inr refl) none));
   }
     where
       new : Block
-      new = block b n 0 (judgedBlock ys (f .sequence) (f .check) (f .block) .found)
+      new = block b n 0 (arrival (y .failed) (judgedBlock (y .words) (f .sequence) (f .check) (f .block) .found))
 
       now : List Item
-      now = contentsOf (f .sequence) (f .check) (judgedBlock ys (f .sequence) (f .check) (f .block) .found) ys
+      now = contentsOf (f .sequence) (f .check) (y .failed) (judgedBlock (y .words) (f .sequence) (f .check) (f .block) .found) (y .words)
 
   -- the oldest block is dropped
   pub brought-less : (b : Block) (rest : List Block) → line f ≡ b ∷ rest → line g ≡ rest → g .block ≡ f .block
@@ -123,7 +127,7 @@ module _ (w : ℕ) (f g : File) (xs zs : List ℕ) (came : List (List ℕ)) (gon
 
 -- ---- skip
 
-pub skip-brought : (w : ℕ) (f : File) (xs : List ℕ) (came : List (List ℕ)) (gone : List Item) (owed : List (List Item)) → isSide (oldest f) ≡ true
+pub skip-brought : (w : ℕ) (f : File) (xs : List ℕ) (came : List Came) (gone : List Item) (owed : List (List Item)) → isSide (oldest f) ≡ true
     → Brought w f xs came gone owed
     → Brought w (withoutOldest f) xs came (gone ++ firstOf owed) (restOf owed)
 unfolding withoutOldest emptiedAt
@@ -138,13 +142,26 @@ skip-brought w f xs came gone owed full T = go (oldest f) (aged f) full
 
 -- ---- what is left of a block
 
+-- no error is owed of a block of which none is due
+pub no-wrongs : (a : Arrival) → errorDue a ≡ 0 → wrongs (a .failed) (a .check) ≡ []
+no-wrongs a h = ap (λ (d : Arrival). wrongs (d .failed) (d .check)) (told-all a h)
+
+-- a get that tells an error gives no words, so an error that is still to be told is again of a block of which nothing was given
+pub untold-still : (b r n at : ℕ) (e : Arrival) → UntoldFirst (block b n at e) → UntoldFirst (block b n (at + wordsGiven r (Full n at e)) (afterTold e))
+untold-still b r n at e (inl z) = inl (ap errorDue (told-nothing e z) ∙ z)
+untold-still b r n at e (inr z) = go (ltb 0 (errorDue e)) refl
+  where
+    go : (t : Bool) → ltb 0 (errorDue e) ≡ t → UntoldFirst (block b n (at + wordsGiven r (Full n at e)) (afterTold e))
+    go true q = inr (let none : wordsGiven r (Full n at e) ≡ 0 = cond-true 0 _ q in omega (arith, z, none))
+    go false q = let quiet : errorDue e ≡ 0 = omega (arith, ltb-false 0 (errorDue e) q) in inl (ap errorDue (told-nothing e quiet) ∙ quiet)
+
 module _ (m w : ℕ) (f : File) (S : Sound m w f) (xs : List ℕ) (long : m * w ≤ length xs) where
   -- nothing is left of a block that is used up
-  used-nothing : (k : Side) (n at : ℕ) (e : Checked) → slotAt f k ≡ Full n at e → UntoldFirst (block (bufferAt f k .number) n at e) → n ≤ at
+  used-nothing : (k : Side) (n at : ℕ) (e : Arrival) → slotAt f k ≡ Full n at e → UntoldFirst (block (bufferAt f k .number) n at e) → n ≤ at
       → unreadIn w xs (block (bufferAt f k .number) n at e) ≡ []
   used-nothing k n at e x (inl z) l =
       let d : n - at ≡ 0 = omega arith in
-      ap (λ (i : ℕ). wrongsBy i e ++ map word (partOf (bufferAt f k .number * w + at) (n - at) xs)) z
+      ap (λ (l : List Item). l ++ map word (partOf (bufferAt f k .number * w + at) (n - at) xs)) (no-wrongs e z)
       ∙ ap (λ (i : ℕ). map word (partOf (bufferAt f k .number * w + at) i xs)) d
   used-nothing k n at e x (inr z) l = let N = numbers m w f k n at e S x in absurd (omega (arith, N .some))
 
@@ -153,7 +170,7 @@ module _ (m w : ℕ) (f : File) (S : Sound m w f) (xs : List ℕ) (long : m * w 
   some-left [] rest h = absurd (omega arith)
   some-left (i ∷ items) rest h = refl
 
-  fresh-some : (k : Side) (n at : ℕ) (e : Checked) → isSide k ≡ true → slotAt f k ≡ Full n at e → at < n
+  fresh-some : (k : Side) (n at : ℕ) (e : Arrival) → isSide k ≡ true → slotAt f k ≡ Full n at e → at < n
       → 1 ≤ length (unreadIn w xs (block (bufferAt f k .number) n at e))
   fresh-some k n at e s x l =
       let N = numbers m w f k n at e S x in
@@ -162,15 +179,11 @@ module _ (m w : ℕ) (f : File) (S : Sound m w f) (xs : List ℕ) (long : m * w 
       buffer-inside m w (bufferAt f k .number) n (number-less m w f S k own) (omega (arith, size-fits m w f S, N .fit)) in
       let long-part : length (partOf (bufferAt f k .number * w + at) (n - at) xs) ≡ n - at =
       length-part (bufferAt f k .number * w + at) (n - at) xs (omega arith) in
-      go (e .error) (omega (arith, length-map (partOf (bufferAt f k .number * w + at) (n - at) xs) word, long-part))
-    where
-      go : (i : ℕ) → 1 ≤ length (map word (partOf (bufferAt f k .number * w + at) (n - at) xs))
-          → 1 ≤ length (wrongsBy i e ++ map word (partOf (bufferAt f k .number * w + at) (n - at) xs))
-      go zero h = h
-      go (suc i) h = omega arith
+      omega (arith, length-append (wrongs (e .failed) (e .check)) (map word (partOf (bufferAt f k .number * w + at) (n - at) xs)),
+      length-map (partOf (bufferAt f k .number * w + at) (n - at) xs) word, long-part)
 
   -- "If that block was used up by an earlier get, it first becomes empty and the next oldest is looked at."
-  pub passed-brought : (came : List (List ℕ)) (gone : List Item) (owed : List (List Item)) → Brought w f xs came gone owed
+  pub passed-brought : (came : List Came) (gone : List Item) (owed : List (List Item)) → Brought w f xs came gone owed
       → Brought w (passed f) xs came gone (pastUsed owed)
   unfolding passed withoutOldest emptiedAt
   passed-brought came gone owed T = go (oldest f) (aged f)

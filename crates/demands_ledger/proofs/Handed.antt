@@ -4,7 +4,8 @@ use mathlib.Core.Logic.{_≢_}
 use mathlib.Core.Bool.{Bool, true, false, cond, _&&_, _||_}
 use mathlib.Core.List.{List, [], _∷_, map}
 use Prim.Native.Nat.{ℕ, _+_}
-use lib.Dec.{eqb}
+use lib.Dec.{eqb, ltb}
+use lib.ListN.{length}
 use borrow.Author.Tests.{eqb-true}
 use Rattle.area.specs.Parts.{partOf}
 use Rattle.area.proofs.Walks.{true-not-false, and-left, and-right}
@@ -75,7 +76,7 @@ asks-other n ne = go (eqb n 0) (eqb n 1) refl
 
 -- nothing is shown but what a write sends
 shows-none : (x : Effect) (w : ℕ) (f : File) (xs : List ℕ) → isSending x ≡ false → partOf (shownStart x w f) (shownCount x f) xs ≡ []
-shows-none Delivers w f xs e = refl
+shows-none (Delivers failed) w f xs e = refl
 shows-none MeetsMark w f xs e = refl
 shows-none GivesBack w f xs e = refl
 shows-none Sends w f xs e = true-not-false refl e
@@ -84,7 +85,7 @@ shows-none Keeps w f xs e = refl
 shows-sent : (x : Effect) (w : ℕ) (f : File) (xs words : List ℕ) → isSending x ≡ true
     → partOf (shownStart x w f) (shownCount x f) (reportedArea x f w words xs) ≡ partOf (sendStart w f) (sendWords f) xs
 unfolding reportedArea
-shows-sent Delivers w f xs words e = true-not-false e refl
+shows-sent (Delivers failed) w f xs words e = true-not-false e refl
 shows-sent MeetsMark w f xs words e = true-not-false e refl
 shows-sent GivesBack w f xs words e = true-not-false e refl
 shows-sent Sends w f xs words e = refl
@@ -139,14 +140,14 @@ module _ (s : State) (area : List ℕ) (ledgers : ℕ → Ledger) (K : Kept s ar
       partOf (reportBy s area channel unit outcome words .start) (reportBy s area channel unit outcome words .count)
       (reportByArea s area channel unit outcome words)
 
-  sends : isSending (effectAt c unit outcome) ≡ (isWriteOp (opOf (ledgers i .asked)) && (eqb result 1 || eqb result 4))
+  sends : isSending (effectAt c unit outcome (length words)) ≡ (isWriteOp (opOf (ledgers i .asked)) && (eqb result 1 || eqb result 4))
   unfolding reportBy
   sends =
-      sends-exactly (operationAt c unit) (judgeOf c unit outcome)
+      sends-exactly (ltb 0 (length words)) (operationAt c unit) (judgeOf c unit outcome)
       ∙ ap₂ (λ (b : Bool) (n : ℕ). b && (eqb n 1 || eqb n 4)) writes
       (sym (ap (λ (x : ReportChange). x .result) (change s area ledgers K channel unit outcome words z)))
 
-  shown-is : shown ≡ partOf (shownStart (effectAt c unit outcome) (s .w) f) (shownCount (effectAt c unit outcome) f)
+  shown-is : shown ≡ partOf (shownStart (effectAt c unit outcome (length words)) (s .w) f) (shownCount (effectAt c unit outcome (length words)) f)
       (reportByArea s area channel unit outcome words)
   unfolding reportBy
   shown-is =
@@ -156,13 +157,13 @@ module _ (s : State) (area : List ℕ) (ledgers : ℕ → Ledger) (K : Kept s ar
   -- "if it ends a write with 01 or 04, the block's words"
   pub shown-out : ledgers i .asked ≡ 1 → (eqb result 1 || eqb result 4) ≡ true → shown ≡ partOf (sendStart (s .w) f) (sendWords f) area
   shown-out e h =
-      shown-is ∙ ap (partOf (shownStart (effectAt c unit outcome) (s .w) f) (shownCount (effectAt c unit outcome) f))
+      shown-is ∙ ap (partOf (shownStart (effectAt c unit outcome (length words)) (s .w) f) (shownCount (effectAt c unit outcome (length words)) f))
       (after-area s area ledgers K channel unit outcome words z)
-      ∙ shows-sent (effectAt c unit outcome) (s .w) f area words
+      ∙ shows-sent (effectAt c unit outcome (length words)) (s .w) f area words
       (sends ∙ ap₂ (λ (a b : Bool). a && b) (asks-write (ledgers i .asked) e) h)
 
   shown-none : (isWriteOp (opOf (ledgers i .asked)) && (eqb result 1 || eqb result 4)) ≡ false → shown ≡ []
-  shown-none h = shown-is ∙ shows-none (effectAt c unit outcome) (s .w) f (reportByArea s area channel unit outcome words) (sends ∙ h)
+  shown-none h = shown-is ∙ shows-none (effectAt c unit outcome (length words)) (s .w) f (reportByArea s area channel unit outcome words) (sends ∙ h)
 
   pub shown-other : ledgers i .asked ≢ 1 → shown ≡ []
   shown-other ne = shown-none (ap (λ (b : Bool). b && (eqb result 1 || eqb result 4)) (asks-other (ledgers i .asked) ne))

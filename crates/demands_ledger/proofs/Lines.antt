@@ -12,7 +12,7 @@ use lib.Seq.{take-take, drop-drop}
 use Rattle.area.specs.Parts.{partOf}
 use Rattle.area.proofs.Walks.{true-not-false, and-left}
 use Rattle.area.proofs.Marks.{cond-true}
-use Rattle.word.specs.declared.Checked.{Checked}
+use Rattle.file.specs.declared.Arrival.{Arrival}
 use Rattle.file.specs.declared.Slot.{Slot}
 use Rattle.file.specs.declared.Slot.the-variants.{Empty, Taken, Part, Full}
 use Rattle.file.specs.declared.Side.{Side}
@@ -37,14 +37,14 @@ use Rattle.demands_ledger.proofs.Lists.{all-append, map-same}
 
 -- ---- what holds of every full block
 
-all-in : (P : Block → Type 0) (b : ℕ) (x : Slot) → ((n at : ℕ) (e : Checked) → x ≡ Full n at e → P (block b n at e)) → All P (fullIn b x)
+all-in : (P : Block → Type 0) (b : ℕ) (x : Slot) → ((n at : ℕ) (e : Arrival) → x ≡ Full n at e → P (block b n at e)) → All P (fullIn b x)
 all-in P b Empty h = none
 all-in P b Taken h = none
 all-in P b (Part n) h = none
 all-in P b (Full n at e) h = more (h n at e refl) none
 
 pub all-line : (P : Block → Type 0) (f : File)
-    → ((k : Side) (n at : ℕ) (e : Checked) → isSide k ≡ true → slotAt f k ≡ Full n at e → P (block (bufferAt f k .number) n at e))
+    → ((k : Side) (n at : ℕ) (e : Arrival) → isSide k ≡ true → slotAt f k ≡ Full n at e → P (block (bufferAt f k .number) n at e))
     → All P (line f)
 unfolding line
 all-line P f h = go (f .turned)
@@ -83,7 +83,7 @@ same-first w b n xs zs h e = sym (take-take n w (drop (b * w) zs) h) ∙ ap (tak
 module _ (m w : ℕ) (f : File) (S : Sound m w f) where
   module _ (xs zs : List ℕ) (same : (k : Side) → owns f k ≡ true → isFull (slotAt f k) ≡ true → partOf (bufferAt f k .number * w) w zs ≡ partOf
       (bufferAt f k .number * w) w xs) where
-    there : (k : Side) (n at : ℕ) (e : Checked) → isSide k ≡ true → slotAt f k ≡ Full n at e
+    there : (k : Side) (n at : ℕ) (e : Arrival) → isSide k ≡ true → slotAt f k ≡ Full n at e
         → partOf (bufferAt f k .number * w) w zs ≡ partOf (bufferAt f k .number * w) w xs
     there k n at e s x = same k (owns-used m w f k S s (ap isEmpty x)) (ap isFull x)
 
@@ -100,7 +100,7 @@ module _ (m w : ℕ) (f : File) (S : Sound m w f) where
         map-same (unreadIn w zs) (unreadIn w xs) (line f)
         (all-line _ f (λ k n at e s x.
         let N = numbers m w f k n at e S x in
-        ap (λ (l : List ℕ). wrongs e ++ map word l)
+        ap (λ (l : List ℕ). wrongs (e .failed) (e .check) ++ map word l)
         (same-part w (bufferAt f k .number) at (n - at) xs zs (omega (arith, size-fits m w f S, N .fit, N .place)) (there k n at e s x))))
 
   -- the two buffers of a file are two

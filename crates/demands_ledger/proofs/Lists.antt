@@ -5,7 +5,7 @@ use mathlib.Core.List.{List, [], _∷_, _++_, map, append-assoc, append-nil}
 use Prim.Native.Nat.{ℕ}
 use Rattle.word.specs.CheckWords.{nextNumber}
 use Rattle.block.specs.Blocks.{judgedBlock}
-use Rattle.demands_ledger.specs.Ledgers.{contentsOf}
+use Rattle.demands_ledger.specs.Ledgers.{Came, contentsOf}
 use Rattle.demands_ledger.specs.Blocks.{checked, allChecked, joined, contents, numberAfter}
 use Rattle.demands_ledger.proofs.Told.{All, none, more}
 
@@ -22,15 +22,15 @@ unfolding allChecked numberAfter
 checked-last s c k [] d = refl
 checked-last s c k (x ∷ ds) d = ap (λ (l : List (List ℕ)). checked s c k x ∷ l) (checked-last s c (nextNumber k) ds d)
 
-pub contents-last : (s c : Bool) (k : ℕ) (bs : List (List ℕ)) (b : List ℕ)
-    → contents s c k (bs ++ (b ∷ [])) ≡ contents s c k bs ++ contentsOf s c (judgedBlock b s c (numberAfter k bs) .found) b
+pub contents-last : (s c : Bool) (k : ℕ) (bs : List Came) (b : Came)
+    → contents s c k (bs ++ (b ∷ [])) ≡ contents s c k bs ++ contentsOf s c (b .failed) (judgedBlock (b .words) s c (numberAfter k bs) .found) (b .words)
 unfolding contents numberAfter
 contents-last s c k [] b = append-nil _
 contents-last s c k (x ∷ bs) b =
-    ap (λ l. contentsOf s c (judgedBlock x s c k .found) x ++ l) (contents-last s c (nextNumber k) bs b)
-    ∙ sym (append-assoc (contentsOf s c (judgedBlock x s c k .found) x) (contents s c (nextNumber k) bs) _)
+    ap (λ l. contentsOf s c (x .failed) (judgedBlock (x .words) s c k .found) (x .words) ++ l) (contents-last s c (nextNumber k) bs b)
+    ∙ sym (append-assoc (contentsOf s c (x .failed) (judgedBlock (x .words) s c k .found) (x .words)) (contents s c (nextNumber k) bs) _)
 
-pub number-last : (k : ℕ) (bs : List (List ℕ)) (b : List ℕ) → numberAfter k (bs ++ (b ∷ [])) ≡ nextNumber (numberAfter k bs)
+pub number-last : {A : Type 0} (k : ℕ) (bs : List A) (b : A) → numberAfter k (bs ++ (b ∷ [])) ≡ nextNumber (numberAfter k bs)
 unfolding numberAfter
 number-last k [] b = refl
 number-last k (x ∷ bs) b = number-last (nextNumber k) bs b

@@ -8,7 +8,7 @@ use lib.Dec.{eqb, ltb}
 use lib.ListN.{length}
 use borrow.Author.Tests.{eq-eqb, ne-eqb}
 use Rattle.area.proofs.Marks.{cond-true, cond-false}
-use Rattle.word.specs.Checks.{unchecked}
+use Rattle.file.specs.Arrivals.{noArrival}
 use Rattle.file.specs.declared.Slot.the-variants.{Empty, Part, Full}
 use Rattle.file.specs.declared.File.{File}
 use Rattle.file.specs.Sides.{bufferAt, slotAt, isSide, partSide, oldest}
@@ -48,13 +48,13 @@ put-same : (m w : ℕ) (f : File) → Sound m w f → isSide (putSide f) ≡ tru
 unfolding filledAt
 put-same m w f S room = subst (Same f) (sym (put-is f room (put-at m w f S room))) (go (ltb (f .size) (wordsAfter f + f .rlen)))
   where
-    go : (t : Bool) → Same f (cond t (filledAt f (putSide f) (wordsAfter f) unchecked) (withSlot f (putSide f) (Part (wordsAfter f)) false (f .block)))
-    go true = slot-same f (putSide f) (Full (wordsAfter f) 0 unchecked) (turnedBy f (putSide f)) (nextNumber (f .block))
+    go : (t : Bool) → Same f (cond t (filledAt f (putSide f) (wordsAfter f) noArrival) (withSlot f (putSide f) (Part (wordsAfter f)) false (f .block)))
+    go true = slot-same f (putSide f) (Full (wordsAfter f) 0 noArrival) (turnedBy f (putSide f)) (nextNumber (f .block))
     go false = slot-same f (putSide f) (Part (wordsAfter f)) false (f .block)
 
 seal-same : (f : File) → Same f (sealedFile f)
 unfolding sealedFile filledAt
-seal-same f = slot-same f (partSide f) (Full (partLength f) 0 unchecked) (turnedBy f (partSide f)) (nextNumber (f .block))
+seal-same f = slot-same f (partSide f) (Full (partLength f) 0 noArrival) (turnedBy f (partSide f)) (nextNumber (f .block))
 
 pub drop-same : (f : File) → Same f (withoutOldest f)
 unfolding withoutOldest emptiedAt

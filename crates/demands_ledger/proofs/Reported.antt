@@ -5,9 +5,9 @@ use mathlib.Core.Bool.{Bool, true, false, not, cond, _&&_, _||_}
 use mathlib.Core.List.{List, []}
 use Prim.Native.Nat.{ℕ, _*_, _≤_}
 use native.Mathlib.Omega.{arith}
-use lib.Dec.{eqb, leb}
+use lib.Dec.{eqb, leb, ltb}
 use lib.ListN.{length}
-use borrow.Author.Tests.{eq-eqb, ltb-false}
+use borrow.Author.Tests.{eq-eqb, ne-eqb, ltb-false}
 use Rattle.area.specs.Parts.{partOf, pastedIn}
 use Rattle.area.proofs.Walks.{and-left, or-left, or-right}
 use Rattle.area.proofs.Marks.{cond-true, cond-false}
@@ -51,12 +51,12 @@ use Rattle.pack_record.proofs.Written.{only-wider, pasted-only}
 use Rattle.area.proofs.Pastes.{paste-fitting}
 use Rattle.pack.specs.Calls.{report, answerOf}
 use Rattle.pack.proofs.Kept.{call-kept}
-use Rattle.demands_ledger.specs.Ledgers.{Ledger, asBlock, owedFor, withReport, isOn}
+use Rattle.demands_ledger.specs.Ledgers.{Ledger, asBlock, failedBy, cameBy, owedFor, withReport, isOn}
 use Rattle.demands_ledger.specs.Blocks.{numberAfter}
 use Rattle.demands_ledger.proofs.Told.{Told}
 use Rattle.demands_ledger.proofs.Frames.{marking, Kept, others-same, kept-file}
 use Rattle.demands_ledger.proofs.Booked.{plus, plus-none, told-back, told-mark, told-sent, told-came}
-use Rattle.demands_ledger.proofs.Deliveries.{words-delivered, meets, mark-met, write-ready}
+use Rattle.demands_ledger.proofs.Deliveries.{words-kept, delivery-told, meets, mark-met, write-ready}
 
 module _ (s : State) (area : List ℕ) (ledgers : ℕ → Ledger) (K : Kept s area ledgers) (channel unit outcome : ℕ) (words : List ℕ)
     (z : reportBy s area channel unit outcome words .refusal ≡ 0) where
@@ -70,7 +70,7 @@ module _ (s : State) (area : List ℕ) (ledgers : ℕ → Ledger) (K : Kept s ar
   c = channelAt s channel
 
   abbrev effect : Effect
-  effect = effectAt c unit outcome
+  effect = effectAt c unit outcome (length words)
 
   abbrev L : Ledger
   L = ledgers i
@@ -91,11 +91,18 @@ module _ (s : State) (area : List ℕ) (ledgers : ℕ → Ledger) (K : Kept s ar
   S : Sound (s .m) (s .w) f
   S = sound-facts s (K .good .right) .files i open-file
 
-  no-words : isDelivery effect ≡ false → words ≡ []
+  -- the result of the report, and the words that are kept of it
+  abbrev result : ℕ
+  result = resultNumber (judgeOf c unit outcome)
+
+  abbrev kept : List ℕ
+  kept = cond (not (eqb result 0)) words []
+
+  no-words : isDelivery effect ≡ false → kept ≡ []
   no-words =
       let x = report-exactly s area channel unit outcome words in
       let row = x .table .none (sym (x .number) ∙ z) 1 _ here in
-      words-delivered c unit outcome words (or-right (leb unitCount unit || leb outcomeCount outcome) _ (or-right (reportWrong s (length area) channel) _ row))
+      words-kept c unit outcome words (or-right (leb unitCount unit || leb outcomeCount outcome) _ (or-right (reportWrong s (length area) channel) _ row))
       (ready .works)
 
   pub after-area : reportByArea s area channel unit outcome words ≡ reportedArea effect f (s .w) words area
@@ -105,13 +112,14 @@ module _ (s : State) (area : List ℕ) (ledgers : ℕ → Ledger) (K : Kept s ar
   -- what the report makes of its file, of the area and of the file's ledger
   abbrev madeLedger : Effect → Ledger
   madeLedger x =
-      plus L (meets x) (asBlock (partOf (shownStart x (s .w) f) (shownCount x f) (reportedArea x f (s .w) words area))) (asBlock words)
-      (owedFor (L .chosen .sequence) (L .chosen .check) (deliveryCheck x f words) words)
+      plus L (meets x) (asBlock (partOf (shownStart x (s .w) f) (shownCount x f) (reportedArea x f (s .w) words area))) (cameBy (failedBy result) kept)
+      (owedFor (L .chosen .sequence) (L .chosen .check) (failedBy result) (deliveryCheck x f words) kept)
 
-  nothing-more : (g : File) (mark : Bool) → words ≡ [] → Told (s .w) g area (marking (mark || L .marked) L)
-      → Told (s .w) g area (plus L mark [] (asBlock words) (owedFor (L .chosen .sequence) (L .chosen .check) unchecked words))
+  nothing-more : (g : File) (mark : Bool) → kept ≡ [] → Told (s .w) g area (marking (mark || L .marked) L)
+      → Told (s .w) g area (plus L mark [] (cameBy (failedBy result) kept) (owedFor (L .chosen .sequence) (L .chosen .check) (failedBy result) unchecked kept))
   nothing-more g mark e T =
-      subst (λ (ws : List ℕ). Told (s .w) g area (plus L mark [] (asBlock ws) (owedFor (L .chosen .sequence) (L .chosen .check) unchecked ws))) (sym e)
+      subst (λ (ws : List ℕ). Told (s .w) g area
+      (plus L mark [] (cameBy (failedBy result) ws) (owedFor (L .chosen .sequence) (L .chosen .check) (failedBy result) unchecked ws))) (sym e)
       (subst (Told (s .w) g area) (plus-none L mark) T)
 
   pub sending : isWrite (operationAt c unit) ≡ true → (f .output ≡ true) × (hasFull f ≡ true)
@@ -121,19 +129,28 @@ module _ (s : State) (area : List ℕ) (ledgers : ℕ → Ledger) (K : Kept s ar
   told-reported : (x : Effect) → effect ≡ x
       → Told (s .w) (reportedFile x f (length words) (deliveryCheck x f words)) (reportedArea x f (s .w) words area) (madeLedger x)
   unfolding reportedFile reportedArea afterWrite
-  told-reported Delivers e =
+  told-reported (Delivers failed) e =
       let d : isDelivery effect ≡ true = ap isDelivery e in
       let D = report-delivers s area channel unit outcome words (K .good .sixteen) number d in
-      told-came (s .m) (s .w) f S area long L words (D .side) (ready .fits d) (D .inside) (D .room) open-file (K .told i)
+      let R = delivery-told c unit outcome (length words) failed e in
+      subst (λ (ws : List ℕ). Told (s .w) (reportedFile (Delivers failed) f (length words) (deliveryCheck (Delivers failed) f words))
+      (reportedArea (Delivers failed) f (s .w) words area)
+      (plus L false [] (cameBy (failedBy result) ws)
+      (owedFor (L .chosen .sequence) (L .chosen .check) (failedBy result) (deliveryCheck (Delivers failed) f words) ws))) (sym (cond-true words [] (R .answers)))
+      (subst (λ (x : ℕ). Told (s .w) (reportedFile (Delivers failed) f (length words) (deliveryCheck (Delivers failed) f words))
+      (reportedArea (Delivers failed) f (s .w) words area)
+      (plus L false [] (cameBy x words)
+      (owedFor (L .chosen .sequence) (L .chosen .check) x (deliveryCheck (Delivers failed) f words) words))) (sym (R .error))
+      (told-came (s .m) (s .w) f S area long L failed words (D .side) (ready .fits d) (D .inside) (D .room) open-file (K .told i)))
   told-reported MeetsMark e = nothing-more (metMark f) true (no-words (ap isDelivery e)) (told-mark (s .w) f area L (K .told i))
   told-reported GivesBack e = nothing-more (gaveBack f) false (no-words (ap isDelivery e)) (told-back (s .w) f area L (K .told i))
   told-reported Sends e =
       let writes : isWrite (operationAt c unit) ≡ true =
-      and-left (isWrite (operationAt c unit)) _ (sym (sends-exactly (operationAt c unit) (judgeOf c unit outcome)) ∙ ap isSending e) in
+      and-left (isWrite (operationAt c unit)) _ (sym (sends-exactly (ltb 0 (length words)) (operationAt c unit) (judgeOf c unit outcome)) ∙ ap isSending e) in
       let R = sending writes in
       subst (λ (ws : List ℕ). Told (s .w) (withoutOldest f) area
-      (plus L false (asBlock (partOf (sendStart (s .w) f) (sendWords f) area)) (asBlock ws)
-      (owedFor (L .chosen .sequence) (L .chosen .check) unchecked ws)))
+      (plus L false (asBlock (partOf (sendStart (s .w) f) (sendWords f) area)) (cameBy (failedBy result) ws)
+      (owedFor (L .chosen .sequence) (L .chosen .check) (failedBy result) unchecked ws)))
       (sym (no-words (ap isDelivery e)))
       (told-sent (s .m) (s .w) f S area long L open-file (R .0) (R .1) (K .told i))
   told-reported Keeps e = nothing-more f false (no-words (ap isDelivery e)) (K .told i)
@@ -152,7 +169,7 @@ module _ (s : State) (area : List ℕ) (ledgers : ℕ → Ledger) (K : Kept s ar
   change = rw (eq-eqb (reportRefusal (reportWrong s (length area) channel) f c unit outcome (s .w) area words) 0 number)
 
   met : eqb (resultNumber (judgeOf c unit outcome)) 3 ≡ meets effect
-  met = mark-met c unit outcome (booked c unit outcome (ready .works) (ready .allowed))
+  met = mark-met c unit outcome (length words) (booked c unit outcome (ready .works) (ready .allowed))
 
   -- what the answer tells of the delivery is what was found
   told-delivery : toldBy (deliveryOf effect (deliveryCheck effect f words)) ≡ deliveryCheck effect f words
@@ -231,31 +248,38 @@ module _ (s : State) (area : List ℕ) (ledgers : ℕ → Ledger) (K : Kept s ar
       (subst (λ (h : File). Told (s .w) h zs (noting i)) (sym after-file)
       (subst (Told (s .w) (reportChange s area channel unit outcome words .file) zs) (sym noting-here)
       (subst (λ (x : ReportChange). Told (s .w) (x .file) zs
-      (plus L (eqb (x .result) 3) (asBlock (partOf (x .start) (x .count) zs)) (asBlock words)
-      (owedFor (L .chosen .sequence) (L .chosen .check) (toldBy (x .delivery)) words))) (sym change)
+      (plus L (eqb (x .result) 3) (asBlock (partOf (x .start) (x .count) zs)) (cameBy (failedBy (x .result)) (cond (not (eqb (x .result) 0)) words []))
+      (owedFor (L .chosen .sequence) (L .chosen .check) (failedBy (x .result)) (toldBy (x .delivery)) (cond (not (eqb (x .result) 0)) words [])))) (sym change)
       (subst (λ (e : Checked). Told (s .w) (reportedFile effect f (length words) (deliveryCheck effect f words)) zs
-      (plus L (eqb (resultNumber (judgeOf c unit outcome)) 3) (asBlock (partOf (shownStart effect (s .w) f) (shownCount effect f) zs)) (asBlock words)
-      (owedFor (L .chosen .sequence) (L .chosen .check) e words))) (sym told-delivery)
+      (plus L (eqb (resultNumber (judgeOf c unit outcome)) 3) (asBlock (partOf (shownStart effect (s .w) f) (shownCount effect f) zs)) (cameBy (failedBy result) kept)
+      (owedFor (L .chosen .sequence) (L .chosen .check) (failedBy result) e kept))) (sym told-delivery)
       (subst (λ (mark : Bool). Told (s .w) (reportedFile effect f (length words) (deliveryCheck effect f words)) zs
-      (plus L mark (asBlock (partOf (shownStart effect (s .w) f) (shownCount effect f) zs)) (asBlock words)
-      (owedFor (L .chosen .sequence) (L .chosen .check) (deliveryCheck effect f words) words))) (sym met)
+      (plus L mark (asBlock (partOf (shownStart effect (s .w) f) (shownCount effect f) zs)) (cameBy (failedBy result) kept)
+      (owedFor (L .chosen .sequence) (L .chosen .check) (failedBy result) (deliveryCheck effect f words) kept))) (sym met)
       (subst (λ (ys : List ℕ). Told (s .w) (reportedFile effect f (length words) (deliveryCheck effect f words)) ys
-      (plus L (meets effect) (asBlock (partOf (shownStart effect (s .w) f) (shownCount effect f) ys)) (asBlock words)
-      (owedFor (L .chosen .sequence) (L .chosen .check) (deliveryCheck effect f words) words))) (sym after-area)
+      (plus L (meets effect) (asBlock (partOf (shownStart effect (s .w) f) (shownCount effect f) ys)) (cameBy (failedBy result) kept)
+      (owedFor (L .chosen .sequence) (L .chosen .check) (failedBy result) (deliveryCheck effect f words) kept))) (sym after-area)
       (told-reported effect refl)))))))
 
-  -- what it answers of the block is the judgement of the words as delivered, with the number that the block is due
-  pub report-judged : words ≢ []
+  -- words with a report that answers its request are a delivered block
+  pub report-brings : words ≢ [] → reportBy s area channel unit outcome words .result ≢ 0 → isDelivery effect ≡ true
+  unfolding reportBy
+  report-brings some ended = go (isDelivery effect) refl
+    where
+      go : (t : Bool) → isDelivery effect ≡ t → t ≡ true
+      go true d = refl
+      go false d =
+          let ends : result ≢ 0 = λ q. ended (ap (λ (x : ReportChange). x .result) change ∙ q) in
+          absurd (some (sym (cond-true words [] (ap not (ne-eqb result 0 ends))) ∙ no-words d))
+
+  -- what a report that answers its request tells of the block is the judgement of the words as delivered, with the number that the block is due
+  pub report-judged : words ≢ [] → reportBy s area channel unit outcome words .result ≢ 0
       → reportBy s area channel unit outcome words .delivery ≡ With (judgedBlock words (f .sequence) (f .check) (numberAfter 1 (L .came)) .found)
   unfolding reportBy
-  report-judged some = go (isDelivery effect) refl
-    where
-      go : (t : Bool) → isDelivery effect ≡ t
-          → reportChange s area channel unit outcome words .delivery ≡ With (judgedBlock words (f .sequence) (f .check) (numberAfter 1 (L .came)) .found)
-      go true d =
-          let D = report-delivers s area channel unit outcome words (K .good .sixteen) number d in
-          ap (λ (x : ReportChange). x .delivery) change ∙ cond-true (With (deliveryCheck effect f words)) Without d
-          ∙ ap With (cond-true (judgedBlock words (f .sequence) (f .check) (f .block) .found) unchecked d)
-          ∙ ap (λ (n : ℕ). With (judgedBlock words (f .sequence) (f .check) n .found))
-          (K .told i .brought open-file (taken-input (s .m) (s .w) f S (D .side)) .number)
-      go false d = absurd (some (no-words d))
+  report-judged some ended =
+      let d = report-brings some ended in
+      let D = report-delivers s area channel unit outcome words (K .good .sixteen) number d in
+      ap (λ (x : ReportChange). x .delivery) change ∙ cond-true (With (deliveryCheck effect f words)) Without d
+      ∙ ap With (cond-true (judgedBlock words (f .sequence) (f .check) (f .block) .found) unchecked d)
+      ∙ ap (λ (n : ℕ). With (judgedBlock words (f .sequence) (f .check) n .found))
+      (K .told i .brought open-file (taken-input (s .m) (s .w) f S (D .side)) .number)

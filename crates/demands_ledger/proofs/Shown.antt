@@ -105,7 +105,7 @@ module _ (w : ℕ) (f : File) (area puts : List ℕ) (sent : List (List ℕ)) (s
 
 -- ---- numbers
 
-numbers-from : (k : ℕ) (bs : List (List ℕ)) → k < blockNumbers → numberAfter k bs ≡ (k + length bs) % blockNumbers
+numbers-from : {A : Type 0} (k : ℕ) (bs : List A) → k < blockNumbers → numberAfter k bs ≡ (k + length bs) % blockNumbers
 unfolding numberAfter
 numbers-from k [] l = let q : k + 0 ≡ k = omega arith in sym (ap (λ (n : ℕ). n % blockNumbers) q ∙ mod-eq-of-lt l)
 numbers-from k (b ∷ bs) l =
@@ -114,5 +114,5 @@ numbers-from k (b ∷ bs) l =
     numbers-from (nextNumber k) bs i ∙ mod-add-mod (k + 1) blockNumbers (length bs) ∙ ap (λ (n : ℕ). n % blockNumbers) j
 
 -- after so many blocks comes the number that is one more than they are, of 32,768
-pub numbers : (bs : List (List ℕ)) → numberAfter 1 bs ≡ (1 + length bs) % blockNumbers
+pub numbers : {A : Type 0} (bs : List A) → numberAfter 1 bs ≡ (1 + length bs) % blockNumbers
 numbers bs = numbers-from 1 bs (omega arith)

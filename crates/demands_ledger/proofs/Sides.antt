@@ -8,7 +8,7 @@ use lib.Dec.{ltb}
 use Rattle.area.specs.Parts.{partOf}
 use Rattle.area.proofs.Walks.{true-not-false}
 use Rattle.file.proofs.SlotLaws.{empty-words}
-use Rattle.word.specs.declared.Checked.{Checked}
+use Rattle.file.specs.declared.Arrival.{Arrival}
 use Rattle.file.specs.declared.Slot.{Slot}
 use Rattle.file.specs.declared.Slot.the-variants.{Empty, Taken, Part, Full}
 use Rattle.file.specs.declared.Side.{Side}
@@ -158,7 +158,7 @@ module _ (f : File) (k : Side) (s : isSide k ≡ true) (alone : isPart (other f 
       go Neither = refl
 
   -- a full block in buffer k: there is none
-  pub part-gone : (w n at : ℕ) (e : Checked) (t : Bool) (b : ℕ) (zs : List ℕ) → partIn w (withSlot f k (Full n at e) t b) zs ≡ []
+  pub part-gone : (w n at : ℕ) (e : Arrival) (t : Bool) (b : ℕ) (zs : List ℕ) → partIn w (withSlot f k (Full n at e) t b) zs ≡ []
   unfolding partLength partSide
   part-gone w n at e t b zs = ap (λ (j : ℕ). partOf (partStart w (withSlot f k (Full n at e) t b)) j zs) (go k s alone)
     where

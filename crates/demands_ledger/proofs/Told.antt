@@ -6,8 +6,9 @@ use mathlib.Core.List.{List, [], _∷_, _++_}
 use Prim.Native.Nat.{ℕ}
 use lib.ListN.{length}
 use Rattle.file.specs.declared.File.{File}
+use Rattle.file.specs.Arrivals.{errorDue}
 use Rattle.file_input.specs.Ages.{Block, line}
-use Rattle.demands_ledger.specs.Ledgers.{Item, Choice, Ledger}
+use Rattle.demands_ledger.specs.Ledgers.{Item, Came, Choice, Ledger}
 use Rattle.demands_ledger.specs.Blocks.{blocksIn, unreadOf, partIn, allChecked, joined, contents, numberAfter, Divided, Filling}
 
 -- every element has the property
@@ -27,10 +28,10 @@ pub record Wrote (w : ℕ) (f : File) (area puts : List ℕ) (sent : List (List 
 
 -- an untold error is of a block of which nothing was given
 abbrev pub UntoldFirst : Block → Type 0
-UntoldFirst b = (b .found .error ≡ 0) ⊎ (b .place ≡ 0)
+UntoldFirst b = (errorDue (b .arrival) ≡ 0) ⊎ (b .place ≡ 0)
 
 -- an input file: what is owed lies unread in the area; what is gone and what is owed are what was delivered
-pub record Brought (w : ℕ) (f : File) (area : List ℕ) (came : List (List ℕ)) (gone : List Item) (owed : List (List Item)) : Type 0 where
+pub record Brought (w : ℕ) (f : File) (area : List ℕ) (came : List Came) (gone : List Item) (owed : List (List Item)) : Type 0 where
   pub lies : owed ≡ unreadOf w f area
   pub items : gone ++ joined owed ≡ contents (f .sequence) (f .check) 1 came
   pub number : f .block ≡ numberAfter 1 came

@@ -12,7 +12,7 @@ use Rattle.area.specs.Parts.{partOf}
 use Rattle.area.proofs.Walks.{true-not-false, and-left, and-right}
 use Rattle.area.proofs.Pastes.{length-part}
 use Rattle.area.proofs.Marks.{cond-true}
-use Rattle.word.specs.Checks.{unchecked}
+use Rattle.file.specs.Arrivals.{noArrival}
 use Rattle.file.specs.declared.Slot.the-variants.{Empty, Part, Full}
 use Rattle.file.specs.declared.Side.{Side}
 use Rattle.file.specs.declared.Side.the-variants.{Neither}
@@ -83,7 +83,7 @@ module _ (w : ℕ) (f g : File) (xs zs puts : List ℕ) (sent : List (List ℕ))
     pub wrote-block : (d puts′ seals′ : List ℕ) → Divided (f .rlen) (f .size) seals′ 0 (T .data-words)
         → Sized (f .rlen) (f .size) seals′ (length (joined (T .data-words))) d → f .rlen ≤ f .size
         → ((p : ℕ) → isSealed seals′ p ≡ true → p ≤ length (joined (T .data-words)) + length d)
-        → (b n : ℕ) → line g ≡ line f ++ (block b n 0 unchecked ∷ []) → partIn w g zs ≡ [] → g .block ≡ nextNumber (f .block)
+        → (b n : ℕ) → line g ≡ line f ++ (block b n 0 noArrival ∷ []) → partIn w g zs ≡ [] → g .block ≡ nextNumber (f .block)
         → partOf (b * w) (n + extra (f .sequence) (f .check)) zs ≡ checked (f .sequence) (f .check) (f .block) d → joined (T .data-words) ++ d ≡ puts′
         → Wrote w g zs puts′ sent seals′
     wrote-block d puts′ seals′ D S fit late b n l p e c q = record {
@@ -113,8 +113,8 @@ module _ (w : ℕ) (f g : File) (xs zs puts : List ℕ) (sent : List (List ℕ))
         lie : blocksIn w g zs ≡ blocksIn w f xs ++ (checked (f .sequence) (f .check) (f .block) d ∷ [])
         lie =
             ap (map (blockIn w (extra (g .sequence) (g .check)) zs)) l
-            ∙ ap (λ (k : ℕ). map (blockIn w k zs) (line f ++ (block b n 0 unchecked ∷ []))) same-extra
-            ∙ map-append (blockIn w (extra (f .sequence) (f .check)) zs) (line f) (block b n 0 unchecked ∷ [])
+            ∙ ap (λ (k : ℕ). map (blockIn w k zs) (line f ++ (block b n 0 noArrival ∷ []))) same-extra
+            ∙ map-append (blockIn w (extra (f .sequence) (f .check)) zs) (line f) (block b n 0 noArrival ∷ [])
             ∙ ap₂ (λ (u : List (List ℕ)) (v : List ℕ). u ++ (v ∷ [])) still c
 
   -- the oldest block is handed out
@@ -188,19 +188,19 @@ module _ (m w : ℕ) (f : File) (S : Sound m w f) (room : isSide (putSide f) ≡
       F = subst (Filling (f .rlen) (f .size) seals (length (joined (T .data-words)))) had (T .filling)
 
       go : (t : Bool) → ltb (f .size) (wordsAfter f + f .rlen) ≡ t
-          → Wrote w (cond t (filledAt f (putSide f) (wordsAfter f) unchecked) (withSlot f (putSide f) (Part (wordsAfter f)) false (f .block))) zs (puts ++ ys)
+          → Wrote w (cond t (filledAt f (putSide f) (wordsAfter f) noArrival) (withSlot f (putSide f) (Part (wordsAfter f)) false (f .block))) zs (puts ++ ys)
           sent seals
       go true e =
-          wrote-block w f (filledAt f (putSide f) (wordsAfter f) unchecked) xs zs puts sent seals
-          (slot-same f (putSide f) (Full (wordsAfter f) 0 unchecked) (turnedBy f (putSide f)) (nextNumber (f .block))) T still
+          wrote-block w f (filledAt f (putSide f) (wordsAfter f) noArrival) xs zs puts sent seals
+          (slot-same f (putSide f) (Full (wordsAfter f) 0 noArrival) (turnedBy f (putSide f)) (nextNumber (f .block))) T still
           (partOf (startAt f w (putSide f)) (partWords (slotAt f (putSide f))) xs ++ ys) (puts ++ ys) seals (T .sized)
           (filling-full (f .rlen) (f .size) seals (length (joined (T .data-words)))
           (partOf (startAt f w (putSide f)) (partWords (slotAt f (putSide f))) xs) ys F exact (record-some m w f S)
           (omega (arith, ltb-true (f .size) (wordsAfter f + f .rlen) e, long-part)))
           (record-fits m w f S) (λ p h. le-trans (F .unsealed p h) (omega arith)) (bufferAt f (putSide f) .number) (wordsAfter f)
-          (young f (putSide f) (wordsAfter f) unchecked room (no-full f (putSide f) (put-side-free f room)))
-          (part-gone f (putSide f) room (P .alone) w (wordsAfter f) 0 unchecked (turnedBy f (putSide f)) (nextNumber (f .block)) zs)
-          (slot-block f (putSide f) (Full (wordsAfter f) 0 unchecked) (turnedBy f (putSide f)) (nextNumber (f .block)) room)
+          (young f (putSide f) (wordsAfter f) noArrival room (no-full f (putSide f) (put-side-free f room)))
+          (part-gone f (putSide f) room (P .alone) w (wordsAfter f) 0 noArrival (turnedBy f (putSide f)) (nextNumber (f .block)) zs)
+          (slot-block f (putSide f) (Full (wordsAfter f) 0 noArrival) (turnedBy f (putSide f)) (nextNumber (f .block)) room)
           (filled (completes ∙ e))
           (ap (λ (v : List ℕ). joined (T .data-words) ++ (v ++ ys)) (sym had) ∙ sym (append-assoc (joined (T .data-words)) (partIn w f xs) ys)
           ∙ ap (λ (v : List ℕ). v ++ ys) (T .words))
@@ -242,8 +242,8 @@ module _ (m w : ℕ) (f : File) (S : Sound m w f) (part : isSide (partSide f) �
   pub seal-wrote : Wrote w (sealedFile f) zs puts sent (length puts ∷ seals)
   unfolding sealedFile filledAt partStart
   seal-wrote =
-      wrote-block w f (filledAt f (partSide f) (partLength f) unchecked) xs zs puts sent seals
-      (slot-same f (partSide f) (Full (partLength f) 0 unchecked) (turnedBy f (partSide f)) (nextNumber (f .block))) T
+      wrote-block w f (filledAt f (partSide f) (partLength f) noArrival) xs zs puts sent seals
+      (slot-same f (partSide f) (Full (partLength f) 0 noArrival) (turnedBy f (partSide f)) (nextNumber (f .block))) T
       (blocks-same m w f S xs zs (beside m w f S (partSide f) xs zs (Q .own) (part-side-free f part) only))
       (partIn w f xs) puts (length puts ∷ seals)
       (divided-sealed (f .rlen) (f .size) seals (length puts) 0 (T .data-words) (omega (arith, all-put)) (T .sized))
@@ -252,9 +252,9 @@ module _ (m w : ℕ) (f : File) (S : Sound m w f) (part : isSide (partSide f) �
       (λ p h. which-sealed (f .rlen) (f .size) seals (p ≤ length (joined (T .data-words)) + length (partIn w f xs)) (length puts) p h
       (λ e. omega (arith, all-put)) (λ e. omega (arith, T .filling .unsealed p e)))
       (bufferAt f (partSide f) .number) (partLength f)
-      (young f (partSide f) (partLength f) unchecked part (no-full f (partSide f) (part-side-free f part)))
-      (part-gone f (partSide f) part (Q .alone) w (partLength f) 0 unchecked (turnedBy f (partSide f)) (nextNumber (f .block)) zs)
-      (slot-block f (partSide f) (Full (partLength f) 0 unchecked) (turnedBy f (partSide f)) (nextNumber (f .block)) part)
+      (young f (partSide f) (partLength f) noArrival part (no-full f (partSide f) (part-side-free f part)))
+      (part-gone f (partSide f) part (Q .alone) w (partLength f) 0 noArrival (turnedBy f (partSide f)) (nextNumber (f .block)) zs)
+      (slot-block f (partSide f) (Full (partLength f) 0 noArrival) (turnedBy f (partSide f)) (nextNumber (f .block)) part)
       shut (T .words)
 
 -- ---- a write that is done with its block

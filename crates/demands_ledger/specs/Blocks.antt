@@ -14,7 +14,7 @@ use Rattle.block.specs.Blocks.{judgedBlock}
 use Rattle.file.specs.declared.File.{File}
 use Rattle.file_output.specs.Parts.{partStart, partLength}
 use Rattle.file_input.specs.Ages.{Block, line}
-use Rattle.demands_ledger.specs.Ledgers.{Item, word, wrongs, contentsOf}
+use Rattle.demands_ledger.specs.Ledgers.{Item, word, Came, wrongs, contentsOf}
 
 -- ---- in the area: "Buffer i is words i×W up to (i+1)×W."
 
@@ -24,7 +24,7 @@ blockIn w e area b = partOf (b .number * w) (b .words + e) area
 
 -- what get has not given of a block
 abbrev pub unreadIn : ℕ → List ℕ → Block → List Item
-unreadIn w area b = wrongs (b .found) ++ map word (partOf (b .number * w + b .place) (b .words - b .place) area)
+unreadIn w area b = wrongs (b .arrival .failed) (b .arrival .check) ++ map word (partOf (b .number * w + b .place) (b .words - b .place) area)
 
 -- the full blocks of a file, the oldest first
 abbrev pub blocksIn : ℕ → File → List ℕ → List (List ℕ)
@@ -53,15 +53,15 @@ unfoldable pub joined : {A : Type 0} → List (List A) → List A
 joined [] = []
 joined (x ∷ xs) = x ++ joined xs
 
--- what a reader must meet in blocks that were delivered in this order, numbered from k on: the error of each, with what was found, is its judgement
--- as delivered
-unfoldable pub contents : Bool → Bool → ℕ → List (List ℕ) → List Item
+-- what a reader must meet in blocks that were delivered in this order, numbered from k on: the read error of each, and its check error, which with
+-- what was found is its judgement as delivered
+unfoldable pub contents : Bool → Bool → ℕ → List Came → List Item
 contents sequence check k [] = []
-contents sequence check k (words ∷ rest) =
-    contentsOf sequence check (judgedBlock words sequence check k .found) words ++ contents sequence check (nextNumber k) rest
+contents sequence check k (b ∷ rest) =
+    contentsOf sequence check (b .failed) (judgedBlock (b .words) sequence check k .found) (b .words) ++ contents sequence check (nextNumber k) rest
 
 -- the number after so many blocks
-unfoldable pub numberAfter : ℕ → List (List ℕ) → ℕ
+unfoldable pub numberAfter : {A : Type 0} → ℕ → List A → ℕ
 numberAfter k [] = k
 numberAfter k (x ∷ xs) = numberAfter (nextNumber k) xs
 

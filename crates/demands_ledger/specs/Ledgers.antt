@@ -6,6 +6,8 @@ use lib.Dec.{eqb}
 use lib.ListN.{length, take, drop}
 use Rattle.word.specs.declared.Checked.{Checked}
 use Rattle.word.specs.CheckWords.{extra}
+use Rattle.word.specs.Checks.{withError}
+use Rattle.file.specs.Arrivals.{redundancyError, incompleteError}
 use Rattle.call_request.specs.declared.Delivery.{Delivery}
 use Rattle.call_request.specs.declared.Delivery.the-variants.{Without}
 use Rattle.call_request.specs.Report.{toldBy}
@@ -14,12 +16,18 @@ use Rattle.file_input.specs.declared.Got.the-variants.{Record, Leftover, Error,
 use Rattle.state.specs.declared.State.{State}
 use Rattle.call_open.specs.Open.{isSet}
 use Rattle.pack.specs.Calls.{Call, fresh, opening, close, ask, report, get, put, seal, skip, freeze, thaw, Added, nothing, working, reported, got, Answer, answerOf}
-use Rattle.pack.specs.Histories.{isAccepted}
+use Rattle.pack.specs.Histories.{isAccepted, isAnswer}
+use Rattle.pack.specs.Books.{toldResult}
 
--- what a reader meets: a block in error, by all that its check found, and the words of a block
+-- what a reader meets: an error of a block, by its number and all that was found, and the words of a block
 pub data Item : Type 0 where
   word : ℕ → Item
   wrong : Checked → Item
+
+-- a block that was delivered: the error of the read that brought it, 0 for none, and its words
+pub record Came : Type 0 where
+  pub failed : ℕ
+  pub words : List ℕ
 
 -- what the open of a file chose: its channel and unit, the fields of the check word, the block size B and the record length r
 pub record Choice : Type 0 where
@@ -40,7 +48,7 @@ pub record Ledger : Type 0 where
   pub puts : List ℕ
   pub seals : List ℕ
   pub sent : List (List ℕ)
-  pub came : List (List ℕ)
+  pub came : List Came
   pub marked : Bool
   pub gone : List Item
   pub owed : List (List Item)
@@ -82,21 +90,35 @@ asBlock (x ∷ xs) = (x ∷ xs) ∷ []
 abbrev pub dataOf : Bool → Bool → List ℕ → List ℕ
 dataOf sequence check words = take (length words - extra sequence check) words
 
--- a check error, if there is one, with all that was found
+-- "05 permanent redundancy, 06 permanent incomplete word"; "get reports error 4 or 10" (document 02, M-101): the error of a read with that result
+abbrev pub failedBy : ℕ → ℕ
+failedBy result = cond (eqb result 5) redundancyError (cond (eqb result 6) incompleteError 0)
+
+-- the words that a report delivers: "Words on a repeated attempt are dropped."
+abbrev pub keptWords : Added → List ℕ → List ℕ
+keptWords added words = cond (isAnswer added) words []
+
+-- a delivered block, if there are words
+abbrev pub cameBy : ℕ → List ℕ → List Came
+cameBy failed [] = []
+cameBy failed (x ∷ xs) = record { failed = failed; words = x ∷ xs } ∷ []
+
+-- an error of that number, if there is one, with all that was found
 abbrev pub wrongsBy : ℕ → Checked → List Item
 wrongsBy zero found = []
 wrongsBy (suc e) found = wrong found ∷ []
 
-abbrev pub wrongs : Checked → List Item
-wrongs found = wrongsBy (found .error) found
+-- "get reports error 4 or 10, once, before any check error": the read error and then the check error, each with what was found
+abbrev pub wrongs : ℕ → Checked → List Item
+wrongs failed found = wrongsBy failed (withError failed found) ++ wrongsBy (found .error) found
 
--- what is owed of a delivered block: its check error with what was found, and then its data words
-abbrev pub contentsOf : Bool → Bool → Checked → List ℕ → List Item
-contentsOf sequence check found words = wrongs found ++ map word (dataOf sequence check words)
+-- what is owed of a delivered block: its errors with what was found, and then its data words
+abbrev pub contentsOf : Bool → Bool → ℕ → Checked → List ℕ → List Item
+contentsOf sequence check failed found words = wrongs failed found ++ map word (dataOf sequence check words)
 
-abbrev pub owedFor : Bool → Bool → Checked → List ℕ → List (List Item)
-owedFor sequence check found [] = []
-owedFor sequence check found (x ∷ xs) = contentsOf sequence check found (x ∷ xs) ∷ []
+abbrev pub owedFor : Bool → Bool → ℕ → Checked → List ℕ → List (List Item)
+owedFor sequence check failed found [] = []
+owedFor sequence check failed found (x ∷ xs) = contentsOf sequence check failed found (x ∷ xs) ∷ []
 
 -- what a report's answer tells of the block that it delivers: "after the error number, worked-out sum and number first, then those read"
 abbrev pub toldDelivery : Added → Delivery
@@ -112,7 +134,7 @@ isMark (working u) = false
 isMark (reported result delivery u) = eqb result 3
 isMark (got g) = false
 
--- a report: the block delivered with it, the block that its answer shows, and whether it read a mark
+-- a report: the block delivered with it, if it answers its request; the block that its answer shows; and whether it read a mark
 abbrev pub withReport : List ℕ → Answer → Ledger → Ledger
 withReport words a g = record {
   opened = g .opened;
@@ -121,10 +143,12 @@ withReport words a g = record {
   puts = g .puts;
   seals = g .seals;
   sent = g .sent ++ asBlock (a .shows);
-  came = g .came ++ asBlock words;
+  came = g .came ++ cameBy (failedBy (toldResult (a .added))) (keptWords (a .added) words);
   marked = isMark (a .added) || g .marked;
   gone = g .gone;
-  owed = g .owed ++ owedFor (g .chosen .sequence) (g .chosen .check) (toldBy (toldDelivery (a .added))) words;
+  owed =
+      g .owed
+      ++ owedFor (g .chosen .sequence) (g .chosen .check) (failedBy (toldResult (a .added))) (toldBy (toldDelivery (a .added))) (keptWords (a .added) words);
 }
 
 abbrev pub withAsk : ℕ → Ledger → Ledger
@@ -141,7 +165,7 @@ withAsk op g = record {
   owed = g .owed;
 }
 
--- what get gave: a check error with what was found, or the words that its answer shows
+-- what get gave: an error with what was found, or the words that its answer shows
 abbrev pub givenBy : Got → List ℕ → List Item
 givenBy (Record start n) words = map word words
 givenBy (Leftover start n) words = map word words

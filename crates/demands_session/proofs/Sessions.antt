@@ -25,9 +25,10 @@ use Rattle.demands.specs.Results.{Results, Forbids}
 use Rattle.demands.specs.Turns.{worksFor, isPending, Turns, Continues, toldWorking, Tells}
 use Rattle.demands.specs.Orders.{Requests, On, EitherOrder}
 use Rattle.demands.specs.Marks.{Marks}
-use Rattle.demands.specs.Records.{Gives, Drops}
+use Rattle.call_request.specs.Report.{toldBy}
+use Rattle.demands.specs.Records.{Finds, Gives, Drops}
 use Rattle.demands.specs.Written.{Cuts, HandsOut}
-use Rattle.demands.proofs.Demands.{demand1, demand2-before, demand2-freed, demand2-taken, demand2-booked, demand2-results, demand2-forbidden, demand2-idle, demand2-turns, demand2-continues, demand2-asked, demand2-reported, demand2-single, demand2-holding, demand2-marks, demand2-writes, demand2-closed, demand2-reads, demand2-judged, demand2-got, demand2-skipped, demand2-cut, demand2-sent, demand3, demand3-urgent, demand3-order}
+use Rattle.demands.proofs.Demands.{demand1, demand2-before, demand2-freed, demand2-taken, demand2-booked, demand2-results, demand2-forbidden, demand2-idle, demand2-turns, demand2-continues, demand2-asked, demand2-reported, demand2-single, demand2-holding, demand2-marks, demand2-writes, demand2-closed, demand2-reads, demand2-judged, demand2-found, demand2-got, demand2-skipped, demand2-cut, demand2-sent, demand3, demand3-urgent, demand3-order}
 use Rattle.session.specs.Session.{Course, withText, playLines}
 use Rattle.session.proofs.Counting.{lines-append}
 use Rattle.demands_session.specs.Played.{callIn, callsIn, lineOf, lineFor, stateFor, areaFor, zeros, stateIn, areaIn, lentFrom}
@@ -238,14 +239,28 @@ module _ (ks : List (List ℕ)) (l : List ℕ) (m w : ℕ) (masks : Masks) (isFr
       (demand2-reads (stateIn ks) (areaIn ks) m w masks started (callsIn later) i)
 
   pub session2-judged : (later : List (List ℕ)) (i channel unit outcome : ℕ) (words : List ℕ) → serves channel unit (fileAt (stateThen later) i) ≡ true
-      → words ≢ [] → answerOf (stateThen later) (areaThen later) (report channel unit outcome words) .refusal ≡ 0
+      → words ≢ [] → toldResult (answerOf (stateThen later) (areaThen later) (report channel unit outcome words) .added) ≢ 0
+      → answerOf (stateThen later) (areaThen later) (report channel unit outcome words) .refusal ≡ 0
       → toldDelivery (answerOf (stateThen later) (areaThen later) (report channel unit outcome words) .added)
       ≡ With (judgedBlock words (fileAt (stateThen later) i .sequence) (fileAt (stateThen later) i .check) ((1 + length (accountThen later i .came)) % blockNumbers) .found)
   session2-judged later i channel unit outcome words =
-      so (λ s xs. serves channel unit (fileAt s i) ≡ true → words ≢ [] → answerOf s xs (report channel unit outcome words) .refusal ≡ 0
+      so (λ s xs. serves channel unit (fileAt s i) ≡ true → words ≢ [] → toldResult (answerOf s xs (report channel unit outcome words) .added) ≢ 0
+      → answerOf s xs (report channel unit outcome words) .refusal ≡ 0
       → toldDelivery (answerOf s xs (report channel unit outcome words) .added)
       ≡ With (judgedBlock words (fileAt s i .sequence) (fileAt s i .check) ((1 + length (accountThen later i .came)) % blockNumbers) .found)) later
       (demand2-judged (stateIn ks) (areaIn ks) m w masks started (callsIn later) i channel unit outcome words)
+
+  pub session2-found : (later : List (List ℕ)) (i channel unit outcome : ℕ) (words : List ℕ) → serves channel unit (fileAt (stateThen later) i) ≡ true
+      → words ≢ [] → toldResult (answerOf (stateThen later) (areaThen later) (report channel unit outcome words) .added) ≢ 0
+      → answerOf (stateThen later) (areaThen later) (report channel unit outcome words) .refusal ≡ 0
+      → Finds (fileAt (stateThen later) i .sequence) (fileAt (stateThen later) i .check) (length (accountThen later i .came)) words
+      (toldBy (toldDelivery (answerOf (stateThen later) (areaThen later) (report channel unit outcome words) .added)))
+  session2-found later i channel unit outcome words =
+      so (λ s xs. serves channel unit (fileAt s i) ≡ true → words ≢ [] → toldResult (answerOf s xs (report channel unit outcome words) .added) ≢ 0
+      → answerOf s xs (report channel unit outcome words) .refusal ≡ 0
+      → Finds (fileAt s i .sequence) (fileAt s i .check) (length (accountThen later i .came)) words
+      (toldBy (toldDelivery (answerOf s xs (report channel unit outcome words) .added)))) later
+      (demand2-found (stateIn ks) (areaIn ks) m w masks started (callsIn later) i channel unit outcome words)
 
   -- records and blocks follow document 01: what an accepted get answers, what a skip drops, how the words put are divided, and which block a
   -- report hands out

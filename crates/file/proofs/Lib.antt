@@ -1,3 +1,4 @@
+pub mod ArrivalLaws
 pub mod SlotLaws
 pub mod Which
 pub mod Changed

@@ -1,6 +1,7 @@
 -- The file with something else in one of its buffers. Assumes nothing.
 use Prim.Native.Nat.{ℕ}
 use mathlib.Core.Bool.{Bool, false}
+use Rattle.file.specs.declared.Arrival.{Arrival}
 use Rattle.file.specs.declared.Slot.{Slot}
 use Rattle.file.specs.declared.Slot.the-variants.{Empty, Full}
 use Rattle.file.specs.declared.Side.{Side}
@@ -8,7 +9,6 @@ use Rattle.file.specs.declared.Side.the-variants.{Low, High, Neither}
 use Rattle.file.specs.declared.File.{File}
 use Rattle.file.specs.Slots.{isFull}
 use Rattle.file.specs.Sides.{oldest}
-use Rattle.word.specs.declared.Checked.{Checked}
 use Rattle.word.specs.CheckWords.{nextNumber}
 
 -- the file with x in buffer k, the order of its full blocks and its next block number; as it is if k is none
@@ -53,9 +53,9 @@ turnedBy f Low = isFull (f .high .slot)
 turnedBy f High = false
 turnedBy f Neither = false
 
--- a block of n data words, with what its check found, is full in buffer k, the youngest; "block numbers .. go up by one for every block sealed or delivered"
-unfoldable pub filledAt : File → Side → ℕ → Checked → File
-filledAt f k n found = withSlot f k (Full n 0 found) (turnedBy f k) (nextNumber (f .block))
+-- a block of n data words, that arrived so, is full in buffer k, the youngest; "block numbers .. go up by one for every block sealed or delivered"
+unfoldable pub filledAt : File → Side → ℕ → Arrival → File
+filledAt f k n arrival = withSlot f k (Full n 0 arrival) (turnedBy f k) (nextNumber (f .block))
 
 -- buffer k is empty
 unfoldable pub emptiedAt : File → Side → File

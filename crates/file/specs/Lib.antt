@@ -1,3 +1,4 @@
+pub mod Arrivals
 pub mod Slots
 pub mod Sides
 pub mod Fills

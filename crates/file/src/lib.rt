@@ -1,11 +1,17 @@
 // One file by value: its one or two buffers, what each of them holds, and which of them is meant; the file with something else in a buffer;
-// its sizes, and the file as it is opened and as it is closed.
+// how a block arrived; the sizes of a file, and the file as it is opened and as it is closed.
 // It only numbers the buffers and knows nothing of channels, of other files, or of the words of an area.
+mod arrivals;
 mod refills;
 mod sides;
 mod sizes;
 mod slots;
 
+pub use arrivals::after_told;
+pub use arrivals::error_told;
+pub use arrivals::is_arrival;
+pub use arrivals::is_no_arrival;
+pub use arrivals::no_arrival;
 pub use refills::emptied_at;
 pub use refills::filled_at;
 pub use refills::with_slot;
@@ -21,8 +27,8 @@ pub use sizes::buffers_for;
 pub use sizes::closed_file;
 pub use sizes::opened_file;
 pub use sizes::sizes_fit;
+pub use slots::full_arrival;
 pub use slots::full_error;
-pub use slots::full_found;
 pub use slots::full_place;
 pub use slots::full_words;
 pub use slots::is_empty;
@@ -32,13 +38,25 @@ pub use slots::is_taken;
 pub use slots::part_words;
 use word::Checked;
 
+// The read errors that get tells of a block that was kept: an unrecoverable redundancy, and an incomplete word.
+pub const REDUNDANCY_ERROR: u8 = 4;
+
+pub const INCOMPLETE_ERROR: u8 = 10;
+
+// How a full block arrived: the error of the read that brought it, 4 or 10, 0 for none and 0 once it was told; and what its check found at
+// delivery, the error 0 once it was told. All zero in a block that was sealed.
+pub struct Arrival {
+    pub failed: u8,
+    pub check: Checked,
+}
+
 // What one buffer of an open file holds: nothing; what a read is to bring; n words that were put; or a full block of so many data words,
-// with the place of get in it and what its check found at delivery, the error 0 once it was told; all zero in a block that was sealed.
+// with the place of get in it and how it arrived.
 pub enum Slot {
     Empty,
     Taken,
     Part(u16),
-    Full { words: u16, at: u16, found: Checked },
+    Full { words: u16, at: u16, arrival: Arrival },
 }
 
 // A buffer of the pool, and what it holds.

@@ -1,11 +1,11 @@
 // The file with something else in one of its buffers.
+use crate::Arrival;
 use crate::Buffer;
 use crate::File;
 use crate::Side;
 use crate::Slot;
 use crate::sides::oldest;
 use crate::slots::is_full;
-use word::Checked;
 use word::next_number;
 ghost use mathlib.Core.Path.{_≡_};
 ghost use Rattle.file.specs.Fills.{withSlot, turnedBy, filledAt, emptiedAt, withoutOldest};
@@ -54,16 +54,16 @@ fn turned_by(f: File, k: Side) -> bool
     }
 }
 
-// A block of this many data words, with what its check found, is full in that buffer, the youngest; the block number goes up by one.
-pub fn filled_at(f: File, k: Side, words: u16, found: Checked) -> File
-    ensures { λ r. ⌜ r ≡ filledAt f k words found ⌝ }
+// A block of this many data words, that arrived so, is full in that buffer, the youngest; the block number goes up by one.
+pub fn filled_at(f: File, k: Side, words: u16, arrival: Arrival) -> File
+    ensures { λ r. ⌜ r ≡ filledAt f k words arrival ⌝ }
 {
     let turned = turned_by(f, k);
     let next = next_number(f.block);
     let x = Slot::Full {
         words: words,
         at: 0,
-        found: found,
+        arrival: arrival,
     };
     with_slot(f, k, x, turned, next)
 }

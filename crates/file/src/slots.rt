@@ -1,9 +1,10 @@
 // What a slot is, and the numbers in it; 0 where it has none.
+use crate::Arrival;
 use crate::Slot;
-use word::Checked;
-use word::not_checked;
+use crate::arrivals::error_due;
+use crate::arrivals::no_arrival;
 ghost use mathlib.Core.Path.{_≡_};
-ghost use Rattle.file.specs.Slots.{slotKind, isEmpty, isTaken, isPart, isFull, partWords, fullWords, fullPlace, fullFound, fullError};
+ghost use Rattle.file.specs.Slots.{slotKind, isEmpty, isTaken, isPart, isFull, partWords, fullWords, fullPlace, fullArrival, fullError};
 
 // What a slot is, as a number.
 const EMPTY: u8 = 0;
@@ -24,7 +25,7 @@ fn kind(x: Slot) -> u8
         Slot::Full {
             words: _,
             at: _,
-            found: _,
+            arrival: _,
         } => FULL,
     }
 }
@@ -68,7 +69,7 @@ pub fn part_words(x: Slot) -> u16
         Slot::Full {
             words: _,
             at: _,
-            found: _,
+            arrival: _,
         } => 0,
     }
 }
@@ -84,7 +85,7 @@ pub fn full_words(x: Slot) -> u16
         Slot::Full {
             words,
             at: _,
-            found: _,
+            arrival: _,
         } => words,
     }
 }
@@ -100,31 +101,31 @@ pub fn full_place(x: Slot) -> u16
         Slot::Full {
             words: _,
             at,
-            found: _,
+            arrival: _,
         } => at,
     }
 }
 
-// What the check of a full block found; its error has not been told yet. All zero where there is no block.
-pub fn full_found(x: Slot) -> Checked
-    ensures { λ r. ⌜ r ≡ fullFound x ⌝ }
+// How a full block arrived; its errors have not been told yet. All zero where there is no block.
+pub fn full_arrival(x: Slot) -> Arrival
+    ensures { λ r. ⌜ r ≡ fullArrival x ⌝ }
 {
     match x {
-        Slot::Empty => not_checked(),
-        Slot::Taken => not_checked(),
-        Slot::Part(_) => not_checked(),
+        Slot::Empty => no_arrival(),
+        Slot::Taken => no_arrival(),
+        Slot::Part(_) => no_arrival(),
         Slot::Full {
             words: _,
             at: _,
-            found,
-        } => found,
+            arrival,
+        } => arrival,
     }
 }
 
-// The check error of a full block that has not been told yet.
+// The error of a full block that get has to tell next.
 pub fn full_error(x: Slot) -> u8
     ensures { λ r. ⌜ r ≡ fullError x ⌝ }
 {
-    let c = full_found(x);
-    c.error
+    let a = full_arrival(x);
+    error_due(a)
 }

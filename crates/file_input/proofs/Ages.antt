@@ -7,8 +7,8 @@ use Prim.Native.Nat.{ℕ}
 use lib.ListN.{drop}
 use lib.Dec.{leb}
 use Rattle.area.proofs.Walks.{true-not-false, and-right}
-use Rattle.word.specs.declared.Checked.{Checked}
-use Rattle.word.specs.Checks.{unchecked}
+use Rattle.file.specs.declared.Arrival.{Arrival}
+use Rattle.file.specs.Arrivals.{noArrival}
 use Rattle.file.specs.declared.Slot.{Slot}
 use Rattle.file.specs.declared.Slot.the-variants.{Empty, Taken, Part, Full}
 use Rattle.file.specs.declared.Side.{Side}
@@ -25,8 +25,8 @@ use Rattle.file_output.specs.Parts.{partLength, sealedFile}
 use Rattle.file_input.specs.Ages.{Block, fullIn, fullAt, inOrder, line}
 use Rattle.file.proofs.Which.{lower-cases}
 
-abbrev pub block : ℕ → ℕ → ℕ → Checked → Block
-block b n at e = record { number = b; words = n; place = at; found = e }
+abbrev pub block : ℕ → ℕ → ℕ → Arrival → Block
+block b n at e = record { number = b; words = n; place = at; arrival = e }
 
 -- ---- two lists in order
 
@@ -98,7 +98,7 @@ low-young b x (Part n) = refl
 low-young b x (Full n at e) = refl
 
 -- a block that becomes full comes last
-pub young : (f : File) (k : Side) (n : ℕ) (e : Checked) → isSide k ≡ true → fullAt f k ≡ [] → line (filledAt f k n e) ≡ line f ++ (block (bufferAt f k .number) n 0 e ∷ [])
+pub young : (f : File) (k : Side) (n : ℕ) (e : Arrival) → isSide k ≡ true → fullAt f k ≡ [] → line (filledAt f k n e) ≡ line f ++ (block (bufferAt f k .number) n 0 e ∷ [])
 unfolding line filledAt
 young f Low n e s q =
     low-young (f .high .number) (block (f .low .number) n 0 e) (f .high .slot)
@@ -112,9 +112,9 @@ young f Neither n e s q = true-not-false s refl
 -- the oldest is the first of the line: without it the rest remains, and a change of its place or error moves nothing
 pub data Aged (f : File) : Side → Type 0 where
   noBlock : line f ≡ [] → Aged f Neither
-  old : (k : Side) (n at : ℕ) (e : Checked) (rest : List Block) → isSide k ≡ true → slotAt f k ≡ Full n at e → line f ≡ block (bufferAt f k .number) n at e ∷ rest
+  old : (k : Side) (n at : ℕ) (e : Arrival) (rest : List Block) → isSide k ≡ true → slotAt f k ≡ Full n at e → line f ≡ block (bufferAt f k .number) n at e ∷ rest
       → ((b : ℕ) → line (withSlot f k Empty false b) ≡ rest)
-      → ((p : ℕ) (d : Checked) (b : ℕ) → line (withSlot f k (Full n p d) (f .turned) b) ≡ block (bufferAt f k .number) n p d ∷ rest)
+      → ((p : ℕ) (d : Arrival) (b : ℕ) → line (withSlot f k (Full n p d) (f .turned) b) ≡ block (bufferAt f k .number) n p d ∷ rest)
       → Aged f k
 
 abbrev with-both : File → Slot → Slot → Bool → File
@@ -168,7 +168,7 @@ pub took-line : (f : File) → line (tookBuffer f) ≡ line f
 unfolding tookBuffer
 took-line f = quiet f (emptySide f) Taken false (f .block) (empty-none f) (λ b. refl)
 
-pub delivered-line : (f : File) (n : ℕ) (e : Checked) → isSide (takenSide f) ≡ true → line (delivered f n e) ≡ line f ++ (block (bufferAt f (takenSide f) .number) n 0 e ∷ [])
+pub delivered-line : (f : File) (n : ℕ) (e : Arrival) → isSide (takenSide f) ≡ true → line (delivered f n e) ≡ line f ++ (block (bufferAt f (takenSide f) .number) n 0 e ∷ [])
 unfolding delivered
 delivered-line f n e s = young f (takenSide f) n e s (taken-none f)
 
@@ -192,9 +192,9 @@ added-line f = go (leb (wordsAfter f) (f .size))
     go true = quiet f (putSide f) (Part (wordsAfter f)) false (f .block) (put-none f) (λ b. refl)
     go false = refl
 
-pub sealed-line : (f : File) → isSide (partSide f) ≡ true → line (sealedFile f) ≡ line f ++ (block (bufferAt f (partSide f) .number) (partLength f) 0 unchecked ∷ [])
+pub sealed-line : (f : File) → isSide (partSide f) ≡ true → line (sealedFile f) ≡ line f ++ (block (bufferAt f (partSide f) .number) (partLength f) 0 noArrival ∷ [])
 unfolding sealedFile
-sealed-line f s = young f (partSide f) (partLength f) unchecked s (part-none f)
+sealed-line f s = young f (partSide f) (partLength f) noArrival s (part-none f)
 
 -- the oldest leaves first
 pub oldest-leaves : (f : File) → line (withoutOldest f) ≡ drop 1 (line f)

@@ -9,8 +9,8 @@ use native.Mathlib.Omega.{arith}
 use lib.ListN.{length, drop, length-append, length-drop, length-map}
 use lib.Seq.{drop-drop, drop-append-le}
 use Rattle.area.proofs.Walks.{by-test, true-not-false}
-use Rattle.word.specs.declared.Checked.{Checked}
-use Rattle.word.specs.Checks.{unchecked, toldCheck}
+use Rattle.file.specs.declared.Arrival.{Arrival}
+use Rattle.file.specs.Arrivals.{noArrival, afterTold}
 use Rattle.file.specs.declared.Slot.{Slot}
 use Rattle.file.specs.declared.Slot.the-variants.{Empty, Taken, Part, Full}
 use Rattle.file.specs.declared.Side.{Side}
@@ -43,7 +43,7 @@ map-drop (suc n) (x ∷ a) = map-drop n a
 
 -- ---- blocks that become full
 
-filled-line : (f : File) (k : Side) (n : ℕ) (e : Checked) → fullAt f k ≡ [] → buffersInLine (filledAt f k n e) ≡ buffersInLine f ++ numberOf f k
+filled-line : (f : File) (k : Side) (n : ℕ) (e : Arrival) → fullAt f k ≡ [] → buffersInLine (filledAt f k n e) ≡ buffersInLine f ++ numberOf f k
 unfolding filledAt
 filled-line f Low n e q = ap (map number) (young f Low n e refl q) ∙ map-append (line f) (block (f .low .number) n 0 e ∷ [])
 filled-line f High n e q = ap (map number) (young f High n e refl q) ∙ map-append (line f) (block (f .high .number) n 0 e ∷ [])
@@ -55,7 +55,7 @@ put-line f = go (isComplete (added f))
   where
     go : (t : Bool) → buffersInLine (cond t (sealedFile (added f)) (added f)) ≡ buffersInLine f ++ cond t (numberOf (added f) (partSide (added f))) []
     go true =
-        filled-line (added f) (partSide (added f)) (partLength (added f)) unchecked (part-none (added f))
+        filled-line (added f) (partSide (added f)) (partLength (added f)) noArrival (part-none (added f))
         ∙ ap (λ (l : List Block). map number l ++ numberOf (added f) (partSide (added f))) (added-line f)
     go false = ap (map number) (added-line f) ∙ sym (append-nil (buffersInLine f))
 
@@ -109,7 +109,7 @@ found-line f = go (oldest f) (aged f)
     go Neither (noBlock e) = refl
     go k (old _ n at e rest t x l gone moved) =
         ap (λ (s : Slot). buffersInLine (withSlot f k (slotAfter (f .rlen) s) (f .turned) (f .block))) x
-        ∙ ap (map number) (moved (at + wordsGiven (f .rlen) (Full n at e)) (toldCheck e) (f .block)) ∙ sym (ap (map number) l)
+        ∙ ap (map number) (moved (at + wordsGiven (f .rlen) (Full n at e)) (afterTold e) (f .block)) ∙ sym (ap (map number) l)
 
 -- ---- one event
 
@@ -128,7 +128,7 @@ event-line f mark = still f (metMark f) (met-line f)
 event-line f get = found-line (lookedAt f) ∙ ap (map number) (looked-line f) ∙ map-drop (becomeEmpty f get) (line f) ∙ gone f (becomeEmpty f get)
 event-line f skip = ap (map number) (dropped-line f) ∙ map-drop (becomeEmpty f skip) (line f) ∙ gone f (becomeEmpty f skip)
 event-line f put = put-line f
-event-line f seal = filled-line f (partSide f) (partLength f) unchecked (part-none f)
+event-line f seal = filled-line f (partSide f) (partLength f) noArrival (part-none f)
 event-line f send = ap (map number) (dropped-line f) ∙ map-drop (becomeEmpty f send) (line f) ∙ gone f (becomeEmpty f send)
 
 -- no more blocks become empty than are full

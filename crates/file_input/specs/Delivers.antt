@@ -3,7 +3,7 @@ use Prim.Native.Nat.{ℕ, _+_}
 use mathlib.Core.Bool.{Bool, true, false, _&&_}
 use lib.Dec.{leb}
 use Rattle.file.specs.declared.Slot.the-variants.{Taken}
-use Rattle.word.specs.declared.Checked.{Checked}
+use Rattle.file.specs.declared.Arrival.{Arrival}
 use Rattle.file.specs.declared.File.{File}
 use Rattle.file.specs.Sides.{isSide, emptySide, takenSide, oldest}
 use Rattle.file.specs.Fills.{withSlot, filledAt, emptiedAt}
@@ -21,11 +21,12 @@ tookBuffer f = withSlot f (emptySide f) Taken false (f .block)
 abbrev pub blockFits : File → ℕ → Bool
 blockFits f n = leb (1 + extra (f .sequence) (f .check)) n && leb n (f .size + extra (f .sequence) (f .check))
 
--- "A good end makes it full.": a block of n data words, with what its check found
-unfoldable pub delivered : File → ℕ → Checked → File
-delivered f n found = filledAt f (takenSide f) n found
+-- "A good end makes it full."; "If such a report is permanent and carries words, the block is kept as full, counts as delivered" (document 02, M-101):
+-- a block of n data words, that arrived so
+unfoldable pub delivered : File → ℕ → Arrival → File
+delivered f n arrival = filledAt f (takenSide f) n arrival
 
--- "A read that ends with a mark or a permanent error gives its buffer back as empty."
+-- "A read that ends with a mark or a permanent error gives its buffer back as empty.": without words, since M-101
 unfoldable pub gaveBack : File → File
 gaveBack f = emptiedAt f (takenSide f)
 

@@ -3,11 +3,12 @@ use Prim.Native.Nat.{ℕ, _+_, _-_}
 use mathlib.Core.Bool.{Bool, false, cond}
 use lib.Dec.{leb, ltb}
 use Rattle.word.specs.declared.Checked.{Checked}
-use Rattle.word.specs.Checks.{unchecked, toldCheck}
+use Rattle.word.specs.Checks.{unchecked}
+use Rattle.file.specs.Arrivals.{errorTold, afterTold}
 use Rattle.file.specs.declared.Slot.{Slot}
 use Rattle.file.specs.declared.Slot.the-variants.{Empty, Taken, Part, Full}
 use Rattle.file.specs.declared.File.{File}
-use Rattle.file.specs.Slots.{fullWords, fullPlace, fullFound, fullError}
+use Rattle.file.specs.Slots.{fullWords, fullPlace, fullArrival, fullError}
 use Rattle.file.specs.Sides.{slotAt, startAt, isSide, oldest}
 use Rattle.file.specs.Fills.{withSlot, withoutOldest}
 use Rattle.file_input.specs.declared.Got.{Got}
@@ -23,7 +24,7 @@ abbrev pub isUsedUp : Slot → Bool
 isUsedUp Empty = false
 isUsedUp Taken = false
 isUsedUp (Part n) = false
-isUsedUp (Full n at c) = leb n at
+isUsedUp (Full n at a) = leb n at
 
 -- "If that block was used up by an earlier get, it first becomes empty and the next oldest is looked at."
 unfoldable pub passed : File → File
@@ -37,14 +38,15 @@ lookedAt f = passed (passed f)
 abbrev pub wordsGiven : ℕ → Slot → ℕ
 wordsGiven r x = cond (ltb 0 (fullError x)) 0 (cond (leb r (wordsLeft x)) r (wordsLeft x))
 
--- the block after it: the place past the words, the error told; what was found stays
+-- the block after it: the place past the words, the error told, the read error before the check error; what was found stays
 abbrev pub slotAfter : ℕ → Slot → Slot
-slotAfter r x = Full (fullWords x) (fullPlace x + wordsGiven r x) (toldCheck (fullFound x))
+slotAfter r x = Full (fullWords x) (fullPlace x + wordsGiven r x) (afterTold (fullArrival x))
 
--- "a record ..; a short leftover ..; the block's check error, once, before its first record", from a full block that begins at word `start`
+-- "a record ..; a short leftover ..; the block's check error, once, before its first record", and "error 4 or 10, once, before any check error"
+-- (document 02, M-101): from a full block that begins at word `start`
 abbrev pub foundIn : ℕ → ℕ → Slot → Got
 foundIn start r x =
-    cond (ltb 0 (fullError x)) (Error (fullFound x))
+    cond (ltb 0 (fullError x)) (Error (errorTold (fullArrival x)))
     (cond (leb r (wordsLeft x)) (Record (start + fullPlace x) r) (Leftover (start + fullPlace x) (wordsLeft x)))
 
 -- "*end* (no full block, mark read); *nothing yet*"
@@ -62,7 +64,7 @@ afterFound f = withSlot f (oldest f) (slotAfter (f .rlen) (slotAt f (oldest f)))
 unfoldable pub getFrom : ℕ → File → Finding
 getFrom w f = record { got = found w (lookedAt f); file = afterFound (lookedAt f) }
 
--- "Get adds 00 and words, 01 nothing yet, 02 end, 03 and the check error, 04 and a leftover."
+-- "Get adds 00 and words, 01 nothing yet, 02 end, 03 and the check error, 04 and a leftover."; a read error is told as a check error is
 abbrev pub gotNumber : Got → ℕ
 gotNumber (Record start n) = 0
 gotNumber Nothing = 1

@@ -3,7 +3,7 @@ use Prim.Native.Nat.{ℕ, zero, suc, _+_}
 use mathlib.Core.Bool.{Bool, cond}
 use mathlib.Core.List.{List, [], _∷_, _++_, map}
 use Rattle.area.specs.Parts.{partOf}
-use Rattle.word.specs.declared.Checked.{Checked}
+use Rattle.file.specs.declared.Arrival.{Arrival}
 use Rattle.file.specs.declared.Side.{Side}
 use Rattle.file.specs.declared.File.{File}
 use Rattle.file.specs.Sides.{bufferAt, slotAt, isSide, takenSide, partSide, oldest}
@@ -34,11 +34,11 @@ afterGets w (suc j) f = afterGets w j (getFrom w f .file)
 
 pub data Event : Type 0 where
   read giveBack mark get skip put seal send : Event
-  deliver : ℕ → Checked → Event
+  deliver : ℕ → Arrival → Event
 
 abbrev pub after : File → Event → File
 after f read = tookBuffer f
-after f (deliver n e) = delivered f n e
+after f (deliver n a) = delivered f n a
 after f giveBack = gaveBack f
 after f mark = metMark f
 after f get = afterFound (lookedAt f)
@@ -58,7 +58,7 @@ numberOf f k = cond (isSide k) (bufferAt f k .number ∷ []) []
 -- the buffer whose block is delivered or sealed
 abbrev pub becomesFull : File → Event → List ℕ
 becomesFull f read = []
-becomesFull f (deliver n e) = numberOf f (takenSide f)
+becomesFull f (deliver n a) = numberOf f (takenSide f)
 becomesFull f giveBack = []
 becomesFull f mark = []
 becomesFull f get = []
@@ -73,7 +73,7 @@ one b = cond b 1 0
 -- how many blocks become empty
 abbrev pub becomeEmpty : File → Event → ℕ
 becomeEmpty f read = 0
-becomeEmpty f (deliver n e) = 0
+becomeEmpty f (deliver n a) = 0
 becomeEmpty f giveBack = 0
 becomeEmpty f mark = 0
 becomeEmpty f get = one (isUsedUp (slotAt f (oldest f))) + one (isUsedUp (slotAt (passed f) (oldest (passed f))))

@@ -1,4 +1,5 @@
 // Input: what a read takes, and what its end does to the file.
+use file::Arrival;
 use file::File;
 use file::Slot;
 use file::emptied_at;
@@ -9,7 +10,6 @@ use file::oldest;
 use file::start_at;
 use file::taken_side;
 use file::with_slot;
-use word::Checked;
 use word::extra;
 ghost use mathlib.Core.Path.{_≡_};
 ghost use Prim.Native.Nat.{_<_};
@@ -50,15 +50,15 @@ pub fn block_fits(f: File, n: usize) -> bool
     (least <= n) & (n <= most)
 }
 
-// The file after a good end: the taken buffer has a full block of this many data words, with what its check found.
-pub fn delivered(f: File, words: u16, found: Checked) -> File
-    ensures { λ r. ⌜ r ≡ deliveredTo f words found ⌝ }
+// The file after a good end, or a permanent error with words: the taken buffer has a full block of this many data words, that arrived so.
+pub fn delivered(f: File, words: u16, arrival: Arrival) -> File
+    ensures { λ r. ⌜ r ≡ deliveredTo f words arrival ⌝ }
 {
     let k = taken_side(f);
-    filled_at(f, k, words, found)
+    filled_at(f, k, words, arrival)
 }
 
-// The file after a read's permanent error: the taken buffer is empty.
+// The file after a read's permanent error without words: the taken buffer is empty.
 pub fn gave_back(f: File) -> File
     ensures { λ r. ⌜ r ≡ gaveBack f ⌝ }
 {

@@ -3,8 +3,10 @@ use crate::Finding;
 use crate::Got;
 use file::File;
 use file::Slot;
+use file::after_told;
+use file::error_told;
+use file::full_arrival;
 use file::full_error;
-use file::full_found;
 use file::full_place;
 use file::full_words;
 use file::is_side;
@@ -13,7 +15,6 @@ use file::slot_at;
 use file::start_at;
 use file::with_slot;
 use file::without_oldest;
-use word::told_check;
 ghost use mathlib.Core.Path.{_≡_};
 ghost use Prim.Native.Nat.{_≤_, _<_};
 ghost use Rattle.file_input.specs.Gets.{wordsLeft, isUsedUp, passed as passedOf, lookedAt, wordsGiven, slotAfter, foundIn, foundNone, found as foundOf, afterFound, getFrom};
@@ -41,7 +42,7 @@ fn is_used_up(x: Slot) -> bool
         Slot::Full {
             words,
             at,
-            found: _,
+            arrival: _,
         } => words <= at,
     }
 }
@@ -66,7 +67,7 @@ fn looked_at(f: File) -> File
     passed(g)
 }
 
-// How many words of a block get gives: r, or what is left; none while its check error is to be told.
+// How many words of a block get gives: r, or what is left; none while an error is to be told.
 fn words_given(rlen: u16, x: Slot) -> u16
     ensures { λ r. ⌜ (r ≡ wordsGiven rlen x) × (r ≤ wordsLeft x) ⌝ }
 {
@@ -81,18 +82,18 @@ fn words_given(rlen: u16, x: Slot) -> u16
     left
 }
 
-// The block after it: the words are given, or the error is told. What was found stays with it.
+// The block after it: the words are given, or the error is told, the read error before the check error. What was found stays with it.
 fn slot_after(rlen: u16, x: Slot) -> Slot
     ensures { λ r. ⌜ r ≡ slotAfter rlen x ⌝ }
 {
-    let found = full_found(x);
+    let arrival = full_arrival(x);
     let n = full_words(x);
     let at = full_place(x);
     let given = words_given(rlen, x);
     Slot::Full {
         words: n,
         at: at + given,
-        found: told_check(found),
+        arrival: after_told(arrival),
     }
 }
 
@@ -101,12 +102,12 @@ fn found_in(start: usize, rlen: u16, x: Slot) -> Got
     requires { ⌜ start < 16777216 ⌝ }
     ensures { λ r. ⌜ r ≡ foundIn start rlen x ⌝ }
 {
-    let found = full_found(x);
+    let arrival = full_arrival(x);
     let error = full_error(x);
     let left = words_left(x);
     let at = full_place(x);
     if 0 < error {
-        return Got::Error(found);
+        return Got::Error(error_told(arrival));
     }
     if rlen <= left {
         return Got::Record {

@@ -21,7 +21,8 @@ pub use shows::got_number;
 pub use shows::got_start;
 use word::Checked;
 
-// What get finds. A record or a leftover is named by where its words begin in the area, and how many they are; an error comes with all that was found.
+// What get finds. A record or a leftover is named by where its words begin in the area, and how many they are; an error, of the check or of the read,
+// comes with all that was found.
 pub enum Got {
     Record { start: usize, words: usize },
     Leftover { start: usize, words: usize },

@@ -18,7 +18,7 @@ pub fn got_number(g: Got) -> u8
     }
 }
 
-// What was found of the block whose check error an answer tells; all zero for any other.
+// The error that an answer tells, with what was found of its block; all zero for any other.
 pub fn got_found(g: Got) -> Checked
     ensures { λ r. ⌜ r ≡ gotFound g ⌝ }
 {

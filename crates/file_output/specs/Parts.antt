@@ -5,8 +5,8 @@ use lib.Dec.{ltb}
 use Rattle.file.specs.declared.File.{File}
 use Rattle.file.specs.Slots.{partWords}
 use Rattle.file.specs.Sides.{slotAt, startAt, isSide, partSide}
+use Rattle.file.specs.Arrivals.{noArrival}
 use Rattle.file.specs.Fills.{filledAt}
-use Rattle.word.specs.Checks.{unchecked}
 
 -- refusal 9, ".. Seal: no part-filled buffer"
 abbrev pub hasPart : File → Bool
@@ -25,4 +25,4 @@ isComplete f = ltb (f .size) (partLength f + f .rlen)
 
 -- "the block is sealed ..: it gets its check word and is full"; nothing is checked of it
 unfoldable pub sealedFile : File → File
-sealedFile f = filledAt f (partSide f) (partLength f) unchecked
+sealedFile f = filledAt f (partSide f) (partLength f) noArrival

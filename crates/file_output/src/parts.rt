@@ -1,12 +1,12 @@
 // Output: the part-filled block of a file, when it is complete, and sealed.
 use file::File;
 use file::filled_at;
+use file::no_arrival;
 use file::is_side;
 use file::part_side;
 use file::part_words;
 use file::slot_at;
 use file::start_at;
-use word::not_checked;
 ghost use mathlib.Core.Path.{_≡_};
 ghost use Prim.Native.Nat.{_<_};
 ghost use Rattle.file_output.specs.Parts.{hasPart, partStart, partLength, isComplete, sealedFile as sealedOf};
@@ -45,12 +45,12 @@ pub fn is_complete(f: File) -> bool
     (f.size as u32) < next
 }
 
-// The file with its part-filled block sealed: nothing was checked of it.
+// The file with its part-filled block sealed: it did not arrive, and nothing was checked of it.
 pub fn sealed(f: File) -> File
     ensures { λ r. ⌜ r ≡ sealedOf f ⌝ }
 {
     let k = part_side(f);
     let n = part_length(f);
-    let none = not_checked();
+    let none = no_arrival();
     filled_at(f, k, n, none)
 }

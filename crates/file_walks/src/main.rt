@@ -1,8 +1,9 @@
 // Plays events on one file, one a line, and prints an answer line for each: what a second program's answers are compared with.
-// 1 open; 2 read taken; 3 N ERROR SUM NUMBER SUMREAD NUMBERREAD delivered; 4 given back; 5 mark met; 6 get; 7 skip; 8 put; 9 seal; 10 what a write sends; 11 written;
+// 1 open; 2 read taken; 3 N ERROR FAILED SUM NUMBER SUMREAD NUMBERREAD delivered; 4 given back; 5 mark met; 6 get; 7 skip; 8 put; 9 seal; 10 what a write sends; 11 written;
 // 12 not written. Each answer ends with the whole file.
 mod print;
 
+use file::Arrival;
 use file::File;
 use file::Wish;
 use libc::STDIN_FILENO;
@@ -115,7 +116,8 @@ fn after(kind: u64, f: File, w: u16) -> File {
 fn deliver(text: &[u8], p: Desk) -> Desk {
     let n = next(text, p.at);
     let error = next(text, n.at);
-    let sum = next(text, error.at);
+    let failed = next(text, error.at);
+    let sum = next(text, failed.at);
     let due = next(text, sum.at);
     let sumread = next(text, due.at);
     let numberread = next(text, sumread.at);
@@ -126,9 +128,13 @@ fn deliver(text: &[u8], p: Desk) -> Desk {
         sumread: wide(sumread.value),
         numberread: size(numberread.value),
     };
+    let a = Arrival {
+        failed: byte(failed.value),
+        check: c,
+    };
     let f = p.file;
     Desk {
-        file: file_input::delivered(f, size(n.value), c),
+        file: file_input::delivered(f, size(n.value), a),
         w: p.w,
         at: numberread.at,
     }

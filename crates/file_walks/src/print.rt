@@ -1,4 +1,5 @@
 // Answers: numbers with one blank between them, a line feed after the last; and a file as a list of its blocks.
+use file::Arrival;
 use file::File;
 use libc::STDOUT_FILENO;
 use word::Checked;
@@ -30,7 +31,18 @@ pub fn found(c: Checked) {
     number(c.numberread as u64);
 }
 
-// The oldest full block, if there is one: its buffer, data words, the place of get in it, and what its check found, the error not told.
+// How a block arrived: the check error, the read error, and the rest of what the check found.
+fn arrived(a: Arrival) {
+    let c = a.check;
+    number(c.error as u64);
+    number(a.failed as u64);
+    number(c.sum as u64);
+    number(c.number as u64);
+    number(c.sumread as u64);
+    number(c.numberread as u64);
+}
+
+// The oldest full block, if there is one: its buffer, data words, the place of get in it, and how it arrived, the errors not told.
 fn block(f: File) {
     if file_input::has_full(f) {
         let k = file::oldest(f);
@@ -38,7 +50,7 @@ fn block(f: File) {
         number(file::start_at(f, 1, k) as u64);
         number(file::full_words(x) as u64);
         number(file::full_place(x) as u64);
-        found(file::full_found(x));
+        arrived(file::full_arrival(x));
     }
 }
 

@@ -7,7 +7,7 @@ use mathlib.Core.Option.{Option, none, some}
 use mathlib.Core.List.{List, [], _∷_}
 use Prim.Native.Nat.{ℕ, zero, suc, _-_}
 use native.Mathlib.Decide.{ℕ-discrete}
-use lib.Dec.{eqb, leb}
+use lib.Dec.{eqb, leb, ltb}
 use lib.ListN.{length, getD, replicate}
 use borrow.Author.Tests.{eq-eqb, ne-eqb, eqb-true}
 use Rattle.area.specs.Lists.{anyOf}
@@ -28,7 +28,8 @@ use Rattle.channel_outcomes.specs.Rules.{good, redundancy, incompleteWord, file
 use Rattle.channel_turns.specs.Turns.{judgeTurn, judgeOf}
 use Rattle.word.specs.CheckWords.{extra, nextNumber}
 use Rattle.word.specs.declared.Checked.{Checked}
-use Rattle.word.specs.Checks.{unchecked}
+use Rattle.file.specs.declared.Arrival.{Arrival}
+use Rattle.file.specs.Arrivals.{noArrival}
 use Rattle.file.specs.declared.Slot.{Slot}
 use Rattle.file.specs.declared.Slot.the-variants.{Empty, Taken, Part, Full}
 use Rattle.file.specs.declared.Side.{Side}
@@ -102,7 +103,7 @@ slot-marked f Low x t b = refl
 slot-marked f High x t b = refl
 slot-marked f Neither x t b = refl
 
-filled-marked : (f : File) (k : Side) (n : ℕ) (e : Checked) → filledAt f k n e .marked ≡ f .marked
+filled-marked : (f : File) (k : Side) (n : ℕ) (e : Arrival) → filledAt f k n e .marked ≡ f .marked
 unfolding filledAt
 filled-marked f k n e = slot-marked f k (Full n 0 e) (turnedBy f k) (nextNumber (f .block))
 
@@ -128,7 +129,7 @@ added-marked f = go (leb (wordsAfter f) (f .size))
 
 sealed-marked : (f : File) → sealedFile f .marked ≡ f .marked
 unfolding sealedFile
-sealed-marked f = filled-marked f (partSide f) (partLength f) unchecked
+sealed-marked f = filled-marked f (partSide f) (partLength f) noArrival
 
 put-marked : (f : File) → afterPut f .marked ≡ f .marked
 unfolding afterPut
@@ -166,7 +167,7 @@ event-marked f (deliver n e) m = filled-marked f (takenSide f) n e
 -- ---- what a report means for the mark
 
 abbrev meetsMark : Effect → Bool
-meetsMark Delivers = false
+meetsMark (Delivers failed) = false
 meetsMark MeetsMark = true
 meetsMark GivesBack = false
 meetsMark Sends = false
@@ -182,7 +183,9 @@ or-all false = refl
 
 effect-file : (x : Effect) (f : File) (n : ℕ) (e : Checked) → Alike f (reportedFile x f n e) × (reportedFile x f n e .marked ≡ (f .marked || meetsMark x))
 unfolding reportedFile afterWrite metMark
-effect-file Delivers f n e = (event-alike f (deliver (n - extra (f .sequence) (f .check)) e), event-marked f (deliver (n - extra (f .sequence) (f .check)) e) refl ∙ or-none (f .marked))
+effect-file (Delivers failed) f n e =
+    let brings : Event = deliver (n - extra (f .sequence) (f .check)) (record { failed = failed; check = e }) in
+    (event-alike f brings, event-marked f brings refl ∙ or-none (f .marked))
 effect-file MeetsMark f n e = (event-alike f mark, or-all (f .marked))
 effect-file GivesBack f n e = (event-alike f giveBack, event-marked f giveBack refl ∙ or-none (f .marked))
 effect-file Sends f n e = (event-alike f send, event-marked f send refl ∙ or-none (f .marked))
@@ -202,38 +205,40 @@ marks (Refused n) = false
 marks (Repeats q) = false
 marks (Ends e) = isMark e
 
-abbrev Meets : Op → Verdict → Type 0
-Meets op v = meetsMark (effectOf (At op) v) ≡ eqb (resultNumber v) 3
+abbrev Meets : Bool → Op → Verdict → Type 0
+Meets given op v = meetsMark (effectOf given (At op) v) ≡ eqb (resultNumber v) 3
 
-meets-read : (v : Verdict) → Meets Read v
-meets-read (Refused n) = refl
-meets-read (Repeats q) = refl
-meets-read (Ends Good) = refl
-meets-read (Ends Opposite) = refl
-meets-read (Ends MarkRead) = refl
-meets-read (Ends MediumEnd) = refl
-meets-read (Ends LostRedundancy) = refl
-meets-read (Ends LostIncomplete) = refl
+meets-read : (given : Bool) (v : Verdict) → Meets given Read v
+meets-read given (Refused n) = refl
+meets-read given (Repeats q) = refl
+meets-read given (Ends Good) = refl
+meets-read given (Ends Opposite) = refl
+meets-read given (Ends MarkRead) = refl
+meets-read given (Ends MediumEnd) = refl
+meets-read true (Ends LostRedundancy) = refl
+meets-read false (Ends LostRedundancy) = refl
+meets-read true (Ends LostIncomplete) = refl
+meets-read false (Ends LostIncomplete) = refl
 
-meets-write : (v : Verdict) → marks v ≡ false → Meets Write v
-meets-write (Refused n) h = refl
-meets-write (Repeats q) h = refl
-meets-write (Ends Good) h = refl
-meets-write (Ends Opposite) h = refl
-meets-write (Ends MarkRead) h = true-not-false refl h
-meets-write (Ends MediumEnd) h = refl
-meets-write (Ends LostRedundancy) h = refl
-meets-write (Ends LostIncomplete) h = refl
+meets-write : (given : Bool) (v : Verdict) → marks v ≡ false → Meets given Write v
+meets-write given (Refused n) h = refl
+meets-write given (Repeats q) h = refl
+meets-write given (Ends Good) h = refl
+meets-write given (Ends Opposite) h = refl
+meets-write given (Ends MarkRead) h = true-not-false refl h
+meets-write given (Ends MediumEnd) h = refl
+meets-write given (Ends LostRedundancy) h = refl
+meets-write given (Ends LostIncomplete) h = refl
 
-meets-mark : (v : Verdict) → marks v ≡ false → Meets Mark v
-meets-mark (Refused n) h = refl
-meets-mark (Repeats q) h = refl
-meets-mark (Ends Good) h = refl
-meets-mark (Ends Opposite) h = refl
-meets-mark (Ends MarkRead) h = true-not-false refl h
-meets-mark (Ends MediumEnd) h = refl
-meets-mark (Ends LostRedundancy) h = refl
-meets-mark (Ends LostIncomplete) h = refl
+meets-mark : (given : Bool) (v : Verdict) → marks v ≡ false → Meets given Mark v
+meets-mark given (Refused n) h = refl
+meets-mark given (Repeats q) h = refl
+meets-mark given (Ends Good) h = refl
+meets-mark given (Ends Opposite) h = refl
+meets-mark given (Ends MarkRead) h = true-not-false refl h
+meets-mark given (Ends MediumEnd) h = refl
+meets-mark given (Ends LostRedundancy) h = refl
+meets-mark given (Ends LostIncomplete) h = refl
 
 -- an outcome that is not a file mark ends with none
 ending-not : (op : Op) (a o : ℕ) → isMark (goodEnding op a) ≡ false → eqb o fileMark ≡ false → isMark (endingOf op a o) ≡ false
@@ -256,9 +261,9 @@ verdict-not q o h = go (isAllowed (q .op) o) (not (isFailure o) || isPermanent q
     go true false = refl
     go false e = refl
 
-meets-three : (q : Request) (o : ℕ) → isAllowed (q .op) o ≡ true → Meets (q .op) (verdictOf q o)
+meets-three : (given : Bool) (q : Request) (o : ℕ) → isAllowed (q .op) o ≡ true → Meets given (q .op) (verdictOf q o)
 unfolding isAllowed rowOf anyOf
-meets-three q o h = by (q .op) refl
+meets-three given q o h = by (q .op) refl
   where
     never : (op : Op) → q .op ≡ op → isAllowed op fileMark ≡ false → eqb o fileMark ≡ false
     never op e n = go (ℕ-discrete o fileMark)
@@ -267,13 +272,13 @@ meets-three q o h = by (q .op) refl
         go (yes k) = true-not-false (sym (ap (λ (x : Op). isAllowed x o) e ∙ ap (isAllowed op) k) ∙ h) n
         go (no ne) = ne-eqb o fileMark ne
 
-    by : (op : Op) → q .op ≡ op → Meets op (verdictOf q o)
-    by Read e = meets-read (verdictOf q o)
+    by : (op : Op) → q .op ≡ op → Meets given op (verdictOf q o)
+    by Read e = meets-read given (verdictOf q o)
     by Write e =
-        meets-write (verdictOf q o)
+        meets-write given (verdictOf q o)
         (verdict-not q o (ending-not (q .op) (q .attempts) o (ap (λ (x : Op). isMark (goodEnding x (q .attempts))) e) (never Write e refl)))
     by Mark e =
-        meets-mark (verdictOf q o)
+        meets-mark given (verdictOf q o)
         (verdict-not q o (ending-not (q .op) (q .attempts) o (ap (λ (x : Op). isMark (goodEnding x (q .attempts))) e) (never Mark e refl)))
 
 -- ---- one call
@@ -369,17 +374,17 @@ module _ (i : ℕ) (s : State) (area : List ℕ) (g : kept.Good s) (o : Option O
     unfolding operationAt
     allowed r w = not-false (isAllowed (r .op) outcome) (sym (ap (λ (x : Turn). isForbidden (workOf x) outcome) w) ∙ ready .allowed)
 
-    three : meetsMark (effectAt c unit outcome) ≡ eqb result 3
+    three : meetsMark (effectAt c unit outcome (length words)) ≡ eqb result 3
     unfolding answerOf operationAt judgeOf
     three = go (view s area channel unit outcome words (g .sixteen) number)
       where
-        for : (r : Request) → turnAt c unit ≡ Working r → meetsMark (effectAt c unit outcome) ≡ eqb result 3
+        for : (r : Request) → turnAt c unit ≡ Working r → meetsMark (effectAt c unit outcome (length words)) ≡ eqb result 3
         for r w =
-            ap (λ (x : Turn). meetsMark (effectOf (workOf x) (judgeTurn x outcome))) w
-            ∙ meets-three r outcome (allowed r w)
+            ap (λ (x : Turn). meetsMark (effectOf (ltb 0 (length words)) (workOf x) (judgeTurn x outcome))) w
+            ∙ meets-three (ltb 0 (length words)) r outcome (allowed r w)
             ∙ sym (ap (λ (n : ℕ). eqb n 3) (result-is channel s area channel unit outcome words z ∙ ap (λ (x : Turn). resultNumber (judgeTurn x outcome)) w))
 
-        go : Booked c unit outcome → meetsMark (effectAt c unit outcome) ≡ eqb result 3
+        go : Booked c unit outcome → meetsMark (effectAt c unit outcome (length words)) ≡ eqb result 3
         go (again r q w e) = for r w
         go (ended r x w e) = for r w
 
@@ -391,7 +396,7 @@ module _ (i : ℕ) (s : State) (area : List ℕ) (g : kept.Good s) (o : Option O
     unfolding answerOf
     others = report-books-own s area channel unit outcome words (g .sixteen) z .others .files
 
-    became : fileAt t j ≡ reportedFile (effectAt c unit outcome) (fileAt s j) (length words) (deliveryCheck (effectAt c unit outcome) (fileAt s j) words)
+    became : fileAt t j ≡ reportedFile (effectAt c unit outcome (length words)) (fileAt s j) (length words) (deliveryCheck (effectAt c unit outcome (length words)) (fileAt s j) words)
     unfolding answerOf
     became = report-file s area channel unit outcome words (g .sixteen) z
 
@@ -408,7 +413,7 @@ module _ (i : ℕ) (s : State) (area : List ℕ) (g : kept.Good s) (o : Option O
           marked = x .marked || (eqb (x .channel) channel && (eqb (x .unit) unit && eqb result 3));
         })
         mine x Kx =
-            let P = effect-file (effectAt c unit outcome) (fileAt s j) (length words) (deliveryCheck (effectAt c unit outcome) (fileAt s j) words) in
+            let P = effect-file (effectAt c unit outcome (length words)) (fileAt s j) (length words) (deliveryCheck (effectAt c unit outcome (length words)) (fileAt s j) words) in
             let rest = and-right (fileAt s j .opened) _ bound in
             let onChannel : x .channel ≡ channel = sym (Kx .channel) ∙ eqb-true (fileAt s j .channel) channel (and-left (eqb (fileAt s j .channel) channel) _ rest) in
             let onUnit : x .unit ≡ unit = sym (Kx .unit) ∙ eqb-true (fileAt s j .unit) unit (and-right (eqb (fileAt s j .channel) channel) _ rest) in
@@ -419,7 +424,7 @@ module _ (i : ℕ) (s : State) (area : List ℕ) (g : kept.Good s) (o : Option O
               channel = ap (λ (f : File). f .channel) became ∙ P .0 .channel ∙ Kx .channel;
               unit = ap (λ (f : File). f .unit) became ∙ P .0 .unit ∙ Kx .unit;
               marked =
-                  ap (λ (f : File). f .marked) became ∙ P .1 ∙ ap (λ (b : Bool). b || meetsMark (effectAt c unit outcome)) (Kx .marked)
+                  ap (λ (f : File). f .marked) became ∙ P .1 ∙ ap (λ (b : Bool). b || meetsMark (effectAt c unit outcome (length words))) (Kx .marked)
                   ∙ ap (λ (b : Bool). x .marked || b) (three ∙ sym flags);
             }
 

@@ -5,6 +5,7 @@ use channel::Request;
 use channel::Turn;
 use channel::UNITS;
 use channel::Unit;
+use file::Arrival;
 use file::Buffer;
 use file::File;
 use file::Slot;
@@ -13,8 +14,6 @@ use state::State;
 use state::channel_at;
 use state::file_at;
 use state::with_channel;
-use word::Checked;
-use word::not_checked;
 
 fn byte(n: u64) -> u8 {
     (n % 256) as u8
@@ -41,41 +40,43 @@ fn kind_slot(kind: u64) -> Slot {
         3 => Slot::Full {
             words: 0,
             at: 0,
-            found: not_checked(),
+            arrival: file::no_arrival(),
         },
         _ => Slot::Empty,
     }
 }
 
-// What a check found with another of its numbers: 4 the error, 5 and 6 the sum and the number worked out, 7 and 8 those read.
-fn found_with(c: Checked, field: u64, v: u64) -> Checked {
-    let mut d = c;
+// How a block arrived with another of its numbers: 4 the check error, 5 the read error, 6 and 7 the sum and the number worked out, 8 and 9 those read.
+fn arrival_with(a: Arrival, field: u64, v: u64) -> Arrival {
+    let mut c = a.check;
+    let mut failed = a.failed;
     match field {
-        4 => d.error = byte(v),
-        5 => d.sum = mask(v),
-        6 => d.number = size(v),
-        7 => d.sumread = mask(v),
-        _ => d.numberread = size(v),
+        4 => c.error = byte(v),
+        5 => failed = byte(v),
+        6 => c.sum = mask(v),
+        7 => c.number = size(v),
+        8 => c.sumread = mask(v),
+        _ => c.numberread = size(v),
     }
-    d
+    Arrival { failed, check: c }
 }
 
-fn full_with(field: u64, words: u16, at: u16, found: Checked, v: u64) -> Slot {
+fn full_with(field: u64, words: u16, at: u16, arrival: Arrival, v: u64) -> Slot {
     match field {
         2 => Slot::Full {
             words: size(v),
             at,
-            found,
+            arrival,
         },
         3 => Slot::Full {
             words,
             at: size(v),
-            found,
+            arrival,
         },
         _ => Slot::Full {
             words,
             at,
-            found: found_with(found, field, v),
+            arrival: arrival_with(arrival, field, v),
         },
     }
 }
@@ -87,13 +88,13 @@ fn part_with(field: u64, n: u16, v: u64) -> Slot {
     Slot::Part(n)
 }
 
-// A slot with another of its numbers, if it has that: 2 words, 3 the place of get, 4 to 8 what the check found.
+// A slot with another of its numbers, if it has that: 2 words, 3 the place of get, 4 to 9 how the block arrived.
 fn slot_with(x: Slot, field: u64, v: u64) -> Slot {
     match x {
         Slot::Empty => Slot::Empty,
         Slot::Taken => Slot::Taken,
         Slot::Part(n) => part_with(field, n, v),
-        Slot::Full { words, at, found } => full_with(field, words, at, found, v),
+        Slot::Full { words, at, arrival } => full_with(field, words, at, arrival, v),
     }
 }
 
@@ -162,8 +163,8 @@ fn is_number(field: u64) -> bool {
 }
 
 fn file_with(f: File, field: u64, v: u64) -> File {
-    if 21 <= field {
-        return high_with(f, field - 21, v);
+    if 22 <= field {
+        return high_with(f, field - 22, v);
     }
     if 12 <= field {
         return low_with(f, field - 12, v);

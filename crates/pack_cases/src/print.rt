@@ -4,6 +4,7 @@ use channel::Op;
 use channel::Request;
 use channel::Turn;
 use channel::UNITS;
+use file::Arrival;
 use file::Buffer;
 use file::File;
 use file::Slot;
@@ -124,11 +125,22 @@ pub fn checked(c: Checked) {
     number(c.numberread as u64);
 }
 
+// How a block arrived: the check error, the read error, and the rest of what the check found.
+fn arrived(a: Arrival) {
+    let c = a.check;
+    number(c.error as u64);
+    number(a.failed as u64);
+    number(c.sum as u64);
+    number(c.number as u64);
+    number(c.sumread as u64);
+    number(c.numberread as u64);
+}
+
 fn slot(x: Slot) {
     number(kind(x));
     number(file::part_words(x) as u64 | file::full_words(x) as u64);
     number(file::full_place(x) as u64);
-    checked(file::full_found(x));
+    arrived(file::full_arrival(x));
 }
 
 fn kind(x: Slot) -> u64 {
@@ -139,7 +151,7 @@ fn kind(x: Slot) -> u64 {
         Slot::Full {
             words: _,
             at: _,
-            found: _,
+            arrival: _,
         } => 3,
     }
 }

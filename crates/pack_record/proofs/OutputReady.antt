@@ -9,7 +9,7 @@ use lib.ListN.{length}
 use Rattle.area.proofs.Walks.{true-not-false, and-left, and-right, and-both}
 use Rattle.area.proofs.Marks.{cond-true, unless, unless-so}
 use Rattle.channel.specs.declared.Work.{Work}
-use Rattle.word.specs.Checks.{unchecked}
+use Rattle.file.specs.Arrivals.{noArrival}
 use Rattle.file.specs.declared.Slot.the-variants.{Part}
 use Rattle.file.specs.declared.Side.{Side}
 use Rattle.file.specs.declared.Side.the-variants.{Low, High, Neither}
@@ -43,7 +43,7 @@ low-side true false = refl
 low-side false t = refl
 
 -- a block that becomes full is one
-filled-full : (f : File) (k : Side) (n : ℕ) → isSide k ≡ true → hasFull (filledAt f k n unchecked) ≡ true
+filled-full : (f : File) (k : Side) (n : ℕ) → isSide k ≡ true → hasFull (filledAt f k n noArrival) ≡ true
 unfolding filledAt oldest
 filled-full f Low n s = low-side (isFull (f .high .slot)) (turnedBy f Low)
 filled-full f High n s = lower-side (isFull (f .low .slot)) true (turnedBy f High) refl
@@ -81,7 +81,7 @@ put-full m w f S room h = ap hasFull (put-is f room P) ∙ go (ltb (f .size) (wo
     same : added f ≡ more
     same = cond-true more f (le-leb (wordsAfter f) (f .size) (P .fit))
 
-    go : (t : Bool) → hasFull (cond t (filledAt f (putSide f) (wordsAfter f) unchecked) more) ≡ true
+    go : (t : Bool) → hasFull (cond t (filledAt f (putSide f) (wordsAfter f) noArrival) more) ≡ true
     go true = filled-full f (putSide f) (wordsAfter f) room
     go false =
         let long : length (line more) ≡ length (line f) = ap length (sym (ap line same) ∙ added-line f) in

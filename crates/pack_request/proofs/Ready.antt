@@ -14,7 +14,10 @@ use Rattle.channel.specs.declared.Work.the-variants.{At, Nothing}
 use Rattle.channel_outcomes.specs.declared.Ending.{Ending}
 use Rattle.channel_outcomes.specs.declared.Ending.the-variants.{Good, Opposite, MarkRead, MediumEnd, LostRedundancy, LostIncomplete}
 use Rattle.word.specs.declared.Checked.{Checked}
-use Rattle.word.specs.Checks.{isChecked}
+use Rattle.word.specs.Checks.{isChecked, isExact}
+use Rattle.file.specs.declared.Arrival.{Arrival}
+use Rattle.file.specs.Arrivals.{redundancyError, incompleteError, isArrival}
+use Rattle.file.proofs.ArrivalLaws.{arrival, well-fits, kept-fits}
 use Rattle.file.specs.declared.Slot.{Slot}
 use Rattle.file.specs.declared.Slot.the-variants.{Empty, Taken, Full}
 use Rattle.file.specs.declared.Side.{Side}
@@ -73,7 +76,7 @@ module _ (f : File) (n : takenCount f ≡ 1) where
   here : isSide (takenSide f) ≡ true
   here = some-taken f n
 
-  delivered-count : (k : ℕ) (e : Checked) → takenCount (delivered f k e) ≡ 0
+  delivered-count : (k : ℕ) (e : Arrival) → takenCount (delivered f k e) ≡ 0
   unfolding delivered filledAt
   delivered-count k e = freed-count f (takenSide f) (Full k 0 e) (turnedBy f (takenSide f)) (nextNumber (f .block)) here (taken-there f here) refl n
 
@@ -164,7 +167,8 @@ asked-file m w f op S n (marks o b) = record {
 
 -- ---- report
 
-module _ (m w : ℕ) (f : File) (n : ℕ) (found : Checked) (S : Sound m w f) (right : isChecked (f .sequence) (f .check) found ≡ true) where
+module _ (m w : ℕ) (f : File) (n : ℕ) (found : Checked) (S : Sound m w f) (right : isChecked (f .sequence) (f .check) found ≡ true)
+    (exact : isExact (f .sequence) (f .check) found ≡ true) where
   untouched : takenCount f ≡ 0 → Became m w Nothing f f
   untouched k = record { sound = S; ready = ready-none f k; alike = alike-self f }
 
@@ -172,16 +176,17 @@ module _ (m w : ℕ) (f : File) (n : ℕ) (found : Checked) (S : Sound m w f) (r
   unfolding withoutOldest
   sent k = record { sound = dropped-sound m w f S; ready = ready-none (withoutOldest f) (emptied-count f (oldest f) k); alike = event-alike f send }
 
-  brought : takenCount f ≡ 1 → blockFits f n ≡ true → Became m w Nothing f (delivered f (n - extra (f .sequence) (f .check)) found)
-  brought k h =
+  brought : (a : Arrival) → isArrival (f .sequence) (f .check) a ≡ true → takenCount f ≡ 1 → blockFits f n ≡ true
+      → Became m w Nothing f (delivered f (n - extra (f .sequence) (f .check)) a)
+  brought a fits k h =
       let b = fits-bounds f n h in
       let d = n - extra (f .sequence) (f .check) in
       let some : 1 ≤ d = omega (arith, b .0) in
       let fit : d ≤ f .size = omega (arith, b .1) in
       record {
-        sound = delivered-sound m w f S d found (some-taken f k) some fit right;
-        ready = ready-none (delivered f d found) (delivered-count f k d found);
-        alike = event-alike f (deliver d found);
+        sound = delivered-sound m w f S d a (some-taken f k) some fit fits;
+        ready = ready-none (delivered f d a) (delivered-count f k d a);
+        alike = event-alike f (deliver d a);
       }
 
   back : takenCount f ≡ 1 → Became m w Nothing f (gaveBack f)
@@ -190,20 +195,30 @@ module _ (m w : ℕ) (f : File) (n : ℕ) (found : Checked) (S : Sound m w f) (r
   met : takenCount f ≡ 1 → Became m w Nothing f (metMark f)
   met k = record { sound = met-sound m w f S (taken-input m w f S (some-taken f k)); ready = ready-none (metMark f) (met-count f k); alike = event-alike f mark }
 
-  -- whatever operation the file was ready for, and however it ends
-  pub ended-file : (op : Op) (e : Ending) → fileReady (At op) f ≡ true → (isDelivery (opEffect op e) ≡ true → blockFits f n ≡ true)
-      → Became m w Nothing f (reportedFile (opEffect op e) f n found)
+  -- a block that was read well, and one that is kept after a permanent error
+  good : takenCount f ≡ 1 → blockFits f n ≡ true → Became m w Nothing f (delivered f (n - extra (f .sequence) (f .check)) (arrival 0 found))
+  good = brought (arrival 0 found) (well-fits (f .sequence) (f .check) found right)
+
+  kept : (x : ℕ) → (eqb x redundancyError || eqb x incompleteError) ≡ true → takenCount f ≡ 1 → blockFits f n ≡ true
+      → Became m w Nothing f (delivered f (n - extra (f .sequence) (f .check)) (arrival x found))
+  kept x k = brought (arrival x found) (kept-fits (f .sequence) (f .check) x found k right exact)
+
+  -- whatever operation the file was ready for, and however it ends, with words or without
+  pub ended-file : (some : Bool) (op : Op) (e : Ending) → fileReady (At op) f ≡ true → (isDelivery (opEffect some op e) ≡ true → blockFits f n ≡ true)
+      → Became m w Nothing f (reportedFile (opEffect some op e) f n found)
   unfolding reportedFile afterWrite
-  ended-file Read Good h k = brought (ready-facts (At Read) f h .taken) (k refl)
-  ended-file Read Opposite h k = brought (ready-facts (At Read) f h .taken) (k refl)
-  ended-file Read MarkRead h k = met (ready-facts (At Read) f h .taken)
-  ended-file Read MediumEnd h k = back (ready-facts (At Read) f h .taken)
-  ended-file Read LostRedundancy h k = back (ready-facts (At Read) f h .taken)
-  ended-file Read LostIncomplete h k = back (ready-facts (At Read) f h .taken)
-  ended-file Write Good h k = sent (ready-facts (At Write) f h .taken)
-  ended-file Write Opposite h k = untouched (ready-facts (At Write) f h .taken)
-  ended-file Write MarkRead h k = untouched (ready-facts (At Write) f h .taken)
-  ended-file Write MediumEnd h k = sent (ready-facts (At Write) f h .taken)
-  ended-file Write LostRedundancy h k = untouched (ready-facts (At Write) f h .taken)
-  ended-file Write LostIncomplete h k = untouched (ready-facts (At Write) f h .taken)
-  ended-file Mark e h k = untouched (ready-facts (At Mark) f h .taken)
+  ended-file some Read Good h k = good (ready-facts (At Read) f h .taken) (k refl)
+  ended-file some Read Opposite h k = good (ready-facts (At Read) f h .taken) (k refl)
+  ended-file some Read MarkRead h k = met (ready-facts (At Read) f h .taken)
+  ended-file some Read MediumEnd h k = back (ready-facts (At Read) f h .taken)
+  ended-file true Read LostRedundancy h k = kept redundancyError refl (ready-facts (At Read) f h .taken) (k refl)
+  ended-file false Read LostRedundancy h k = back (ready-facts (At Read) f h .taken)
+  ended-file true Read LostIncomplete h k = kept incompleteError refl (ready-facts (At Read) f h .taken) (k refl)
+  ended-file false Read LostIncomplete h k = back (ready-facts (At Read) f h .taken)
+  ended-file some Write Good h k = sent (ready-facts (At Write) f h .taken)
+  ended-file some Write Opposite h k = untouched (ready-facts (At Write) f h .taken)
+  ended-file some Write MarkRead h k = untouched (ready-facts (At Write) f h .taken)
+  ended-file some Write MediumEnd h k = sent (ready-facts (At Write) f h .taken)
+  ended-file some Write LostRedundancy h k = untouched (ready-facts (At Write) f h .taken)
+  ended-file some Write LostIncomplete h k = untouched (ready-facts (At Write) f h .taken)
+  ended-file some Mark e h k = untouched (ready-facts (At Mark) f h .taken)

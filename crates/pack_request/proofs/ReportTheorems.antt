@@ -28,7 +28,7 @@ use Rattle.channel.specs.declared.Work.the-variants.{At, Nothing}
 use Rattle.channel_outcomes.specs.declared.Ending.{Ending}
 use Rattle.channel_outcomes.specs.declared.Verdict.{Verdict}
 use Rattle.channel_outcomes.specs.declared.Verdict.the-variants.{Repeats, Ends}
-use Rattle.channel_outcomes.specs.Rules.{isAllowed, isFailure, isPermanent, nextAttempt, endingOf, verdictOf, resultNumber, outcomeCount}
+use Rattle.channel_outcomes.specs.Rules.{isAllowed, isFailure, isPermanent, nextAttempt, endingOf, verdictOf, resultNumber, outcomeCount, incompleteWord}
 use Rattle.channel.specs.Units.{turnAt, workOf, operationAt, unitCount}
 use Rattle.channel_turns.specs.Scans.{workingIn, unitNumber}
 use Rattle.channel_turns.specs.Turns.{judgeTurn, judgeOf, bookOf, reportOf}
@@ -54,10 +54,10 @@ use Rattle.state_sound.proofs.ChannelCalls.{repeat-moved, end-moved}
 use Rattle.state_sound.proofs.Kept.{line-of, place-of}
 use Rattle.word.specs.declared.Checked.{Checked}
 use Rattle.word.specs.CheckWords.{blockNumbers}
-use Rattle.word.specs.Checks.{unchecked, isChecked}
-use Rattle.word.proofs.Laws.Checks.{unchecked-fits}
+use Rattle.word.specs.Checks.{unchecked, isChecked, isExact}
+use Rattle.word.proofs.Laws.Checks.{unchecked-fits, unchecked-exact}
 use Rattle.block.specs.Blocks.{judgedBlock}
-use Rattle.block.proofs.Laws.Finds.{judged-fits}
+use Rattle.block.proofs.Laws.Finds.{judged-compares, judged-fits}
 use Rattle.call_request.specs.declared.Delivery.the-variants.{Without}
 use Rattle.call_request.specs.declared.Effect.{Effect}
 use Rattle.call_request.specs.declared.ReportChange.{ReportChange}
@@ -107,6 +107,14 @@ delivery-fits x f words small = go (isDelivery x)
     go true = judged-fits words (f .sequence) (f .check) (f .block) small
     go false = unchecked-fits (f .sequence) (f .check)
 
+-- and its error has not been told
+delivery-exact : (x : Effect) (f : File) (words : List ℕ) → isExact (f .sequence) (f .check) (deliveryCheck x f words) ≡ true
+delivery-exact x f words = go (isDelivery x)
+  where
+    go : (b : Bool) → isExact (f .sequence) (f .check) (cond b (judgedBlock words (f .sequence) (f .check) (f .block) .found) unchecked) ≡ true
+    go true = eq-eqb _ _ (judged-compares words (f .sequence) (f .check) (f .block))
+    go false = unchecked-exact (f .sequence) (f .check)
+
 -- ---- the file of a unit
 
 pub serving : (fs : List File) (c u : ℕ) → length fs ≡ fileCount → Served fs c u → serves c u (getD fs (numberOr (servingFile fs c u) fileCount) closedFile) ≡ true
@@ -126,24 +134,24 @@ pub record ReportReady (wrong : Bool) (f : File) (c : Channel) (u outcome w : �
   pub right : wrong ≡ false
   pub range : (leb unitCount u || leb outcomeCount outcome) ≡ false
   pub given : allOf isWord words ≡ true
-  pub handed : allOf isWord (shownBlock (effectAt c u outcome) w f area) ≡ true
+  pub handed : allOf isWord (shownBlock (effectAt c u outcome (length words)) w f area) ≡ true
   pub works : isIdleFor (operationAt c u) ≡ false
   pub allowed : isForbidden (operationAt c u) outcome ≡ false
-  pub fits : isDelivery (effectAt c u outcome) ≡ true → blockFits f (length words) ≡ true
+  pub fits : isDelivery (effectAt c u outcome (length words)) ≡ true → blockFits f (length words) ≡ true
 
-and-not : (a b : Bool) → (a && not b) ≡ false → a ≡ true → b ≡ true
-and-not true b e t = not-false b e
-and-not false b e t = true-not-false t refl
+and-not : (a w b : Bool) → ((a || w) && not b) ≡ false → a ≡ true → b ≡ true
+and-not true w b e t = not-false b e
+and-not false w b e t = true-not-false t refl
 
 pub report-ready : (wrong : Bool) (f : File) (c : Channel) (u outcome w : ℕ) (area words : List ℕ) → reportRefusal wrong f c u outcome w area words ≡ 0
     → ReportReady wrong f c u outcome w area words
 unfolding reportRefusal
 report-ready wrong f c u outcome w area words z =
-    let a = lowest-none 1 (wrong || ((leb unitCount u || leb outcomeCount outcome) || (ltb 0 (length words) && (ltb 0 outcome || takesNoWords (operationAt c u))))) _ (λ q. omega arith) z in
-    let b = lowest-none 2 (not (allOf isWord words) || not (allOf isWord (shownBlock (effectAt c u outcome) w f area))) _ (λ q. omega arith) (a .1) in
+    let a = lowest-none 1 (wrong || ((leb unitCount u || leb outcomeCount outcome) || (ltb 0 (length words) && (ltb incompleteWord outcome || takesNoWords (operationAt c u))))) _ (λ q. omega arith) z in
+    let b = lowest-none 2 (not (allOf isWord words) || not (allOf isWord (shownBlock (effectAt c u outcome (length words)) w f area))) _ (λ q. omega arith) (a .1) in
     let d = lowest-none 11 _ _ (λ q. omega arith) (b .1) in
     let e = lowest-none 12 _ _ (λ q. omega arith) (d .1) in
-    let g = lowest-none 13 (isDelivery (effectAt c u outcome) && not (blockFits f (length words))) _ (λ q. omega arith) (e .1) in
+    let g = lowest-none 13 ((isDelivery (effectAt c u outcome (length words)) || ltb 0 (length words)) && not (blockFits f (length words))) _ (λ q. omega arith) (e .1) in
     record {
       right = or-left wrong _ (a .0);
       range = or-left (leb unitCount u || leb outcomeCount outcome) _ (or-right wrong _ (a .0));
@@ -151,7 +159,7 @@ report-ready wrong f c u outcome w area words z =
       handed = not-false _ (or-right (not (allOf isWord words)) _ (b .0));
       works = d .0;
       allowed = e .0;
-      fits = and-not (isDelivery (effectAt c u outcome)) (blockFits f (length words)) (g .0);
+      fits = and-not (isDelivery (effectAt c u outcome (length words))) (ltb 0 (length words)) (blockFits f (length words)) (g .0);
     }
 
 -- ---- the call on a state
@@ -185,7 +193,7 @@ module _ (s : State) (area : List ℕ) (channel unit outcome : ℕ) (words : Lis
   change = reportOn wrong f c unit outcome (s .w) (s .frozen) area words
 
   abbrev effect : Effect
-  effect = effectAt c unit outcome
+  effect = effectAt c unit outcome (length words)
 
   abbrev booking : Channel
   booking = bookOf c unit (judgeOf c unit outcome) (s .frozen)
@@ -286,12 +294,13 @@ module _ (s : State) (area : List ℕ) (channel unit outcome : ℕ) (words : Lis
         sym (ap (λ (n : ℕ). fileReady (requested (turnAt (channelAt s n) (f .unit))) f) on-channel ∙ ap (λ (n : ℕ). fileReady (requested (turnAt c n)) f) on-unit)
         ∙ facts .ready i isOpen
 
-    after-facts : (found : Checked) → isChecked (f .sequence) (f .check) found ≡ true → SoundFacts (withFile (withChannel s channel booking) i (reportedFile effect f (length words) found))
+    after-facts : (found : Checked) → isChecked (f .sequence) (f .check) found ≡ true → isExact (f .sequence) (f .check) found ≡ true
+        → SoundFacts (withFile (withChannel s channel booking) i (reportedFile effect f (length words) found))
     unfolding operationAt reportedFile
-    after-facts found right = go view (ready .fits)
+    after-facts found right exact = go view (ready .fits)
       where
         To : Work → Verdict → Type 0
-        To x v = SoundFacts (withFile (withChannel s channel (bookOf c unit v (s .frozen))) i (reportedFile (effectOf x v) f (length words) found))
+        To x v = SoundFacts (withFile (withChannel s channel (bookOf c unit v (s .frozen))) i (reportedFile (effectOf (ltb 0 (length words)) x v) f (length words) found))
 
         go : Booked c unit outcome → (isDelivery effect ≡ true → blockFits f (length words) ≡ true) → To (operationAt c unit) (judgeOf c unit outcome)
         go (again r q t j) k =
@@ -301,12 +310,12 @@ module _ (s : State) (area : List ℕ) (channel unit outcome : ℕ) (words : Lis
             (record { sound = facts .files i isOpen; ready = requested-ready; alike = alike-self f }))
         go (ended r e t j) k =
             let w : operationAt c unit ≡ At (r .op) = ap workOf t in
-            let here : effect ≡ opEffect (r .op) e = ap (effectOf (operationAt c unit)) j ∙ ap (λ (x : Work). effectOf x (Ends e)) w in
+            let here : effect ≡ opEffect (ltb 0 (length words)) (r .op) e = ap (effectOf (ltb 0 (length words)) (operationAt c unit)) j ∙ ap (λ (x : Work). effectOf (ltb 0 (length words)) x (Ends e)) w in
             subst (To (operationAt c unit)) (sym j)
             (subst (λ (x : Work). To x (Ends e)) (sym w)
             (became-sound s i channel unit (bookOf c unit (Ends e) (s .frozen)) _ Nothing facts isOpen on-channel on-unit
             (end-moved (s .m) c unit (s .frozen) (facts .channels channel) outcome e j)
-            (ended-file (s .m) (s .w) f (length words) found (facts .files i isOpen) right (r .op) e
+            (ended-file (s .m) (s .w) f (length words) found (facts .files i isOpen) right exact (ltb 0 (length words)) (r .op) e
             (sym (ap (λ (x : Turn). fileReady (requested x) f) t) ∙ requested-ready) (λ b. k (ap isDelivery here ∙ b)))))
 
     reported-channel : channelAt (reported .state) channel ≡ booking
@@ -339,7 +348,7 @@ module _ (s : State) (area : List ℕ) (channel unit outcome : ℕ) (words : Lis
   report-kept n h = go (ℕ-discrete refusal 0)
     where
       go : Dec (refusal ≡ 0) → sound (reported .state) ≡ true
-      go (yes z) = ap sound (report-state z) ∙ facts-sound _ (after-facts n z (deliveryCheck effect f words) (delivery-fits effect f words (facts n z .files i (isOpen n z) .number)))
+      go (yes z) = ap sound (report-state z) ∙ facts-sound _ (after-facts n z (deliveryCheck effect f words) (delivery-fits effect f words (facts n z .files i (isOpen n z) .number)) (delivery-exact effect f words))
       go (no k) = ap (λ (r : Reporting). sound (r .state)) (report-alone k .answer) ∙ h
 
   -- an accepted report is one event of its channel, which the channel books too

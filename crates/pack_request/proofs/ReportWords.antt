@@ -8,7 +8,7 @@ use Prim.Native.Nat.{ℕ, _+_, _-_, _*_, _≤_, _<_}
 use native.Mathlib.Nat.{suc-mul}
 use native.Mathlib.Decide.{ℕ-discrete}
 use native.Mathlib.Omega.{arith}
-use lib.Dec.{eqb}
+use lib.Dec.{ltb, eqb}
 use lib.ListN.{length, drop, getD}
 use lib.Seq.{getD-take, getD-drop}
 use borrow.Author.Tests.{ne-eqb, eq-eqb, ltb-false}
@@ -52,7 +52,7 @@ use Rattle.pack_request.proofs.ReportTheorems.{Booked, again, ended, Re
 -- ---- which operation an effect is of
 
 abbrev pub isSending : Effect → Bool
-isSending Delivers = false
+isSending (Delivers failed) = false
 isSending MeetsMark = false
 isSending GivesBack = false
 isSending Sends = true
@@ -61,80 +61,90 @@ isSending Keeps = false
 abbrev isGood : ℕ → Bool
 isGood result = eqb result 1 || eqb result 2
 
+-- "05 permanent redundancy, 06 permanent incomplete word"
+abbrev isLost : ℕ → Bool
+isLost result = eqb result 5 || eqb result 6
+
 -- "if it ends a write with 01 or 04"
 abbrev isDone : ℕ → Bool
 isDone result = eqb result 1 || eqb result 4
 
--- a block is delivered exactly by a read that ends with 01 or 02
-pub delivers-exactly : (x : Work) (v : Verdict) → isDelivery (effectOf x v) ≡ (isRead x && isGood (resultNumber v))
-delivers-exactly (At op) (Refused n) = sym (and-false (isReadOp op))
-delivers-exactly (At op) (Repeats q) = sym (and-false (isReadOp op))
-delivers-exactly (At Read) (Ends Good) = refl
-delivers-exactly (At Read) (Ends Opposite) = refl
-delivers-exactly (At Read) (Ends MarkRead) = refl
-delivers-exactly (At Read) (Ends MediumEnd) = refl
-delivers-exactly (At Read) (Ends LostRedundancy) = refl
-delivers-exactly (At Read) (Ends LostIncomplete) = refl
-delivers-exactly (At Write) (Ends Good) = refl
-delivers-exactly (At Write) (Ends Opposite) = refl
-delivers-exactly (At Write) (Ends MarkRead) = refl
-delivers-exactly (At Write) (Ends MediumEnd) = refl
-delivers-exactly (At Write) (Ends LostRedundancy) = refl
-delivers-exactly (At Write) (Ends LostIncomplete) = refl
-delivers-exactly (At Mark) (Ends e) = refl
-delivers-exactly Nothing (Refused n) = refl
-delivers-exactly Nothing (Repeats q) = refl
-delivers-exactly Nothing (Ends e) = refl
+-- a block is delivered exactly by a read that ends with 01 or 02, or with 05 or 06 and words
+pub delivers-exactly : (some : Bool) (x : Work) (v : Verdict) → isDelivery (effectOf some x v) ≡ (isRead x && (isGood (resultNumber v) || (isLost (resultNumber v) && some)))
+delivers-exactly some (At op) (Refused n) = sym (and-false (isReadOp op))
+delivers-exactly some (At op) (Repeats q) = sym (and-false (isReadOp op))
+delivers-exactly some (At Read) (Ends Good) = refl
+delivers-exactly some (At Read) (Ends Opposite) = refl
+delivers-exactly some (At Read) (Ends MarkRead) = refl
+delivers-exactly some (At Read) (Ends MediumEnd) = refl
+delivers-exactly true (At Read) (Ends LostRedundancy) = refl
+delivers-exactly false (At Read) (Ends LostRedundancy) = refl
+delivers-exactly true (At Read) (Ends LostIncomplete) = refl
+delivers-exactly false (At Read) (Ends LostIncomplete) = refl
+delivers-exactly some (At Write) (Ends Good) = refl
+delivers-exactly some (At Write) (Ends Opposite) = refl
+delivers-exactly some (At Write) (Ends MarkRead) = refl
+delivers-exactly some (At Write) (Ends MediumEnd) = refl
+delivers-exactly some (At Write) (Ends LostRedundancy) = refl
+delivers-exactly some (At Write) (Ends LostIncomplete) = refl
+delivers-exactly some (At Mark) (Ends e) = refl
+delivers-exactly some Nothing (Refused n) = refl
+delivers-exactly some Nothing (Repeats q) = refl
+delivers-exactly some Nothing (Ends e) = refl
 
 -- a block is handed out exactly by a write that ends with 01 or 04
-pub sends-exactly : (x : Work) (v : Verdict) → isSending (effectOf x v) ≡ (isWrite x && isDone (resultNumber v))
-sends-exactly (At op) (Refused n) = sym (and-false (isWriteOp op))
-sends-exactly (At op) (Repeats q) = sym (and-false (isWriteOp op))
-sends-exactly (At Read) (Ends Good) = refl
-sends-exactly (At Read) (Ends Opposite) = refl
-sends-exactly (At Read) (Ends MarkRead) = refl
-sends-exactly (At Read) (Ends MediumEnd) = refl
-sends-exactly (At Read) (Ends LostRedundancy) = refl
-sends-exactly (At Read) (Ends LostIncomplete) = refl
-sends-exactly (At Write) (Ends Good) = refl
-sends-exactly (At Write) (Ends Opposite) = refl
-sends-exactly (At Write) (Ends MarkRead) = refl
-sends-exactly (At Write) (Ends MediumEnd) = refl
-sends-exactly (At Write) (Ends LostRedundancy) = refl
-sends-exactly (At Write) (Ends LostIncomplete) = refl
-sends-exactly (At Mark) (Ends e) = refl
-sends-exactly Nothing (Refused n) = refl
-sends-exactly Nothing (Repeats q) = refl
-sends-exactly Nothing (Ends e) = refl
+pub sends-exactly : (some : Bool) (x : Work) (v : Verdict) → isSending (effectOf some x v) ≡ (isWrite x && isDone (resultNumber v))
+sends-exactly some (At op) (Refused n) = sym (and-false (isWriteOp op))
+sends-exactly some (At op) (Repeats q) = sym (and-false (isWriteOp op))
+sends-exactly some (At Read) (Ends Good) = refl
+sends-exactly some (At Read) (Ends Opposite) = refl
+sends-exactly some (At Read) (Ends MarkRead) = refl
+sends-exactly some (At Read) (Ends MediumEnd) = refl
+sends-exactly true (At Read) (Ends LostRedundancy) = refl
+sends-exactly false (At Read) (Ends LostRedundancy) = refl
+sends-exactly true (At Read) (Ends LostIncomplete) = refl
+sends-exactly false (At Read) (Ends LostIncomplete) = refl
+sends-exactly some (At Write) (Ends Good) = refl
+sends-exactly some (At Write) (Ends Opposite) = refl
+sends-exactly some (At Write) (Ends MarkRead) = refl
+sends-exactly some (At Write) (Ends MediumEnd) = refl
+sends-exactly some (At Write) (Ends LostRedundancy) = refl
+sends-exactly some (At Write) (Ends LostIncomplete) = refl
+sends-exactly some (At Mark) (Ends e) = refl
+sends-exactly some Nothing (Refused n) = refl
+sends-exactly some Nothing (Repeats q) = refl
+sends-exactly some Nothing (Ends e) = refl
 
-delivery-taken : (op : Op) (e : Ending) (f : File) → fileReady (At op) f ≡ true → isDelivery (opEffect op e) ≡ true → takenCount f ≡ 1
-delivery-taken Read e f h b = ready-facts (At Read) f h .taken
-delivery-taken Write Good f h b = true-not-false b refl
-delivery-taken Write Opposite f h b = true-not-false b refl
-delivery-taken Write MarkRead f h b = true-not-false b refl
-delivery-taken Write MediumEnd f h b = true-not-false b refl
-delivery-taken Write LostRedundancy f h b = true-not-false b refl
-delivery-taken Write LostIncomplete f h b = true-not-false b refl
-delivery-taken Mark e f h b = true-not-false b refl
+delivery-taken : (some : Bool) (op : Op) (e : Ending) (f : File) → fileReady (At op) f ≡ true → isDelivery (opEffect some op e) ≡ true → takenCount f ≡ 1
+delivery-taken some Read e f h b = ready-facts (At Read) f h .taken
+delivery-taken some Write Good f h b = true-not-false b refl
+delivery-taken some Write Opposite f h b = true-not-false b refl
+delivery-taken some Write MarkRead f h b = true-not-false b refl
+delivery-taken some Write MediumEnd f h b = true-not-false b refl
+delivery-taken some Write LostRedundancy f h b = true-not-false b refl
+delivery-taken some Write LostIncomplete f h b = true-not-false b refl
+delivery-taken some Mark e f h b = true-not-false b refl
 
-sending-full : (op : Op) (e : Ending) (f : File) → fileReady (At op) f ≡ true → isSending (opEffect op e) ≡ true → hasFull f ≡ true
-sending-full Read Good f h b = true-not-false b refl
-sending-full Read Opposite f h b = true-not-false b refl
-sending-full Read MarkRead f h b = true-not-false b refl
-sending-full Read MediumEnd f h b = true-not-false b refl
-sending-full Read LostRedundancy f h b = true-not-false b refl
-sending-full Read LostIncomplete f h b = true-not-false b refl
-sending-full Write e f h b = ready-facts (At Write) f h .block
-sending-full Mark e f h b = true-not-false b refl
+sending-full : (some : Bool) (op : Op) (e : Ending) (f : File) → fileReady (At op) f ≡ true → isSending (opEffect some op e) ≡ true → hasFull f ≡ true
+sending-full some Read Good f h b = true-not-false b refl
+sending-full some Read Opposite f h b = true-not-false b refl
+sending-full some Read MarkRead f h b = true-not-false b refl
+sending-full some Read MediumEnd f h b = true-not-false b refl
+sending-full true Read LostRedundancy f h b = true-not-false b refl
+sending-full false Read LostRedundancy f h b = true-not-false b refl
+sending-full true Read LostIncomplete f h b = true-not-false b refl
+sending-full false Read LostIncomplete f h b = true-not-false b refl
+sending-full some Write e f h b = ready-facts (At Write) f h .block
+sending-full some Mark e f h b = true-not-false b refl
 
-module _ (c : Channel) (u outcome : ℕ) (f : File) (ready : fileReady (requested (turnAt c u)) f ≡ true) where
+module _ (c : Channel) (u outcome n : ℕ) (f : File) (ready : fileReady (requested (turnAt c u)) f ≡ true) where
   by-ending : (test : Effect → Bool) (P : Type 0) → test Keeps ≡ false
-      → ((op : Op) (e : Ending) → fileReady (At op) f ≡ true → test (opEffect op e) ≡ true → P)
-      → Booked c u outcome → test (effectAt c u outcome) ≡ true → P
+      → ((op : Op) (e : Ending) → fileReady (At op) f ≡ true → test (opEffect (ltb 0 n) op e) ≡ true → P)
+      → Booked c u outcome → test (effectAt c u outcome n) ≡ true → P
   unfolding operationAt
-  by-ending test P none k (again r q t j) b = true-not-false b (ap (λ (v : Verdict). test (effectOf (operationAt c u) v)) j ∙ none)
+  by-ending test P none k (again r q t j) b = true-not-false b (ap (λ (v : Verdict). test (effectOf (ltb 0 n) (operationAt c u) v)) j ∙ none)
   by-ending test P none k (ended r e t j) b =
-      let here : effectAt c u outcome ≡ opEffect (r .op) e = ap (effectOf (operationAt c u)) j ∙ ap (λ (y : Turn). effectOf (workOf y) (Ends e)) t in
+      let here : effectAt c u outcome n ≡ opEffect (ltb 0 n) (r .op) e = ap (effectOf (ltb 0 n) (operationAt c u)) j ∙ ap (λ (y : Turn). effectOf (ltb 0 n) (workOf y) (Ends e)) t in
       k (r .op) e (sym (ap (λ (y : Turn). fileReady (requested y) f) t) ∙ ready) (sym (ap test here) ∙ b)
 
 -- ---- a word before or after what is pasted
@@ -169,7 +179,7 @@ module _ (s : State) (area : List ℕ) (channel unit outcome : ℕ) (words : Lis
   refusal = reportRefusal wrong f c unit outcome (s .w) area words
 
   abbrev effect : Effect
-  effect = effectAt c unit outcome
+  effect = effectAt c unit outcome (length words)
 
   abbrev after : List ℕ
   after = reportByArea s area channel unit outcome words
@@ -206,7 +216,7 @@ module _ (s : State) (area : List ℕ) (channel unit outcome : ℕ) (words : Lis
     unfolding reportByArea reportOnArea reportedArea
     report-delivers d =
         let S = facts s area channel unit outcome words sixteen z .files i (isOpen s area channel unit outcome words sixteen z) in
-        let one = by-ending c unit outcome f (requested-ready s area channel unit outcome words sixteen z) isDelivery (takenCount f ≡ 1) refl (λ op e. delivery-taken op e f)
+        let one = by-ending c unit outcome (length words) f (requested-ready s area channel unit outcome words sixteen z) isDelivery (takenCount f ≡ 1) refl (λ op e. delivery-taken (ltb 0 (length words)) op e f)
         (view s area channel unit outcome words sixteen z) d in
         let here = some-taken f one in
         let b = fits-bounds f (length words) (ready .fits d) in
@@ -226,7 +236,7 @@ module _ (s : State) (area : List ℕ) (channel unit outcome : ℕ) (words : Lis
       pub small : allOf isWord (partOf (shownStart effect (s .w) f) (shownCount effect f) area) ≡ true
 
     shown-inside : (x : Effect) → (isSending x ≡ true → hasFull f ≡ true) → shownStart x (s .w) f + shownCount x f ≤ length area
-    shown-inside Delivers h = omega arith
+    shown-inside (Delivers failed) h = omega arith
     shown-inside MeetsMark h = omega arith
     shown-inside GivesBack h = omega arith
     shown-inside Sends h =
@@ -236,7 +246,7 @@ module _ (s : State) (area : List ℕ) (channel unit outcome : ℕ) (words : Lis
 
     pub report-shows : ShowsBlock
     report-shows =
-        let l = shown-inside effect (by-ending c unit outcome f (requested-ready s area channel unit outcome words sixteen z) isSending (hasFull f ≡ true) refl (λ op e. sending-full op e f)
+        let l = shown-inside effect (by-ending c unit outcome (length words) f (requested-ready s area channel unit outcome words sixteen z) isSending (hasFull f ≡ true) refl (λ op e. sending-full (ltb 0 (length words)) op e f)
         (view s area channel unit outcome words sixteen z)) in
         record { inside = l; whole = length-part (shownStart effect (s .w) f) (shownCount effect f) area l; small = ready .handed }
 

@@ -14,7 +14,8 @@ use Rattle.session_frame.proofs.Laws.Backs.{answer-longest, answer-fits}
 use Rattle.file.specs.declared.Side.{Side}
 use Rattle.file.specs.declared.Side.the-variants.{Neither}
 use Rattle.file.specs.declared.File.{File}
-use Rattle.file.specs.Slots.{fullWords, fullPlace, fullError, fullFound}
+use Rattle.file.specs.Slots.{fullWords, fullPlace, fullError, fullArrival}
+use Rattle.file.specs.Arrivals.{errorTold}
 use Rattle.file.specs.Sides.{slotAt, startAt, isSide, oldest}
 use Rattle.word.specs.CheckWords.{extra}
 use Rattle.file_output.specs.Sends.{sendWords}
@@ -75,7 +76,7 @@ module _ (m w : ℕ) (f : File) (S : Sound m w f) where
       go (isSide (oldest f)) (ltb 0 (fullError (slotAt f (oldest f)))) (leb (f .rlen) (wordsLeft (slotAt f (oldest f)))) (f .marked) refl
     where
       go : (a e t q : Bool) → leb (f .rlen) (wordsLeft (slotAt f (oldest f))) ≡ t
-          → gotWords (cond a (cond e (Error (fullFound (slotAt f (oldest f))))
+          → gotWords (cond a (cond e (Error (errorTold (fullArrival (slotAt f (oldest f)))))
           (cond t (Record (startAt f w (oldest f) + fullPlace (slotAt f (oldest f))) (f .rlen)) (Leftover (startAt f w (oldest f) + fullPlace (slotAt f (oldest f))) (wordsLeft (slotAt f (oldest f))))))
           (cond q End Nothing)) ≤ w
       go true true t q h = omega arith
@@ -114,7 +115,7 @@ module _ (s : State) (area : List ℕ) (channel unit outcome : ℕ) (words : Lis
   abbrev refusal : ℕ
   refusal = reportRefusal (reportWrong s (length area) channel) (fileAt s (fileOf s channel unit)) (channelAt s channel) unit outcome (s .w) area words
 
-  booked-count : refusal ≡ 0 → reportBy s area channel unit outcome words .count ≡ shownCount (effectAt (channelAt s channel) unit outcome) (fileAt s (fileOf s channel unit))
+  booked-count : refusal ≡ 0 → reportBy s area channel unit outcome words .count ≡ shownCount (effectAt (channelAt s channel) unit outcome (length words)) (fileAt s (fileOf s channel unit))
   unfolding reportBy reportOn
   booked-count z = rw (eq-eqb refusal 0 z)
 
@@ -123,7 +124,7 @@ module _ (s : State) (area : List ℕ) (channel unit outcome : ℕ) (words : Lis
   refused-count h = rw (ne-eqb refusal 0 h)
 
   count-fits : (x : Effect) (f : File) → sendWords f ≤ s .w → shownCount x f ≤ s .w
-  count-fits Delivers f h = omega arith
+  count-fits (Delivers failed) f h = omega arith
   count-fits MeetsMark f h = omega arith
   count-fits GivesBack f h = omega arith
   count-fits Sends f h = h
@@ -137,7 +138,7 @@ module _ (s : State) (area : List ℕ) (channel unit outcome : ℕ) (words : Lis
       let good = report-was-sound s area channel unit outcome words (counts .files) z in
       let f = fileAt s (fileOf s channel unit) in
       let S = sound-facts s good .files (fileOf s channel unit) (isOpen s area channel unit outcome words (counts .files) z) in
-      omega (arith, booked-count z, count-fits (effectAt (channelAt s channel) unit outcome) f (send-fits (s .m) (s .w) f S), small s good))
+      omega (arith, booked-count z, count-fits (effectAt (channelAt s channel) unit outcome (length words)) f (send-fits (s .m) (s .w) f S), small s good))
       (λ q e. omega (arith, refused-count (eqb-false refusal 0 e)))
       refl
 

@@ -124,7 +124,7 @@ report-alone : (wrong : Bool) (f : File) (c : Channel) (u outcome w : ℕ) (froz
     → (reportOn wrong f c u outcome w frozen area words .file ≡ f) × (reportOn wrong f c u outcome w frozen area words .channel ≡ c)
 unfolding reportOn
 report-alone wrong f c u outcome w frozen area words h =
-    let x = effectAt c u outcome in
+    let x = effectAt c u outcome (length words) in
     let e = refused-report (eqb (reportRefusal wrong f c u outcome w area words) 0)
     (record {
       refusal = 0;

@@ -6,9 +6,9 @@ use native.Mathlib.Omega.{arith}
 use borrow.Author.Tests.{leb-true, lt-ltb}
 use lib.Dec.{leb, ltb, eqb}
 use Rattle.area.proofs.Walks.{by-test, true-not-false, and-left, and-right, and-both}
-use Rattle.word.specs.declared.Checked.{Checked}
-use Rattle.word.specs.Checks.{unchecked, toldCheck, isChecked}
-use Rattle.word.proofs.Laws.Checks.{unchecked-fits, told-fits}
+use Rattle.file.specs.declared.Arrival.{Arrival}
+use Rattle.file.specs.Arrivals.{noArrival, errorDue, afterTold, isArrival}
+use Rattle.file.proofs.ArrivalLaws.{no-arrival-fits, told-arrival-fits}
 use Rattle.file.specs.declared.Slot.{Slot}
 use Rattle.file.specs.declared.Slot.the-variants.{Empty, Taken, Part, Full}
 use Rattle.file.specs.declared.Side.{Side}
@@ -107,7 +107,7 @@ module _ (m w : ℕ) (f : File) (S : Sound m w f) where
       })
 
   -- its good end: with 1 to B data words, and what its check found
-  pub delivered-sound : (n : ℕ) (e : Checked) → isSide (takenSide f) ≡ true → 1 ≤ n → n ≤ f .size → isChecked (f .sequence) (f .check) e ≡ true → Sound m w (delivered f n e)
+  pub delivered-sound : (n : ℕ) (e : Arrival) → isSide (takenSide f) ≡ true → 1 ≤ n → n ≤ f .size → isArrival (f .sequence) (f .check) e ≡ true → Sound m w (delivered f n e)
   unfolding delivered
   delivered-sound n e s some fit err = filled m w f (takenSide f) n e S (own-taken s) some fit err (λ o. true-not-false o (taken-input s))
 
@@ -159,8 +159,8 @@ met-sound m w f S i = marked-sound m w (gaveBack f) (back-sound m w f S) (same-o
 
 -- ---- get
 
-given-most : (r n at : ℕ) (e : Checked) → wordsGiven r (Full n at e) ≤ n - at
-given-most r n at e = go (ltb 0 (e .error)) (leb r (n - at)) refl
+given-most : (r n at : ℕ) (e : Arrival) → wordsGiven r (Full n at e) ≤ n - at
+given-most r n at e = go (ltb 0 (errorDue e)) (leb r (n - at)) refl
   where
     go : (s t : Bool) → leb r (n - at) ≡ t → cond s 0 (cond t r (n - at)) ≤ n - at
     go true t q = omega arith
@@ -168,24 +168,24 @@ given-most r n at e = go (ltb 0 (e .error)) (leb r (n - at)) refl
     go false false q = omega arith
 
 -- a full block's numbers
-pub record Numbers (f : File) (n at : ℕ) (e : Checked) : Type 0 where
+pub record Numbers (f : File) (n at : ℕ) (e : Arrival) : Type 0 where
   pub some : 1 ≤ n
   pub fit : n ≤ f .size
   pub place : at ≤ n
-  pub found : isChecked (f .sequence) (f .check) e ≡ true
+  pub found : isArrival (f .sequence) (f .check) e ≡ true
 
-pub numbers : (m w : ℕ) (f : File) (k : Side) (n at : ℕ) (e : Checked) → Sound m w f → slotAt f k ≡ Full n at e → Numbers f n at e
+pub numbers : (m w : ℕ) (f : File) (k : Side) (n at : ℕ) (e : Arrival) → Sound m w f → slotAt f k ≡ Full n at e → Numbers f n at e
 numbers m w f k n at e S x =
     let F = fits (f .sequence) (f .check) (f .output) (f .size) (f .rlen) (Full n at e) (sym (ap (slotFits (f .sequence) (f .check) (f .output) (f .size) (f .rlen)) x) ∙ slot-fits m w f k S) in
     record {
       some = leb-true 1 n (and-left (leb 1 n) _ (F .full));
       fit = leb-true n (f .size) (and-right (leb 1 n) _ (F .full));
-      place = leb-true at n (F .place);
+      place = leb-true at n (and-left (leb at n) _ (F .place));
       found = F .found;
     }
 
 -- where both are full, both are full still
-order-stays : (m w : ℕ) (f : File) (k : Side) (n p : ℕ) (e : Checked) → Sound m w f → isSide k ≡ true → f .turned ≡ true → (isFull (Full n p e) && isFull (other f k)) ≡ true
+order-stays : (m w : ℕ) (f : File) (k : Side) (n p : ℕ) (e : Arrival) → Sound m w f → isSide k ≡ true → f .turned ≡ true → (isFull (Full n p e) && isFull (other f k)) ≡ true
 order-stays m w f Low n p e S s t = and-right (isFull (f .low .slot)) _ (S .order t)
 order-stays m w f High n p e S s t = and-left (isFull (f .low .slot)) _ (S .order t)
 order-stays m w f Neither n p e S s t = true-not-false s refl
@@ -199,16 +199,16 @@ found-sound m w f S i = go (oldest f) (aged f) (own-oldest m w f S)
     go k (old _ n at e rest t x l gone moved) o =
         let N = numbers m w f k n at e S x in
         let p = at + wordsGiven (f .rlen) (Full n at e) in
-        let y : slotAfter (f .rlen) (slotAt f k) ≡ Full n p (toldCheck e) = ap (slotAfter (f .rlen)) x in
+        let y : slotAfter (f .rlen) (slotAt f k) ≡ Full n p (afterTold e) = ap (slotAfter (f .rlen)) x in
         let place : p ≤ n = omega (arith, given-most (f .rlen) n at e, N .place) in
         subst (λ (z : Slot). Sound m w (withSlot f k z (f .turned) (f .block))) (sym y)
-        (changed m w f k (Full n p (toldCheck e)) (f .turned) (f .block) S
+        (changed m w f k (Full n p (afterTold e)) (f .turned) (f .block) S
         (record {
           own = o t;
-          slot = full-slot (f .sequence) (f .check) (f .output) (f .size) (f .rlen) n p (toldCheck e) (N .some) (N .fit) place (told-fits (f .sequence) (f .check) e (N .found)) (λ q. true-not-false q i);
+          slot = full-slot (f .sequence) (f .check) (f .output) (f .size) (f .rlen) n p (afterTold e) (N .some) (N .fit) place refl (told-arrival-fits (f .sequence) (f .check) e (N .found)) (λ q. true-not-false q i);
           taken = omega (arith, beside m w f k S (o t) .0);
           part = omega (arith, beside m w f k S (o t) .1);
-          order = order-stays m w f k n p (toldCheck e) S t;
+          order = order-stays m w f k n p (afterTold e) S t;
           number = S .number;
         }))
 
@@ -247,7 +247,7 @@ module _ (m w : ℕ) (f : File) (S : Sound m w f) where
   unfolding sealedFile partLength
   sealed-sound s =
       let P = part-numbers (f .sequence) (f .check) (f .output) (f .size) (f .rlen) (slotAt f (partSide f)) (slot-fits m w f (partSide f) S) (part-there f s) in
-      filled m w f (partSide f) (partWords (slotAt f (partSide f))) unchecked S (own-part m w f S s) (omega (arith, P .0, one-record)) (omega (arith, P .1)) (unchecked-fits (f .sequence) (f .check)) (λ o. refl)
+      filled m w f (partSide f) (partWords (slotAt f (partSide f))) noArrival S (own-part m w f S s) (omega (arith, P .0, one-record)) (omega (arith, P .1)) (no-arrival-fits (f .sequence) (f .check)) (λ o. refl)
 
 -- ---- open
 

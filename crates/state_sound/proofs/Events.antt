@@ -3,8 +3,8 @@ use mathlib.Core.Path.{_≡_, refl, _∙_}
 use mathlib.Core.Bool.{Bool, true, false, cond}
 use Prim.Native.Nat.{ℕ, _≤_}
 use lib.Dec.{leb}
-use Rattle.word.specs.declared.Checked.{Checked}
-use Rattle.word.specs.Checks.{unchecked, isChecked}
+use Rattle.file.specs.declared.Arrival.{Arrival}
+use Rattle.file.specs.Arrivals.{noArrival, isArrival}
 use Rattle.file.specs.declared.Side.{Side}
 use Rattle.file.specs.declared.Slot.the-variants.{Taken, Part, Full, Empty}
 use Rattle.file.specs.declared.File.{File}
@@ -25,7 +25,7 @@ use Rattle.state_sound.proofs.Replaced.{Alike, alike-self, alike-then, 
 -- when each may happen to an open file: where the call for it is not refused
 abbrev pub Allowed : File → Event → Type 0
 Allowed f read = (f .output ≡ false) × (takenCount f ≡ 0) × (hasEmpty f ≡ true)
-Allowed f (deliver n e) = (isSide (takenSide f) ≡ true) × (1 ≤ n) × (n ≤ f .size) × (isChecked (f .sequence) (f .check) e ≡ true)
+Allowed f (deliver n e) = (isSide (takenSide f) ≡ true) × (1 ≤ n) × (n ≤ f .size) × (isArrival (f .sequence) (f .check) e ≡ true)
 Allowed f giveBack = isSide (takenSide f) ≡ true
 Allowed f mark = isSide (takenSide f) ≡ true
 Allowed f get = f .output ≡ false
@@ -53,7 +53,7 @@ emptied-alike : (f : File) (k : Side) → Alike f (emptiedAt f k)
 unfolding emptiedAt
 emptied-alike f k = alike-slot f k Empty false (f .block)
 
-filled-alike : (f : File) (k : Side) (n : ℕ) (e : Checked) → Alike f (filledAt f k n e)
+filled-alike : (f : File) (k : Side) (n : ℕ) (e : Arrival) → Alike f (filledAt f k n e)
 unfolding filledAt
 filled-alike f k n e = alike-slot f k (Full n 0 e) (turnedBy f k) (nextNumber (f .block))
 
@@ -81,7 +81,7 @@ unfolding afterPut sealedFile
 put-alike f = go (isComplete (added f))
   where
     go : (t : Bool) → Alike f (cond t (sealedFile (added f)) (added f))
-    go true = alike-then f (added f) (sealedFile (added f)) (added-alike f) (filled-alike (added f) (partSide (added f)) (partLength (added f)) unchecked)
+    go true = alike-then f (added f) (sealedFile (added f)) (added-alike f) (filled-alike (added f) (partSide (added f)) (partLength (added f)) noArrival)
     go false = added-alike f
 
 pub event-alike : (f : File) (e : Event) → Alike f (after f e)
@@ -95,7 +95,7 @@ event-alike f get =
     (alike-slot (lookedAt f) (oldest (lookedAt f)) (slotAfter (lookedAt f .rlen) (slotAt (lookedAt f) (oldest (lookedAt f)))) (lookedAt f .turned) (lookedAt f .block))
 event-alike f skip = emptied-alike f (oldest f)
 event-alike f put = put-alike f
-event-alike f seal = filled-alike f (partSide f) (partLength f) unchecked
+event-alike f seal = filled-alike f (partSide f) (partLength f) noArrival
 event-alike f send = emptied-alike f (oldest f)
 
 -- ---- sound files stay sound

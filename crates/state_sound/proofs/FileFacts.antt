@@ -10,17 +10,17 @@ use Rattle.file.specs.declared.Slot.{Slot}
 use Rattle.file.specs.declared.Slot.the-variants.{Empty, Taken, Part, Full}
 use Rattle.file.specs.declared.Buffer.{Buffer}
 use Rattle.file.specs.declared.File.{File}
-use Rattle.file.specs.Slots.{isEmpty, isFull, fullFound}
+use Rattle.file.specs.Slots.{isEmpty, isFull, fullArrival}
 use Rattle.file.specs.Sides.{noBuffer}
 use Rattle.word.specs.CheckWords.{blockNumbers}
-use Rattle.word.specs.Checks.{isChecked}
+use Rattle.file.specs.Arrivals.{isArrival}
 use Rattle.file.specs.Sizes.{sizesFit, closedFile}
 use Rattle.state_sound.specs.Files.{inRange, isNoBuffer, hasBuffers, takenCount, takenRight, fullFits, fullRight, partsHeld, partFits, partRight, placeFits, placeRight, isUnread, openSound, isBlank, fileSound}
 use Rattle.area.specs.Lists.{oneIf}
 
 -- what one buffer of a file may hold, by the file's choices, direction and sizes
 abbrev pub slotFits : Bool → Bool → Bool → ℕ → ℕ → Slot → Bool
-slotFits sequence check output size rlen x = isChecked sequence check (fullFound x) && (fullFits size x && (partFits size rlen x && (placeFits x && (not output || isUnread x))))
+slotFits sequence check output size rlen x = isArrival sequence check (fullArrival x) && (fullFits size x && (partFits size rlen x && (placeFits x && (not output || isUnread x))))
 
 abbrev pub secondFits : ℕ → File → Bool
 secondFits m f = cond (f .double) (ltb (f .low .number) (f .high .number) && ltb (f .high .number) m) (isNoBuffer (f .high))
@@ -56,7 +56,7 @@ facts m w f h o =
     let h₆ = both (placeRight f) _ (h₅ .1) in
     let r₁ = both (sizesFit w (f .sequence) (f .check) (f .size) (f .rlen)) _ (h₁ .0) in
     let r₂ = both (ltb (f .block) blockNumbers) _ (r₁ .1) in
-    let r₃ = both (isChecked (f .sequence) (f .check) (fullFound (f .low .slot))) _ (r₂ .1) in
+    let r₃ = both (isArrival (f .sequence) (f .check) (fullArrival (f .low .slot))) _ (r₂ .1) in
     let b = both (ltb (f .low .number) m) _ (h₂ .0) in
     let l = both (fullFits (f .size) (f .low .slot)) _ (h₄ .0) in
     let p = both (leb (partsHeld f) (oneIf (f .output))) _ (h₅ .0) in
@@ -70,10 +70,10 @@ facts m w f h o =
       first = ltb-true (f .low .number) m (b .0);
       second = b .1;
       low =
-          all-five (isChecked (f .sequence) (f .check) (fullFound (f .low .slot))) (fullFits (f .size) (f .low .slot)) (partFits (f .size) (f .rlen) (f .low .slot)) (placeFits (f .low .slot)) (not (f .output) || isUnread (f .low .slot))
+          all-five (isArrival (f .sequence) (f .check) (fullArrival (f .low .slot))) (fullFits (f .size) (f .low .slot)) (partFits (f .size) (f .rlen) (f .low .slot)) (placeFits (f .low .slot)) (not (f .output) || isUnread (f .low .slot))
           (r₃ .0) (l .0) (q .0) (a .0) (unless-so (f .output) _ (λ e. and-left (isUnread (f .low .slot)) _ (unread e)));
       high =
-          all-five (isChecked (f .sequence) (f .check) (fullFound (f .high .slot))) (fullFits (f .size) (f .high .slot)) (partFits (f .size) (f .rlen) (f .high .slot)) (placeFits (f .high .slot)) (not (f .output) || isUnread (f .high .slot))
+          all-five (isArrival (f .sequence) (f .check) (fullArrival (f .high .slot))) (fullFits (f .size) (f .high .slot)) (partFits (f .size) (f .rlen) (f .high .slot)) (placeFits (f .high .slot)) (not (f .output) || isUnread (f .high .slot))
           (r₃ .1) (l .1) (q .1) (a .1) (unless-so (f .output) _ (λ e. and-right (isUnread (f .low .slot)) _ (unread e)));
       taken = leb-true (takenCount f) (oneIf (not (f .output))) (h₃ .0);
       part = leb-true (partsHeld f) (oneIf (f .output)) (p .0);
@@ -144,7 +144,7 @@ blank-closed f h =
 
 -- the parts of what a buffer may hold
 pub record Fits (sequence check output : Bool) (size rlen : ℕ) (x : Slot) : Type 0 where
-  pub found : isChecked sequence check (fullFound x) ≡ true
+  pub found : isArrival sequence check (fullArrival x) ≡ true
   pub full : fullFits size x ≡ true
   pub part : partFits size rlen x ≡ true
   pub place : placeFits x ≡ true
@@ -152,7 +152,7 @@ pub record Fits (sequence check output : Bool) (size rlen : ℕ) (x : Slot) : Ty
 
 pub fits : (sequence check output : Bool) (size rlen : ℕ) (x : Slot) → slotFits sequence check output size rlen x ≡ true → Fits sequence check output size rlen x
 fits sequence check output size rlen x h =
-    let a = both (isChecked sequence check (fullFound x)) _ h in
+    let a = both (isArrival sequence check (fullArrival x)) _ h in
     let b = both (fullFits size x) _ (a .1) in
     let c = both (partFits size rlen x) _ (b .1) in
     let d = both (placeFits x) _ (c .1) in

@@ -1,25 +1,25 @@
 -- A sound file with something else in one of its buffers is sound, by what is put there. Assumes nothing.
 use mathlib.Core.Path.{_≡_, refl, sym, ap, _∙_}
-use mathlib.Core.Bool.{Bool, true, false, not, _&&_, and-comm}
+use mathlib.Core.Bool.{Bool, true, false, not, _&&_, _||_, and-comm}
 use Prim.Native.Nat.{ℕ, _+_, _-_, _≤_, _<_}
 use native.Mathlib.Nat.{mod-lt}
 use native.Mathlib.Omega.{arith}
 use borrow.Author.Tests.{le-leb, eq-eqb}
 use lib.Dec.{leb, ltb, eqb}
-use Rattle.area.proofs.Walks.{by-test, true-not-false, and-right, and-both}
+use Rattle.area.proofs.Walks.{by-test, true-not-false, and-right, and-both, or-second}
 use Rattle.area.proofs.Marks.{cond-true, cond-false, unless-so}
 use Rattle.file.specs.declared.Slot.{Slot}
 use Rattle.file.specs.declared.Slot.the-variants.{Empty, Full}
 use Rattle.file.specs.declared.Side.{Side}
 use Rattle.file.specs.declared.Side.the-variants.{Low, High, Neither}
 use Rattle.file.specs.declared.File.{File}
-use Rattle.file.specs.Slots.{isEmpty, isTaken, isPart, isFull, fullPlace, fullFound}
+use Rattle.file.specs.Slots.{isEmpty, isTaken, isPart, isFull, fullPlace, fullArrival}
 use Rattle.file.specs.Sides.{slotAt, isSide}
 use Rattle.file.specs.Fills.{withSlot, turnedBy, filledAt, emptiedAt}
-use Rattle.word.specs.declared.Checked.{Checked}
+use Rattle.file.specs.declared.Arrival.{Arrival}
 use Rattle.word.specs.CheckWords.{blockNumbers, nextNumber}
-use Rattle.word.specs.Checks.{unchecked, isChecked, isUnchecked}
-use Rattle.word.proofs.Laws.Checks.{unchecked-fits}
+use Rattle.file.specs.Arrivals.{noArrival, isArrival, isNoArrival}
+use Rattle.file.proofs.ArrivalLaws.{no-arrival-fits}
 use Rattle.state_sound.specs.Files.{isNoBuffer, takenCount, partsHeld, fullFits, partFits, placeFits}
 use Rattle.area.specs.Lists.{oneIf}
 use Rattle.state_sound.proofs.FileFacts.{slotFits, Sound}
@@ -38,12 +38,12 @@ owns f Neither = false
 -- ---- what a sound file has
 
 -- a slot without a block: nothing was found
-pub quiet-slot : (s c o : Bool) (size rlen : ℕ) (x : Slot) → fullFound x ≡ unchecked → fullFits size x ≡ true → partFits size rlen x ≡ true → placeFits x ≡ true
+pub quiet-slot : (s c o : Bool) (size rlen : ℕ) (x : Slot) → fullArrival x ≡ noArrival → fullFits size x ≡ true → partFits size rlen x ≡ true → placeFits x ≡ true
     → fullPlace x ≡ 0 → slotFits s c o size rlen x ≡ true
 quiet-slot s c o size rlen x none full part place at =
-    and-both (isChecked s c (fullFound x)) _ (ap (isChecked s c) none ∙ unchecked-fits s c)
+    and-both (isArrival s c (fullArrival x)) _ (ap (isArrival s c) none ∙ no-arrival-fits s c)
     (and-both (fullFits size x) _ full (and-both (partFits size rlen x) _ part (and-both (placeFits x) _ place
-    (unless-so o _ (λ q. and-both (eqb (fullPlace x) 0) _ (eq-eqb (fullPlace x) 0 at) (ap isUnchecked none))))))
+    (unless-so o _ (λ q. and-both (eqb (fullPlace x) 0) _ (eq-eqb (fullPlace x) 0 at) (ap isNoArrival none))))))
 
 pub empty-slot : (s c o : Bool) (size rlen : ℕ) → slotFits s c o size rlen Empty ≡ true
 empty-slot s c o size rlen = quiet-slot s c o size rlen Empty refl refl refl refl refl
@@ -146,26 +146,26 @@ emptied m w f k S o =
     none High s = true-not-false refl s
     none Neither s = S
 
-pub full-slot : (s c o : Bool) (size rlen n at : ℕ) (e : Checked) → 1 ≤ n → n ≤ size → at ≤ n → isChecked s c e ≡ true → (o ≡ true → (at ≡ 0) × (e ≡ unchecked))
+pub full-slot : (s c o : Bool) (size rlen n at : ℕ) (e : Arrival) → 1 ≤ n → n ≤ size → at ≤ n → (eqb (e .failed) 0 || eqb at 0) ≡ true → isArrival s c e ≡ true → (o ≡ true → (at ≡ 0) × (e ≡ noArrival))
     → slotFits s c o size rlen (Full n at e) ≡ true
-full-slot s c o size rlen n at e some fit place found zero =
-    and-both (isChecked s c e) _ found
+full-slot s c o size rlen n at e some fit place first found zero =
+    and-both (isArrival s c e) _ found
     (and-both (leb 1 n && leb n size) _ (and-both (leb 1 n) _ (le-leb 1 n some) (le-leb n size fit))
-    (and-both (leb at n) _ (le-leb at n place) (unless-so o _ (λ q. and-both (eqb at 0) _ (eq-eqb at 0 (zero q .0)) (ap isUnchecked (zero q .1))))))
+    (and-both (leb at n && (eqb (e .failed) 0 || eqb at 0)) _ (and-both (leb at n) _ (le-leb at n place) first) (unless-so o _ (λ q. and-both (eqb at 0) _ (eq-eqb at 0 (zero q .0)) (ap isNoArrival (zero q .1))))))
 
-turned-full : (f : File) (k : Side) (n : ℕ) (e : Checked) → turnedBy f k ≡ true → (isFull (Full n 0 e) && isFull (other f k)) ≡ true
+turned-full : (f : File) (k : Side) (n : ℕ) (e : Arrival) → turnedBy f k ≡ true → (isFull (Full n 0 e) && isFull (other f k)) ≡ true
 turned-full f Low n e t = t
 turned-full f High n e t = true-not-false t refl
 turned-full f Neither n e t = true-not-false t refl
 
-pub filled : (m w : ℕ) (f : File) (k : Side) (n : ℕ) (e : Checked) → Sound m w f → owns f k ≡ true → 1 ≤ n → n ≤ f .size → isChecked (f .sequence) (f .check) e ≡ true
-    → (f .output ≡ true → e ≡ unchecked) → Sound m w (filledAt f k n e)
+pub filled : (m w : ℕ) (f : File) (k : Side) (n : ℕ) (e : Arrival) → Sound m w f → owns f k ≡ true → 1 ≤ n → n ≤ f .size → isArrival (f .sequence) (f .check) e ≡ true
+    → (f .output ≡ true → e ≡ noArrival) → Sound m w (filledAt f k n e)
 unfolding filledAt
 filled m w f k n e S o some fit err zero =
     changed m w f k (Full n 0 e) (turnedBy f k) (nextNumber (f .block)) S
     (record {
       own = o;
-      slot = full-slot (f .sequence) (f .check) (f .output) (f .size) (f .rlen) n 0 e some fit (omega arith) err (λ q. (refl, zero q));
+      slot = full-slot (f .sequence) (f .check) (f .output) (f .size) (f .rlen) n 0 e some fit (omega arith) (or-second (eqb (e .failed) 0) true refl) err (λ q. (refl, zero q));
       taken = omega (arith, beside m w f k S o .0);
       part = omega (arith, beside m w f k S o .1);
       order = turned-full f k n e;

@@ -10,6 +10,7 @@ use lib.Dec.{leb, ltb, eqb}
 use Rattle.area.proofs.Walks.{true-not-false, and-right, and-both, or-first, or-second}
 use Rattle.area.proofs.Marks.{cond-true}
 use Rattle.word.specs.declared.Checked.{Checked}
+use Rattle.file.specs.Arrivals.{errorDue, errorTold}
 use Rattle.file.specs.declared.Slot.the-variants.{Full}
 use Rattle.file.specs.declared.Side.{Side}
 use Rattle.file.specs.declared.Side.the-variants.{Low, High, Neither}
@@ -100,7 +101,7 @@ module _ (m w : ℕ) (f : File) (S : Sound m w f) where
           let block : startAt f w k + n ≤ m * w = buffer-inside m w (bufferAt f k .number) n (number-less k (o t)) (omega (arith, size-fits, N .fit)) in
           let g : cond (isSide k) (foundIn (startAt f w k) (f .rlen) (slotAt f k)) (foundNone (f .marked)) ≡ foundIn (startAt f w k) (f .rlen) (Full n at e) =
           cond-true (foundIn (startAt f w k) (f .rlen) (slotAt f k)) (foundNone (f .marked)) t ∙ ap (foundIn (startAt f w k) (f .rlen)) x in
-          subst (λ (z : Got). gotStart z + gotWords z ≤ m * w) (sym g) (within (startAt f w k) (f .rlen) n at e (ltb 0 (e .error)) (leb (f .rlen) (n - at)) refl (N .place) block)
+          subst (λ (z : Got). gotStart z + gotWords z ≤ m * w) (sym g) (within (startAt f w k) (f .rlen) n at (errorTold e) (ltb 0 (errorDue e)) (leb (f .rlen) (n - at)) refl (N .place) block)
 
 pub get-inside : (m w : ℕ) (f : File) → Sound m w f → gotStart (getFrom w f .got) + gotWords (getFrom w f .got) ≤ m * w
 unfolding getFrom lookedAt

@@ -8,8 +8,8 @@ use lib.Dec.{leb, ltb}
 use Rattle.area.proofs.Walks.{true-not-false, and-both}
 use Rattle.area.proofs.Marks.{cond-true}
 use Rattle.file.proofs.SlotLaws.{empty-words}
-use Rattle.word.specs.Checks.{unchecked}
-use Rattle.word.proofs.Laws.Checks.{unchecked-fits}
+use Rattle.file.specs.Arrivals.{noArrival}
+use Rattle.file.proofs.ArrivalLaws.{no-arrival-fits}
 use Rattle.file.specs.declared.Slot.the-variants.{Part}
 use Rattle.file.specs.declared.Side.{Side}
 use Rattle.file.specs.declared.Side.the-variants.{Low, High, Neither}
@@ -105,20 +105,20 @@ complete-is f k n s a = ap (λ (j : ℕ). ltb (holding f k n .size) (j + holding
     there High = refl
     there Neither = refl
 
-sealed-is : (f : File) (k : Side) (n : ℕ) → isSide k ≡ true → isPart (other f k) ≡ false → sealedFile (holding f k n) ≡ filledAt f k n unchecked
+sealed-is : (f : File) (k : Side) (n : ℕ) → isSide k ≡ true → isPart (other f k) ≡ false → sealedFile (holding f k n) ≡ filledAt f k n noArrival
 unfolding sealedFile filledAt
 sealed-is f k n s a =
-    ap (λ (j : Side). filledAt (holding f k n) j (partLength (holding f k n)) unchecked) (part-is f k n s a)
-    ∙ ap (λ (j : ℕ). filledAt (holding f k n) k j unchecked) (length-is f k n s a) ∙ there k
+    ap (λ (j : Side). filledAt (holding f k n) j (partLength (holding f k n)) noArrival) (part-is f k n s a)
+    ∙ ap (λ (j : ℕ). filledAt (holding f k n) k j noArrival) (length-is f k n s a) ∙ there k
   where
-    there : (k : Side) → filledAt (holding f k n) k n unchecked ≡ filledAt f k n unchecked
+    there : (k : Side) → filledAt (holding f k n) k n noArrival ≡ filledAt f k n noArrival
     there Low = refl
     there High = refl
     there Neither = refl
 
 -- r words more in buffer k; sealed if less than r then remains of B
 pub put-is : (f : File) → isSide (putSide f) ≡ true → PutAt f (putSide f)
-    → afterPut f ≡ cond (ltb (f .size) (wordsAfter f + f .rlen)) (filledAt f (putSide f) (wordsAfter f) unchecked) (withSlot f (putSide f) (Part (wordsAfter f)) false (f .block))
+    → afterPut f ≡ cond (ltb (f .size) (wordsAfter f + f .rlen)) (filledAt f (putSide f) (wordsAfter f) noArrival) (withSlot f (putSide f) (Part (wordsAfter f)) false (f .block))
 unfolding afterPut added
 put-is f s P =
     let k = putSide f in
@@ -134,8 +134,8 @@ put-sound m w f S o s = subst (Sound m w) (sym (put-is f s P)) (go (ltb (f .size
     P : PutAt f (putSide f)
     P = put-at m w f S s
 
-    go : (t : Bool) → ltb (f .size) (wordsAfter f + f .rlen) ≡ t → Sound m w (cond t (filledAt f (putSide f) (wordsAfter f) unchecked) (withSlot f (putSide f) (Part (wordsAfter f)) false (f .block)))
-    go true e = filled m w f (putSide f) (wordsAfter f) unchecked S (P .own) (omega (arith, one-record m w f S)) (P .fit) (unchecked-fits (f .sequence) (f .check)) (λ q. refl)
+    go : (t : Bool) → ltb (f .size) (wordsAfter f + f .rlen) ≡ t → Sound m w (cond t (filledAt f (putSide f) (wordsAfter f) noArrival) (withSlot f (putSide f) (Part (wordsAfter f)) false (f .block)))
+    go true e = filled m w f (putSide f) (wordsAfter f) noArrival S (P .own) (omega (arith, one-record m w f S)) (P .fit) (no-arrival-fits (f .sequence) (f .check)) (λ q. refl)
     go false e =
         let room : wordsAfter f + f .rlen ≤ f .size = ltb-false (f .size) (wordsAfter f + f .rlen) e in
         let one : oneIf (f .output) ≡ 1 = ap oneIf o in

@@ -9,17 +9,18 @@ use Rattle.file.specs.declared.Slot.{Slot}
 use Rattle.file.specs.declared.Slot.the-variants.{Empty, Taken, Part, Full}
 use Rattle.file.specs.declared.Buffer.{Buffer}
 use Rattle.file.specs.declared.File.{File}
-use Rattle.file.specs.Slots.{isEmpty, isTaken, isPart, isFull, fullPlace, fullFound}
+use Rattle.file.specs.Slots.{isEmpty, isTaken, isPart, isFull, fullPlace, fullArrival}
 use Rattle.word.specs.CheckWords.{blockNumbers}
-use Rattle.word.specs.Checks.{isChecked, isUnchecked}
+use Rattle.file.specs.Arrivals.{isArrival, isNoArrival}
 use Rattle.file.specs.Sizes.{sizesFit}
 use Rattle.pool.specs.Free.{heldBy}
 use Rattle.pool.specs.Serving.{serves}
 
--- "its numbers are in the ranges here": sizes, block number, and what the check of each full block found, unequal exactly where the error says so
+-- "its numbers are in the ranges here": sizes, block number, and how each full block arrived: its read error 0, 4 or 10, and what its check found
+-- unequal exactly where the error says so
 abbrev pub inRange : ℕ → File → Bool
 inRange w f =
-    sizesFit w (f .sequence) (f .check) (f .size) (f .rlen) && (ltb (f .block) blockNumbers && (isChecked (f .sequence) (f .check) (fullFound (f .low .slot)) && isChecked (f .sequence) (f .check) (fullFound (f .high .slot))))
+    sizesFit w (f .sequence) (f .check) (f .size) (f .rlen) && (ltb (f .block) blockNumbers && (isArrival (f .sequence) (f .check) (fullArrival (f .low .slot)) && isArrival (f .sequence) (f .check) (fullArrival (f .high .slot))))
 
 -- what a missing second buffer would hold has no meaning
 abbrev pub isNoBuffer : Buffer → Bool
@@ -42,7 +43,7 @@ abbrev pub fullFits : ℕ → Slot → Bool
 fullFits size Empty = true
 fullFits size Taken = true
 fullFits size (Part n) = true
-fullFits size (Full n at e) = leb 1 n && leb n size
+fullFits size (Full n at a) = leb 1 n && leb n size
 
 abbrev pub fullRight : File → Bool
 fullRight f = fullFits (f .size) (f .low .slot) && fullFits (f .size) (f .high .slot)
@@ -55,26 +56,26 @@ abbrev pub partFits : ℕ → ℕ → Slot → Bool
 partFits size rlen Empty = true
 partFits size rlen Taken = true
 partFits size rlen (Part n) = leb rlen n && leb (n + rlen) size
-partFits size rlen (Full n at e) = true
+partFits size rlen (Full n at a) = true
 
 abbrev pub partRight : File → Bool
 partRight f = leb (partsHeld f) (oneIf (f .output)) && (partFits (f .size) (f .rlen) (f .low .slot) && partFits (f .size) (f .rlen) (f .high .slot))
 
--- "no place of get is past its block"
+-- "no place of get is past its block"; and none is in it while its read error is to be told: "once, before any check error" and so before any record
 abbrev pub placeFits : Slot → Bool
 placeFits Empty = true
 placeFits Taken = true
 placeFits (Part n) = true
-placeFits (Full n at e) = leb at n
+placeFits (Full n at a) = leb at n && (eqb (a .failed) 0 || eqb at 0)
 
 abbrev pub placeRight : File → Bool
 placeRight f = placeFits (f .low .slot) && placeFits (f .high .slot)
 
--- a block that has no place of get, and of which nothing was checked
+-- a block that has no place of get, and that did not arrive
 abbrev pub isUnread : Slot → Bool
-isUnread x = eqb (fullPlace x) 0 && isUnchecked (fullFound x)
+isUnread x = eqb (fullPlace x) 0 && isNoArrival (fullArrival x)
 
--- What has no meaning is zero: the order of two blocks that are not both full; in an output file the mark, and the place and what was found of its blocks.
+-- What has no meaning is zero: the order of two blocks that are not both full; in an output file the mark, and the place of its blocks and how they arrived.
 abbrev pub restIsZero : File → Bool
 restIsZero f =
     (not (f .turned) || (isFull (f .low .slot) && isFull (f .high .slot)))

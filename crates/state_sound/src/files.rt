@@ -3,10 +3,12 @@
 use file::Buffer;
 use file::File;
 use file::Slot;
-use file::full_found;
+use file::full_arrival;
 use file::full_place;
+use file::is_arrival;
 use file::is_empty;
 use file::is_full;
+use file::is_no_arrival;
 use file::is_part;
 use file::is_taken;
 use file::sizes_fit;
@@ -14,8 +16,6 @@ use pool::FILES;
 use pool::holds;
 use pool::serves;
 use word::BLOCK_NUMBERS;
-use word::is_checked;
-use word::is_unchecked;
 ghost use mathlib.Core.Path.{_≡_};
 ghost use Prim.Native.Nat.{_≤_};
 ghost use Rattle.state_sound.specs.Files.{isNoBuffer, fullFits, partFits, placeFits, isUnread, inRange, hasBuffers, takenCount, takenRight, fullRight, partsHeld, partRight, placeRight, restIsZero, openSound, isBlank, fileSound, shareBuffer, apart, filesSound};
@@ -51,7 +51,7 @@ fn full_fits(size: u16, x: Slot) -> bool
         Slot::Full {
             words,
             at: _,
-            found: _,
+            arrival: _,
         } => (1 <= words) & (words <= size),
     }
 }
@@ -70,12 +70,12 @@ fn part_fits(size: u16, rlen: u16, x: Slot) -> bool
         Slot::Full {
             words: _,
             at: _,
-            found: _,
+            arrival: _,
         } => true,
     }
 }
 
-// The place of get is not past its block.
+// The place of get is not past its block, and at its beginning while its read error is to be told.
 fn place_fits(x: Slot) -> bool
     ensures { λ r. ⌜ r ≡ placeFits x ⌝ }
 {
@@ -83,35 +83,34 @@ fn place_fits(x: Slot) -> bool
         Slot::Empty => true,
         Slot::Taken => true,
         Slot::Part(_) => true,
-        Slot::Full {
-            words,
-            at,
-            found: _,
-        } => at <= words,
+        Slot::Full { words, at, arrival } => {
+            (at <= words) & ((arrival.failed == 0) | (at == 0))
+        }
     }
 }
 
-// A block that has no place of get, and of which nothing was checked.
+// A block that has no place of get, and that did not arrive.
 fn is_unread(x: Slot) -> bool
     ensures { λ r. ⌜ r ≡ isUnread x ⌝ }
 {
     let at = full_place(x);
-    let none = is_unchecked(full_found(x));
+    let none = is_no_arrival(full_arrival(x));
     (at == 0) & none
 }
 
-// The sizes, the block number and what was found of the blocks are in their ranges.
+// The sizes, the block number and how the blocks arrived are in their ranges.
 fn in_range(w: u16, f: File) -> bool
     ensures { λ r. ⌜ r ≡ inRange w f ⌝ }
 {
+    let number = f.block as u32;
     let low = f.low;
     let high = f.high;
     let x = low.slot;
     let y = high.slot;
     let sizes = sizes_fit(w, f.sequence, f.check, f.size, f.rlen);
-    let a = is_checked(f.sequence, f.check, full_found(x));
-    let b = is_checked(f.sequence, f.check, full_found(y));
-    sizes & (((f.block as u32) < BLOCK_NUMBERS) & (a & b))
+    let a = is_arrival(f.sequence, f.check, full_arrival(x));
+    let b = is_arrival(f.sequence, f.check, full_arrival(y));
+    sizes & ((number < BLOCK_NUMBERS) & (a & b))
 }
 
 // The file has its one or two buffers, of m.

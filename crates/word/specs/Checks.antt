@@ -34,6 +34,10 @@ unchecked = record { error = 0; sum = 0; number = 0; sumread = 0; numberread = 0
 abbrev pub toldCheck : Checked → Checked
 toldCheck c = record { error = 0; sum = c .sum; number = c .number; sumread = c .sumread; numberread = c .numberread }
 
+-- the same with another error's number
+abbrev pub withError : ℕ → Checked → Checked
+withError n c = record { error = n; sum = c .sum; number = c .number; sumread = c .sumread; numberread = c .numberread }
+
 -- ---- what may stand with a block of a file that has chosen these fields
 
 -- fields of 18 and of 15 bits; "With no check word the fields read are zero"
@@ -46,6 +50,10 @@ fieldsFit sequence check c =
 -- the chosen fields are unequal exactly where the error says so; an error that was told is 0
 unfoldable pub isChecked : Bool → Bool → Checked → Bool
 isChecked sequence check c = fieldsFit sequence check c && (eqb (c .error) 0 || eqb (c .error) (errorIn sequence check c))
+
+-- the error was not told yet: it is exactly the comparison of the chosen fields
+abbrev pub isExact : Bool → Bool → Checked → Bool
+isExact sequence check c = eqb (c .error) (errorIn sequence check c)
 
 -- all zero
 abbrev pub isUnchecked : Checked → Bool

@@ -10,7 +10,7 @@ ghost use mathlib.Core.Bool.{cond};
 ghost use Prim.Native.Nat.{_≤_};
 ghost use lib.Dec.{eqb};
 ghost use Rattle.word.specs.CheckWords.{chosen};
-ghost use Rattle.word.specs.Checks.{errorOf, checkOf, unchecked, toldCheck, isChecked, isUnchecked};
+ghost use Rattle.word.specs.Checks.{errorOf, checkOf, unchecked, toldCheck, withError, isChecked, isExact, isUnchecked};
 
 // The error of a field that is to hold `due`, if it is chosen.
 fn mismatch(choice: bool, found: u32, due: u32, error: u8) -> u8
@@ -77,6 +77,19 @@ pub fn told_check(c: Checked) -> Checked
     }
 }
 
+// The same with another error's number.
+pub fn with_error(n: u8, c: Checked) -> Checked
+    ensures { λ r. ⌜ r ≡ withError n c ⌝ }
+{
+    Checked {
+        error: n,
+        sum: c.sum,
+        number: c.number,
+        sumread: c.sumread,
+        numberread: c.numberread,
+    }
+}
+
 // Whether this may stand with a block of a file that has chosen these fields: each field in its range, the error 0 or that of the chosen fields.
 pub fn is_checked(sequence: bool, check: bool, c: Checked) -> bool
     ensures { λ r. ⌜ r ≡ isChecked sequence check c ⌝ }
@@ -86,6 +99,14 @@ pub fn is_checked(sequence: bool, check: bool, c: Checked) -> bool
     let read = (c.sumread < SUMS) & ((c.numberread as u32) < BLOCK_NUMBERS);
     let some = (sequence | check) | ((c.sumread == 0) & (c.numberread == 0));
     (due & (read & some)) & ((c.error == 0) | (c.error == error))
+}
+
+// Whether the error is that of the chosen fields: it was not told yet.
+pub fn is_exact(sequence: bool, check: bool, c: Checked) -> bool
+    ensures { λ r. ⌜ r ≡ isExact sequence check c ⌝ }
+{
+    let error = error_of(sequence, check, c.sum, c.number, c.sumread, c.numberread);
+    c.error == error
 }
 
 // Whether all is zero.

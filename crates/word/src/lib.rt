@@ -4,9 +4,11 @@
 
 pub use checks::check_of;
 pub use checks::is_checked;
+pub use checks::is_exact;
 pub use checks::is_unchecked;
 pub use checks::not_checked;
 pub use checks::told_check;
+pub use checks::with_error;
 pub use fields::check_word;
 pub use fields::extra;
 pub use fields::next_number;

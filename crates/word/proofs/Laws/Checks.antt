@@ -12,13 +12,16 @@ use Rattle.word.specs.declared.Checked.{Checked}
 use Rattle.word.specs.Sums.{firstHalf, folded}
 use Rattle.word.specs.CheckWords.{address, blockNumbers, chosen}
 use Rattle.word.proofs.Laws.CheckWord.{folded-lt, address-lt}
-use Rattle.word.specs.Checks.{errorOf, errorIn, checkOf, unchecked, toldCheck, fieldsFit, isChecked, isUnchecked}
+use Rattle.word.specs.Checks.{errorOf, errorIn, checkOf, unchecked, toldCheck, fieldsFit, isChecked, isExact, isUnchecked}
 
 -- the error is exactly the comparison of the chosen fields
 pub check-compares : (sequence check : Bool) (sum number word : ℕ)
     → checkOf sequence check sum number word .error ≡ errorIn sequence check (checkOf sequence check sum number word)
 unfolding checkOf
 check-compares sequence check sum number word = refl
+
+pub check-exact : (sequence check : Bool) (sum number word : ℕ) → isExact sequence check (checkOf sequence check sum number word) ≡ true
+check-exact sequence check sum number word = eq-eqb _ _ (check-compares sequence check sum number word)
 
 first-lt : (w : ℕ) → firstHalf w < 2 ^ 18
 unfolding firstHalf
@@ -70,6 +73,17 @@ module _ (sequence check : Bool) where
   pub unchecked-fits : isChecked sequence check unchecked ≡ true
   unfolding isChecked
   unchecked-fits = and-both _ _ (and-both _ _ refl (and-both _ _ refl (or-second (sequence || check) true refl))) refl
+
+  -- where nothing was found there is nothing to tell
+  pub unchecked-exact : isExact sequence check unchecked ≡ true
+  unfolding errorOf
+  unchecked-exact = go sequence check
+    where
+      go : (s c : Bool) → eqb 0 (chosen s 0 + chosen c 0) ≡ true
+      go true true = refl
+      go true false = refl
+      go false true = refl
+      go false false = refl
 
   -- an error that was not told is the comparison of the chosen fields
   pub checked-error : (c : Checked) → isChecked sequence check c ≡ true → (c .error ≡ 0 → ⊥) → c .error ≡ errorIn sequence check c

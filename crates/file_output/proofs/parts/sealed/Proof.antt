@@ -1,4 +1,4 @@
--- `file_output::sealed` meets its contract, from the contracts of `part_length`, `not_checked`, `filled_at` and `part_side`. Assumes nothing.
+-- `file_output::sealed` meets its contract, from the contracts of `part_length`, `no_arrival`, `filled_at` and `part_side`. Assumes nothing.
 use Rattle.file_output.specs.Parts.{sealedFile}
 use borrow.Author.Needs.{needs}
 use Rattle.file_output.proofs.parts.sealed.Statement.{statement}
@@ -10,16 +10,16 @@ part-side-requires c κs = search needs
 part-length-requires : tie.Need-part-length-requires
 part-length-requires c κs = search needs
 
-not-checked-requires : tie.Need-not-checked-requires
-not-checked-requires c κs = search needs
+no-arrival-requires : tie.Need-no-arrival-requires
+no-arrival-requires c κs = search needs
 
 filled-at-requires : tie.Need-filled-at-requires
 filled-at-requires c κs = search needs
 
 returns : tie.Need-returns
 unfolding sealedFile
-returns c = simp (c .filled-at .ensures, c .before .not-checked .ensures, c .before .before .part-length .ensures, c .before .before .before .part-side .ensures)
+returns c = simp (c .filled-at .ensures, c .before .no-arrival .ensures, c .before .before .part-length .ensures, c .before .before .before .part-side .ensures)
 
 pub sealed-spec : {M : Type 1} → statement M
 sealed-spec =
-    tie.close (tie.spec part-side-requires part-length-requires not-checked-requires filled-at-requires returns)
+    tie.close (tie.spec part-side-requires part-length-requires no-arrival-requires filled-at-requires returns)

@@ -25,7 +25,7 @@ returns-3 : tie.Need-returns-3
 returns-3 c = search needs
 
 returns-4 : tie.Need-returns-4
-returns-4 c = rw (c .before .x .given .1)
+returns-4 c = rw (c .before .before .x .given .1)
 
 pub place-fits-spec : {M : Type 1} → statement M
 place-fits-spec =
