@@ -115,6 +115,11 @@ impl Outcome {
             _ => None,
         }
     }
+
+    /// A report of this outcome may carry words, if it is a read's (M-101).
+    pub fn may_carry_words(self) -> bool {
+        matches!(self, Outcome::Good | Outcome::Redundancy | Outcome::IncompleteWord)
+    }
 }
 
 impl Booked {

@@ -306,6 +306,32 @@ mod tests {
         is_found("sum not chosen", |pack| each_file(pack, without_sum), 8);
     }
 
+    /// Wrong ways with blocks that are kept: none is kept, their error is not told, it is told of the other
+    /// kind, after the check error, or each time again.
+    #[test]
+    fn wrong_ways_with_kept_blocks_are_found() {
+        let each_block = |pack: &mut Pack, change: fn(&mut Block)| {
+            each_file(pack, |file| file.full.iter_mut().for_each(change))
+        };
+        let not_kept = |file: &mut File| file.full.retain(|block| block.read_error == 0);
+        is_found("not kept", |pack| each_file(pack, not_kept), 14);
+        is_found("not told", |pack| each_block(pack, |block| block.read_error = 0), 14);
+        let other = |block: &mut Block| block.read_error = block.read_error.min(4);
+        is_found("other kind", |pack| each_block(pack, other), 14);
+        let after = |block: &mut Block| {
+            if block.read_error != 0 && block.error != 0 {
+                std::mem::swap(&mut block.read_error, &mut block.error);
+            }
+        };
+        is_found("after the check error", |pack| each_block(pack, after), 14);
+        let told_with_it = |block: &mut Block| {
+            if block.read_error != 0 {
+                block.error = 0;
+            }
+        };
+        is_found("told with it", |pack| each_block(pack, told_with_it), 14);
+    }
+
     #[test]
     fn counting_a_displaced_operation_from_one_again_is_found() {
         let mistake = |pack: &mut Pack| {

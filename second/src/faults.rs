@@ -74,7 +74,7 @@ impl Generator {
         let working = self.some_working_unit().filter(|_| self.random.chance(1, 2));
         let (channel, unit) = working.unwrap_or_else(|| self.some_unit());
         let outcome = if self.random.chance(1, 3) { 0 } else { self.random.below(5) };
-        let words = if self.random.chance(1, 3) { self.some_words() } else { Vec::new() };
+        let words = if self.random.chance(2, 5) { self.some_words() } else { Vec::new() };
         Frame::Report { channel, unit, outcome, words }
     }
 

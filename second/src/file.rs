@@ -19,6 +19,8 @@ pub struct Block {
     pub place: usize,
     /// The check error that get has not told yet, 0 for none.
     pub error: u8,
+    /// The error of the read that get has not told yet (document 02, M-101): 4 or 10, 0 for none.
+    pub read_error: u8,
     /// What the check found at delivery; zeros of a block that was sealed.
     pub found: Fields,
 }
@@ -62,13 +64,13 @@ pub struct Part {
 }
 
 /// The answers of get: "a record ...; a short leftover ...; the block's check error ...; end ...;
-/// nothing yet".
+/// nothing yet". M-101: "get reports error 4 or 10, once, before any check error", as it reports that.
 #[derive(Clone, Debug, PartialEq, Eq)]
 pub enum Found {
     Record(Part),
     NothingYet,
     End,
-    CheckError(Judged),
+    Error(Judged),
     Leftover(Part),
 }
 
@@ -109,10 +111,16 @@ impl File {
 
     /// Books a block that was sealed or delivered: it is full and the newest; "block numbers ... go
     /// up by one for every block sealed or delivered".
-    pub fn add_full(&mut self, buffer: usize, data_words: usize, judged: Judged) {
+    pub fn add_full(&mut self, buffer: usize, data_words: usize, judged: Judged, read_error: u8) {
         let Judged { error, fields: found } = judged;
-        self.full.push_back(Block { buffer, data_words, place: 0, error, found });
+        self.full.push_back(Block { buffer, data_words, place: 0, error, read_error, found });
         self.number = next_number(self.number);
+    }
+
+    /// "A delivered block has 1 + e to B + e words".
+    pub fn fits(&self, words: usize) -> bool {
+        let e = self.chosen.e();
+        (1 + e..=self.block_size + e).contains(&words)
     }
 
     /// All words of a block, check word last.
@@ -126,8 +134,9 @@ impl File {
         let Some(block) = self.full.iter().find(|block| !block.used_up()) else {
             return if self.mark_read { Found::End } else { Found::NothingYet };
         };
-        if block.error != 0 {
-            return Found::CheckError(Judged { error: block.error, fields: block.found });
+        let untold = [block.read_error, block.error].into_iter().find(|&error| error != 0);
+        if let Some(error) = untold {
+            return Found::Error(Judged { error, fields: block.found });
         }
         let remaining = block.data_words - block.place;
         let part = |words| Part { buffer: block.buffer, place: block.place, words };
@@ -147,8 +156,9 @@ impl File {
         if let Some(block) = self.full.front_mut() {
             match &found {
                 Found::Record(part) | Found::Leftover(part) => block.place += part.words,
-                // "the block's check error, once, before its first record"
-                Found::CheckError(_) => block.error = 0,
+                // "the block's check error, once, before its first record"; before it the error of the read.
+                Found::Error(_) if block.read_error != 0 => block.read_error = 0,
+                Found::Error(_) => block.error = 0,
                 Found::End | Found::NothingYet => {}
             }
         }
@@ -170,7 +180,7 @@ mod tests {
 
     /// A full block by hand.
     fn block(buffer: usize, data_words: usize, place: usize) -> Block {
-        Block { buffer, data_words, place, error: 0, found: GOOD.fields }
+        Block { buffer, data_words, place, error: 0, read_error: 0, found: GOOD.fields }
     }
 
     /// An input file with buffers 3 and 5, blocks of up to 5 words and records of 2.
@@ -205,7 +215,7 @@ mod tests {
         assert_eq!(file.lowest_empty(), Some(3));
         file.taken = Some(3);
         assert_eq!(file.lowest_empty(), Some(5));
-        file.add_full(5, 1, GOOD);
+        file.add_full(5, 1, GOOD, 0);
         assert_eq!(file.lowest_empty(), None);
         file.taken = None;
         assert_eq!(file.lowest_empty(), Some(3));
@@ -217,8 +227,8 @@ mod tests {
     #[test]
     fn records_then_a_leftover_then_the_next_block() {
         let mut file = input();
-        file.add_full(5, 5, GOOD);
-        file.add_full(3, 2, GOOD);
+        file.add_full(5, 5, GOOD, 0);
+        file.add_full(3, 2, GOOD, 0);
         assert_eq!(file.get(), Found::Record(part(5, 0, 2)));
         assert_eq!(file.get(), Found::Record(part(5, 2, 2)));
         assert_eq!(file.get(), Found::Leftover(part(5, 4, 1)));
@@ -235,24 +245,45 @@ mod tests {
     #[test]
     fn a_check_error_is_told_once_before_the_first_record() {
         let mut file = input();
-        file.add_full(3, 1, in_error(3));
-        file.add_full(5, 2, in_error(1));
-        assert_eq!(file.get(), Found::CheckError(in_error(3)));
+        file.add_full(3, 1, in_error(3), 0);
+        file.add_full(5, 2, in_error(1), 0);
+        assert_eq!(file.get(), Found::Error(in_error(3)));
         assert_eq!(file.get(), Found::Leftover(part(3, 0, 1)));
-        assert_eq!(file.get(), Found::CheckError(in_error(1)));
+        assert_eq!(file.get(), Found::Error(in_error(1)));
         assert_eq!(file.lowest_empty(), Some(3));
         assert_eq!(file.get(), Found::Record(part(5, 0, 2)));
+    }
+
+    /// Readings G4 to G6 and H8: the error of the read, then the check error, then the records; each is told
+    /// by a get of its own, with the same fields.
+    #[test]
+    fn g6_the_error_of_the_read_is_told_before_the_check_error() {
+        let mut file = input();
+        file.add_full(3, 3, in_error(2), 10);
+        file.add_full(5, 2, GOOD, 4);
+        let told = |error, judged: Judged| Found::Error(Judged { error, ..judged });
+        assert_eq!(file.look(), told(10, in_error(2)));
+        assert_eq!(file.get(), told(10, in_error(2)));
+        assert_eq!((file.full[0].read_error, file.full[0].error), (0, 2));
+        assert_eq!(file.get(), Found::Error(in_error(2)));
+        assert_eq!(file.get(), Found::Record(part(3, 0, 2)));
+        assert_eq!(file.get(), Found::Leftover(part(3, 2, 1)));
+        assert_eq!(file.lowest_empty(), None);
+        assert_eq!(file.get(), told(4, GOOD));
+        assert_eq!(file.lowest_empty(), Some(3));
+        assert_eq!(file.get(), Found::Record(part(5, 0, 2)));
+        assert_eq!((file.get(), file.number), (Found::NothingYet, 3));
     }
 
     /// Reading H9: what was found stays with the block after it was told, and while others come.
     #[test]
     fn h9_what_was_found_stays_with_the_block() {
         let mut file = input();
-        file.add_full(5, 2, in_error(2));
-        file.add_full(3, 2, GOOD);
+        file.add_full(5, 2, in_error(2), 0);
+        file.add_full(3, 2, GOOD, 0);
         file.number = 9;
-        assert_eq!(file.look(), Found::CheckError(in_error(2)));
-        assert_eq!(file.get(), Found::CheckError(in_error(2)));
+        assert_eq!(file.look(), Found::Error(in_error(2)));
+        assert_eq!(file.get(), Found::Error(in_error(2)));
         assert_eq!((file.full[0].error, file.full[0].found), (0, in_error(2).fields));
         assert_eq!(file.full[1].found, GOOD.fields);
     }
@@ -272,7 +303,7 @@ mod tests {
     fn looking_changes_nothing() {
         let mut file = input();
         file.full.push_back(block(5, 2, 2));
-        file.add_full(3, 4, GOOD);
+        file.add_full(3, 4, GOOD, 0);
         let before = file.clone();
         assert_eq!(file.look(), Found::Record(part(3, 0, 2)));
         assert_eq!(file, before);
@@ -285,8 +316,8 @@ mod tests {
         file.part_filled = Some(PartFilled { buffer: 5, data_words: 2 });
         assert_eq!(file.room_for_put(), file.part_filled);
         file.part_filled = None;
-        file.add_full(3, 4, GOOD);
-        file.add_full(5, 4, GOOD);
+        file.add_full(3, 4, GOOD, 0);
+        file.add_full(5, 4, GOOD, 0);
         assert_eq!(file.room_for_put(), None);
     }
 
@@ -311,7 +342,7 @@ mod tests {
         file.part_filled = Some(PartFilled { buffer: 3, data_words: 2 });
         assert!(file.has_unwritten_output());
         file.part_filled = None;
-        file.add_full(3, 2, GOOD);
+        file.add_full(3, 2, GOOD, 0);
         assert!(file.has_unwritten_output());
         file.direction = Direction::Input;
         assert!(!file.has_unwritten_output());
@@ -321,16 +352,16 @@ mod tests {
     fn block_numbers_go_up_and_pass_32767() {
         let mut file = input();
         file.number = 32_766;
-        file.add_full(3, 1, GOOD);
+        file.add_full(3, 1, GOOD, 0);
         assert_eq!(file.number, 32_767);
-        file.add_full(5, 1, in_error(2));
+        file.add_full(5, 1, in_error(2), 0);
         assert_eq!(file.number, 0);
     }
 
     #[test]
     fn the_whole_block_has_its_check_word_last() {
         let mut file = output();
-        file.add_full(5, 4, GOOD);
+        file.add_full(5, 4, GOOD, 0);
         assert_eq!(file.whole_block(&file.full[0]), part(5, 0, 5));
         file.chosen = Chosen { sequence: false, check: false };
         assert_eq!(file.whole_block(&file.full[0]), part(5, 0, 4));

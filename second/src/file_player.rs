@@ -27,6 +27,8 @@ pub const WRITE_ERROR: u64 = 12;
 
 /// "Error 1 is sequence, 2 check sum, 3 both."
 const LAST_ERROR: u64 = 3;
+/// M-101: "error 4 or 10", 0 for none.
+const READ_ERRORS: [u64; 3] = [0, 4, 10];
 
 /// An open file and the words W of each buffer.
 #[derive(Clone, Debug, PartialEq, Eq)]
@@ -118,15 +120,18 @@ impl OpenFile {
                 let start = self.file.taken? * self.width;
                 Some(vec![start as u64])
             }
-            [READ_GOOD, words, error, sum, number, sum_read, number_read] => {
-                let in_range = (1..=self.file.block_size as u64).contains(&words) && error <= LAST_ERROR;
+            [READ_GOOD, words, error, read_error, sum, number, sum_read, number_read] => {
+                let in_range = (1..=self.file.block_size as u64).contains(&words)
+                    && error <= LAST_ERROR
+                    && READ_ERRORS.contains(&read_error);
                 let sums = [sum, sum_read].iter().all(|&sum| sum <= ones(HALF_BITS));
                 let numbers = [number, number_read].iter().all(|&number| number <= LAST_NUMBER);
                 let fields = Fields { sum, number, sum_read, number_read };
                 let judged = Judged { error: error as u8, fields };
-                (in_range && sums && numbers).then(|| self.deliver(words as usize, judged))
+                (in_range && sums && numbers).then(|| self.deliver(words as usize, judged, read_error as u8))
             }
-            // "A read that ends with a mark or a permanent error gives its buffer back as empty."
+            // "A read that ends with a mark or a permanent error gives its buffer back as empty." M-101: only
+            // if the error brings no words.
             [READ_ERROR] => {
                 self.file.taken = None;
                 Some(vec![])
@@ -153,10 +158,10 @@ impl OpenFile {
         }
     }
 
-    /// "A good end makes it full."
-    fn deliver(&mut self, words: usize, judged: Judged) -> Vec<u64> {
+    /// "A good end makes it full"; so does a permanent error with words.
+    fn deliver(&mut self, words: usize, judged: Judged, read_error: u8) -> Vec<u64> {
         let buffer = self.file.taken.take().expect("the buffer of a read");
-        self.file.add_full(buffer, words, judged);
+        self.file.add_full(buffer, words, judged, read_error);
         vec![]
     }
 
@@ -168,7 +173,7 @@ impl OpenFile {
             Found::Record(part) => (0, self.place_and_count(part), nothing),
             Found::NothingYet => (1, [0, 0], nothing),
             Found::End => (2, [0, 0], nothing),
-            Found::CheckError(judged) => (3, [0, 0], *judged),
+            Found::Error(judged) => (3, [0, 0], *judged),
             Found::Leftover(part) => (4, self.place_and_count(part), nothing),
         };
         [&[answer, start, count, judged.error.into()][..], &judged.fields.in_order()].concat()
@@ -192,7 +197,7 @@ impl OpenFile {
     /// `start count`: where the block begins and its data words. It is full then.
     fn seal(&mut self) -> Option<Vec<u64>> {
         let part = self.file.part_filled.take()?;
-        self.file.add_full(part.buffer, part.data_words, Judged::default());
+        self.file.add_full(part.buffer, part.data_words, Judged::default(), 0);
         Some(vec![(part.buffer * self.width) as u64, part.data_words as u64])
     }
 
@@ -201,15 +206,15 @@ impl OpenFile {
         [(part.buffer * self.width + part.place) as u64, part.words as u64]
     }
 
-    /// The count of full blocks; `buffer words place error sum number sumread numberread` of each, the
-    /// oldest first; the taken buffer; the part-filled buffer and its words; the next block number; whether
-    /// a mark was read.
+    /// The count of full blocks; `buffer words place error readerror sum number sumread numberread` of each,
+    /// the oldest first; the taken buffer; the part-filled buffer and its words; the next block number;
+    /// whether a mark was read.
     fn dump(&self) -> Vec<u64> {
         let file = &self.file;
         let mut numbers = vec![file.full.len() as u64];
         for block in &file.full {
             let [buffer, words, place] = [block.buffer, block.data_words, block.place].map(|n| n as u64);
-            numbers.extend([buffer, words, place, u64::from(block.error)]);
+            numbers.extend([buffer, words, place, u64::from(block.error), u64::from(block.read_error)]);
             numbers.extend(block.found.in_order());
         }
         numbers.push(file.taken.map_or(NO_BUFFER, |buffer| buffer as u64));
@@ -246,23 +251,23 @@ mod tests {
     #[test]
     fn two_input_buffers_in_turn() {
         answers(
-            "1 10 0 1 0 0 5 2 3 7; 2; 3 4 0 11 1 11 1; 2; 3 5 0 12 2 12 2; 6; 6; 6; 2; \
-             3 1 0 13 3 0 0; 6; 6; 7; 6; 6; 6",
+            "1 10 0 1 0 0 5 2 3 7; 2; 3 4 0 0 11 1 11 1; 2; 3 5 0 0 12 2 12 2; 6; 6; 6; 2; \
+             3 1 0 0 13 3 0 0; 6; 6; 7; 6; 6; 6",
             &[
                 "0 255 255 0 1 0",
                 "30 0 3 255 0 1 0",
-                "1 3 4 0 0 11 1 11 1 255 255 0 2 0",
-                "70 1 3 4 0 0 11 1 11 1 7 255 0 2 0",
-                "2 3 4 0 0 11 1 11 1 7 5 0 0 12 2 12 2 255 255 0 3 0",
-                "0 30 2 0 0 0 0 0 2 3 4 2 0 11 1 11 1 7 5 0 0 12 2 12 2 255 255 0 3 0",
-                "0 32 2 0 0 0 0 0 2 3 4 4 0 11 1 11 1 7 5 0 0 12 2 12 2 255 255 0 3 0",
-                "0 70 2 0 0 0 0 0 1 7 5 2 0 12 2 12 2 255 255 0 3 0",
-                "30 1 7 5 2 0 12 2 12 2 3 255 0 3 0",
-                "2 7 5 2 0 12 2 12 2 3 1 0 0 13 3 0 0 255 255 0 4 0",
-                "0 72 2 0 0 0 0 0 2 7 5 4 0 12 2 12 2 3 1 0 0 13 3 0 0 255 255 0 4 0",
-                "4 74 1 0 0 0 0 0 2 7 5 5 0 12 2 12 2 3 1 0 0 13 3 0 0 255 255 0 4 0",
-                "1 3 1 0 0 13 3 0 0 255 255 0 4 0",
-                "4 30 1 0 0 0 0 0 1 3 1 1 0 13 3 0 0 255 255 0 4 0",
+                "1 3 4 0 0 0 11 1 11 1 255 255 0 2 0",
+                "70 1 3 4 0 0 0 11 1 11 1 7 255 0 2 0",
+                "2 3 4 0 0 0 11 1 11 1 7 5 0 0 0 12 2 12 2 255 255 0 3 0",
+                "0 30 2 0 0 0 0 0 2 3 4 2 0 0 11 1 11 1 7 5 0 0 0 12 2 12 2 255 255 0 3 0",
+                "0 32 2 0 0 0 0 0 2 3 4 4 0 0 11 1 11 1 7 5 0 0 0 12 2 12 2 255 255 0 3 0",
+                "0 70 2 0 0 0 0 0 1 7 5 2 0 0 12 2 12 2 255 255 0 3 0",
+                "30 1 7 5 2 0 0 12 2 12 2 3 255 0 3 0",
+                "2 7 5 2 0 0 12 2 12 2 3 1 0 0 0 13 3 0 0 255 255 0 4 0",
+                "0 72 2 0 0 0 0 0 2 7 5 4 0 0 12 2 12 2 3 1 0 0 0 13 3 0 0 255 255 0 4 0",
+                "4 74 1 0 0 0 0 0 2 7 5 5 0 0 12 2 12 2 3 1 0 0 0 13 3 0 0 255 255 0 4 0",
+                "1 3 1 0 0 0 13 3 0 0 255 255 0 4 0",
+                "4 30 1 0 0 0 0 0 1 3 1 1 0 0 13 3 0 0 255 255 0 4 0",
                 "1 0 0 0 0 0 0 0 0 255 255 0 4 0",
                 "1 0 0 0 0 0 0 0 0 255 255 0 4 0",
             ],
@@ -274,20 +279,44 @@ mod tests {
     #[test]
     fn errors_and_the_end() {
         answers(
-            "1 4 0 0 1 1 3 3 2 9; 2; 4; 2; 3 3 2 14 1 15 1; 6; 6; 6; 2; 5; 6; 6",
+            "1 4 0 0 1 1 3 3 2 9; 2; 4; 2; 3 3 2 0 14 1 15 1; 6; 6; 6; 2; 5; 6; 6",
             &[
                 "0 255 255 0 1 0",
                 "8 0 2 255 0 1 0",
                 "0 255 255 0 1 0",
                 "8 0 2 255 0 1 0",
-                "1 2 3 0 2 14 1 15 1 255 255 0 2 0",
-                "3 0 0 2 14 1 15 1 1 2 3 0 0 14 1 15 1 255 255 0 2 0",
-                "0 8 3 0 0 0 0 0 1 2 3 3 0 14 1 15 1 255 255 0 2 0",
+                "1 2 3 0 2 0 14 1 15 1 255 255 0 2 0",
+                "3 0 0 2 14 1 15 1 1 2 3 0 0 0 14 1 15 1 255 255 0 2 0",
+                "0 8 3 0 0 0 0 0 1 2 3 3 0 0 14 1 15 1 255 255 0 2 0",
                 "1 0 0 0 0 0 0 0 0 255 255 0 2 0",
                 "8 0 2 255 0 2 0",
                 "0 255 255 0 2 1",
                 "2 0 0 0 0 0 0 0 0 255 255 0 2 1",
                 "2 0 0 0 0 0 0 0 0 255 255 0 2 1",
+            ],
+        );
+    }
+
+    /// G6, G8, G9: a block that was kept has its number, its read error is told before its check error, and
+    /// a skip drops both.
+    #[test]
+    fn kept_blocks() {
+        answers(
+            "1 4 0 1 1 1 3 3 2 9; 2; 3 3 2 10 14 1 15 1; 2; 3 1 0 4 5 2 5 2; 6; 6; 6; 6; 7; 2; 3 2 3 4 6 3 7 9; 7",
+            &[
+                "0 255 255 0 1 0",
+                "8 0 2 255 0 1 0",
+                "1 2 3 0 2 10 14 1 15 1 255 255 0 2 0",
+                "36 1 2 3 0 2 10 14 1 15 1 9 255 0 2 0",
+                "2 2 3 0 2 10 14 1 15 1 9 1 0 0 4 5 2 5 2 255 255 0 3 0",
+                "3 0 0 10 14 1 15 1 2 2 3 0 2 0 14 1 15 1 9 1 0 0 4 5 2 5 2 255 255 0 3 0",
+                "3 0 0 2 14 1 15 1 2 2 3 0 0 0 14 1 15 1 9 1 0 0 4 5 2 5 2 255 255 0 3 0",
+                "0 8 3 0 0 0 0 0 2 2 3 3 0 0 14 1 15 1 9 1 0 0 4 5 2 5 2 255 255 0 3 0",
+                "3 0 0 4 5 2 5 2 1 9 1 0 0 0 5 2 5 2 255 255 0 3 0",
+                "0 255 255 0 3 0",
+                "8 0 2 255 0 3 0",
+                "1 2 2 0 3 4 6 3 7 9 255 255 0 4 0",
+                "0 255 255 0 4 0",
             ],
         );
     }
@@ -301,18 +330,18 @@ mod tests {
             &[
                 "0 255 255 0 1 0",
                 "0 2 0 0 255 0 2 1 0",
-                "2 4 1 1 0 4 0 0 0 0 0 0 255 255 0 2 0",
-                "10 2 0 1 0 4 0 0 0 0 0 0 255 1 2 2 0",
-                "10 2 2 0 4 0 0 0 0 0 0 1 2 0 0 0 0 0 0 255 255 0 3 0",
-                "0 5 2 0 4 0 0 0 0 0 0 1 2 0 0 0 0 0 0 255 255 0 3 0",
-                "2 0 4 0 0 0 0 0 0 1 2 0 0 0 0 0 0 255 255 0 3 0",
-                "0 5 2 0 4 0 0 0 0 0 0 1 2 0 0 0 0 0 0 255 255 0 3 0",
-                "1 1 2 0 0 0 0 0 0 255 255 0 3 0",
-                "0 2 0 1 1 2 0 0 0 0 0 0 255 0 2 3 0",
-                "10 3 1 1 2 0 0 0 0 0 0 255 0 2 3 0",
+                "2 4 1 1 0 4 0 0 0 0 0 0 0 255 255 0 2 0",
+                "10 2 0 1 0 4 0 0 0 0 0 0 0 255 1 2 2 0",
+                "10 2 2 0 4 0 0 0 0 0 0 0 1 2 0 0 0 0 0 0 0 255 255 0 3 0",
+                "0 5 2 0 4 0 0 0 0 0 0 0 1 2 0 0 0 0 0 0 0 255 255 0 3 0",
+                "2 0 4 0 0 0 0 0 0 0 1 2 0 0 0 0 0 0 0 255 255 0 3 0",
+                "0 5 2 0 4 0 0 0 0 0 0 0 1 2 0 0 0 0 0 0 0 255 255 0 3 0",
+                "1 1 2 0 0 0 0 0 0 0 255 255 0 3 0",
+                "0 2 0 1 1 2 0 0 0 0 0 0 0 255 0 2 3 0",
+                "10 3 1 1 2 0 0 0 0 0 0 0 255 0 2 3 0",
                 "0 255 0 2 3 0",
-                "0 2 1 0 2 0 0 0 0 0 0 255 255 0 4 0",
-                "0 3 1 0 2 0 0 0 0 0 0 255 255 0 4 0",
+                "0 2 1 0 2 0 0 0 0 0 0 0 255 255 0 4 0",
+                "0 3 1 0 2 0 0 0 0 0 0 0 255 255 0 4 0",
             ],
         );
     }
@@ -355,26 +384,31 @@ mod tests {
 
     #[test]
     fn events_that_are_not_allowed_where_they_stand() {
-        for event in ["3 1 0 0 0 0 0", "4", "5", "7", "8", "9", "10", "11", "12"] {
+        for event in ["3 1 0 0 0 0 0 0", "4", "5", "7", "8", "9", "10", "11", "12"] {
             stops(&format!("1 8 0 1 0 0 6 3 5 6; {event}"));
         }
         for event in [
             "2",
-            "3 0 0 0 0 0 0",
-            "3 7 0 0 0 0 0",
-            "3 1 4 0 0 0 0",
-            "3 1 0 262144 0 0 0",
-            "3 1 0 0 32768 0 0",
-            "3 1 0 0 0 262144 0",
-            "3 1 0 0 0 0 32768",
+            "3 0 0 0 0 0 0 0",
+            "3 7 0 0 0 0 0 0",
+            "3 1 4 0 0 0 0 0",
+            "3 1 0 0 262144 0 0 0",
+            "3 1 0 0 0 32768 0 0",
+            "3 1 0 0 0 0 262144 0",
+            "3 1 0 0 0 0 0 32768",
             "3 1 0 0 0 0",
             "3 1 0",
+            "3 1 0 0 0 0 0",
+            "3 1 0 1 0 0 0 0",
+            "3 1 0 3 0 0 0 0",
+            "3 1 0 5 0 0 0 0",
+            "3 1 0 11 0 0 0 0",
         ] {
             stops(&format!("1 8 0 1 0 0 6 3 5 6; 2; {event}"));
         }
         stops("1 8 0 1 0 0 6 3 5 6; 2; 5; 2");
-        stops("1 8 0 0 0 0 6 3 5 6; 2; 3 1 0 1 1 0 0; 6; 2");
-        for event in ["2", "3 1 0 0 0 0 0", "4", "5", "6", "7", "9", "10", "11", "12"] {
+        stops("1 8 0 0 0 0 6 3 5 6; 2; 3 1 0 0 1 1 0 0; 6; 2");
+        for event in ["2", "3 1 0 0 0 0 0 0", "4", "5", "6", "7", "9", "10", "11", "12"] {
             stops(&format!("1 8 1 1 0 0 6 3 5 6; {event}"));
         }
         stops("1 8 1 0 0 0 6 6 5 6; 8; 8");

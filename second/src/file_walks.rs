@@ -6,20 +6,22 @@
 //!
 //! - `1 W output double sequence check B r low high`: an open. A single file has the buffer `low` alone.
 //! - `2`: a read is accepted. Answer: `start`, where the taken buffer begins in the area.
-//! - `3 words error sum number sumread numberread`: a good end of the read, with so many data words, this
-//!   check error and what the check found (M-102). Answer: nothing.
-//! - `4`, `5`: a permanent error of the read; a file mark. Answer: nothing.
+//! - `3 words error readerror sum number sumread numberread`: the read delivers a block of so many data words,
+//!   with this check error, this read error (M-101: 0 after a good end, 4 or 10 after a permanent error with
+//!   words) and what the check found (M-102). Answer: nothing.
+//! - `4`, `5`: a permanent error of the read without words; a file mark. Answer: nothing.
 //! - `6`: get. Answer: `answer start count error sum number sumread numberread`; the answers are those of
-//!   the session program, and what does not belong to the answer is 0.
+//!   the session program, an error is the read error, then the check error, and what does not belong to the
+//!   answer is 0.
 //! - `7`: skip. Answer: nothing.
 //! - `8`: a put of r words. Answer: `start count sealed`: where they go, the data words of the block then, and
 //!   whether it is sealed at once. `9`: a seal. Answer: `start count` of the block's data words.
 //! - `10`: what a write sends. Answer: `start count`, check word too. `11`, `12`: the write ended well; with
 //!   a permanent error. Answer: nothing.
 //!
-//! The dump: the count of full blocks; for each, the oldest first, `buffer words place error sum number
-//! sumread numberread`, the error being 0 once it was told, the other four as found at delivery and 0 in an
-//! output file; the taken buffer, 255 for none; the part-filled buffer, 255 for none, and its words; the next
+//! The dump: the count of full blocks; for each, the oldest first, `buffer words place error readerror sum
+//! number sumread numberread`, each error being 0 once it was told, the last four as found at delivery and 0
+//! in an output file; the taken buffer, 255 for none; the part-filled buffer, 255 for none, and its words; the next
 //! block number; whether a mark was read.
 
 use crate::file_player::{
@@ -191,7 +193,9 @@ impl Script {
         };
         let fields = u64::from(chosen.sequence) | u64::from(chosen.check) << 1;
         let error = if self.random.chance(1, 2) { self.random.below(4) & fields } else { 0 };
-        [&[READ_GOOD, words, error][..], &self.found(error)].concat()
+        // Every fourth block or so is one that is kept after a permanent error.
+        let read_error = if self.random.chance(1, 4) { self.random.pick(&[4, 10]) } else { 0 };
+        [&[READ_GOOD, words, error, read_error][..], &self.found(error)].concat()
     }
 
     /// What the check of the next block finds, with this error. The words of a walk are never all zero, so
@@ -237,7 +241,7 @@ mod tests {
     #[derive(Default)]
     struct Seen {
         counts: BTreeMap<&'static str, u64>,
-        /// The check errors that get told.
+        /// The errors that get told.
         errors: BTreeSet<u64>,
         /// The oldest block's write ended with a permanent error; then it was sent again.
         write_failed: bool,
@@ -319,6 +323,10 @@ mod tests {
                 "block in error shorter than r",
                 event[2] > 0 && event[1] < before.record_length as u64,
             );
+            self.count("kept block, redundancy", event[3] == 4);
+            self.count("kept block, incomplete word", event[3] == 10);
+            self.count("kept block with a check error", event[3] != 0 && event[2] != 0);
+            self.count("kept block behind another block", event[3] != 0 && !before.full.is_empty());
             self.count("delivered behind a used-up block", oldest_is_used_up(before));
         }
 
@@ -338,10 +346,13 @@ mod tests {
             self.count("end again", answer[0] == 2 && self.end_found);
             self.count("error told", answer[0] == 3);
             self.count("words right after an error told", self.error_told && [0, 4].contains(&answer[0]));
+            self.count("check error right after a read error", self.error_told && answer[0] == 3);
             self.count(
                 "anything else right after an error told",
-                self.error_told && [1, 2, 3].contains(&answer[0]),
+                self.error_told && [1, 2].contains(&answer[0]),
             );
+            let read_error = answer[0] == 3 && answer[3] > 3;
+            self.count("read error of the next block after a used-up one", emptied && read_error);
             self.count("leftover", answer[0] == 4);
             self.count(
                 "leftover behind records",
@@ -357,6 +368,7 @@ mod tests {
             self.count("skip of a used-up block, a fresh one behind it", oldest_is_used_up(before) && fresh);
             self.count("skip of a block not used up", !oldest_is_used_up(before));
             self.count("skip of an error not told", before.full[0].error != 0);
+            self.count("skip of a read error not told", before.full[0].read_error != 0);
         }
 
         fn see_put(&mut self, before: &File, answer: &[u64]) {
@@ -431,7 +443,7 @@ mod tests {
         let too_seldom = |(what, count): &(&&str, &u64)| !never.contains(what) && **count < FEWEST;
         let seldom: Vec<(&&str, &u64)> = seen.counts.iter().filter(too_seldom).collect();
         assert!(seldom.is_empty(), "came about too seldom: {seldom:?} of {:?}", seen.counts);
-        assert!(seen.errors.iter().copied().eq(1..=3));
+        assert!(seen.errors.iter().copied().eq([1, 2, 3, 4, 10]));
         for often in
             ["input: lower older", "input: higher older", "output: lower older", "output: higher older"]
         {

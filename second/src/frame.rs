@@ -171,8 +171,8 @@ fn add_found(answer: &mut Vec<u8>, found: Fields) {
     }
 }
 
-/// "Get adds 00 and words, 01 nothing yet, 02 end, 03 and the check error, 04 and a leftover." M-102: 03
-/// carries what was found at delivery after the error.
+/// "Get adds 00 and words, 01 nothing yet, 02 end, 03 and the check error, 04 and a leftover." M-101: 03 and
+/// error 4 or 10 come before. M-102: 03 carries what was found at delivery after the error.
 fn add_get(answer: &mut Vec<u8>, got: &Got) {
     match got {
         Got::Record(words) => {
@@ -181,7 +181,7 @@ fn add_get(answer: &mut Vec<u8>, got: &Got) {
         }
         Got::NothingYet => answer.push(0x01),
         Got::End => answer.push(0x02),
-        Got::CheckError(judged) => {
+        Got::Error(judged) => {
             answer.extend([0x03, judged.error]);
             add_found(answer, judged.fields);
         }

@@ -1,7 +1,7 @@
 //! The subcommand `generate`: random sessions of several profiles. The generator plays every line
 //! on a pack of its own, so that most frames it chooses are accepted and lead to deep states.
 
-use crate::channel::{Operation, UNITS};
+use crate::channel::{Booked, Operation, Outcome, Request, UNITS};
 use crate::file::{Direction, File};
 use crate::frame::{answer_line, line_of, Frame};
 use crate::pack::{Opening, Pack, CHANNELS, CHECK, DOUBLE, FILES, OUTPUT, SEQUENCE};
@@ -143,7 +143,7 @@ impl Generator {
         }
         let (channel, unit) = self.free_unit()?;
         let closed: Vec<u64> = (0..FILES as u64).filter(|&file| self.pack.file(file).is_none()).collect();
-        let mut flags = self.random.pick(&[0, OUTPUT]);
+        let mut flags = if self.random.chance(self.habits.outputs, 100) { OUTPUT } else { 0 };
         if free >= 2 && self.random.chance(1, 2) {
             flags += DOUBLE;
         }
@@ -228,20 +228,34 @@ impl Generator {
     fn report_frame(&mut self) -> Option<Frame> {
         let (channel, unit) = self.some_working_unit()?;
         let request = self.pack.channels[channel as usize].working_request(unit)?;
-        let (operation, priority) = (request.operation, request.priority);
-        let outcome = self.random_outcome(operation, priority);
+        let request = request.clone();
+        let operation = request.operation;
+        let outcome = self.random_outcome(&request, unit);
+        let result = Outcome::of(outcome).map(|outcome| request.result_of(outcome));
+        let permanent = matches!(result, Some(Booked::PermanentRedundancy | Booked::PermanentIncompleteWord));
         let file = self.pack.file_of_unit(channel, unit)? as u64;
-        let good_read = operation == Operation::Read && outcome == 0;
-        let words = if good_read { self.delivered_block(file) } else { Vec::new() };
+        let brings = match (operation, outcome) {
+            (Operation::Read, 0) => true,
+            // M-101: of the failures that are permanent as many bring words as not.
+            (Operation::Read, 1 | 2) if permanent => self.random.chance(1, 2),
+            (Operation::Read, 1 | 2) => self.random.chance(self.habits.failed_words, 100),
+            _ => false,
+        };
+        let words = if brings { self.delivered_block(file) } else { Vec::new() };
         Some(Frame::Report { channel, unit, outcome, words })
     }
 
-    /// An allowed outcome. A priority operation mostly ends soon, so that displaced ones go on.
-    fn random_outcome(&mut self, operation: Operation, priority: bool) -> u64 {
+    /// An allowed outcome. A priority operation mostly ends soon, so that displaced ones go on; the last
+    /// attempt of a read ends in each way. In `kept` every other unit has redundancies up to the last attempt.
+    fn random_outcome(&mut self, request: &Request, unit: u64) -> u64 {
+        let operation = request.operation;
         let part = self.random.below(100);
-        let redundancies = self.habits.redundancies;
-        if priority && self.profile == Profile::Turns && self.random.chance(1, 2) {
+        let to_the_last = self.profile == Profile::Kept && unit.is_multiple_of(2);
+        let redundancies = if to_the_last { 99 } else { self.habits.redundancies };
+        if request.priority && self.profile == Profile::Turns && self.random.chance(1, 2) {
             0
+        } else if operation == Operation::Read && request.attempt == operation.last_attempt() {
+            self.random.pick(&[0, 1, 1, 1, 1, 2, 2, 3])
         } else if part < redundancies {
             1
         } else if part < redundancies + self.habits.incomplete_words && operation != Operation::Mark {
@@ -362,7 +376,9 @@ mod tests {
 
     #[test]
     fn most_frames_are_accepted() {
-        for profile in [Profile::Mixed, Profile::Retries, Profile::Turns, Profile::Blocks, Profile::Wrap] {
+        for profile in
+            [Profile::Mixed, Profile::Retries, Profile::Turns, Profile::Blocks, Profile::Kept, Profile::Wrap]
+        {
             assert!(accepted(profile) >= 90, "{profile:?}: {}", accepted(profile));
         }
         assert!((30..=70).contains(&accepted(Profile::Malformed)));

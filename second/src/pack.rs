@@ -22,6 +22,10 @@ pub const SEQUENCE: u64 = 4;
 pub const CHECK: u64 = 8;
 pub const ALL_FLAGS: u64 = OUTPUT + DOUBLE + SEQUENCE + CHECK;
 
+/// The manual's error types 4, "An unrecoverable read error", and 10, "Incomplete word read" (M-101).
+pub const UNRECOVERABLE_READ: u8 = 4;
+pub const INCOMPLETE_WORD_READ: u8 = 10;
+
 /// The state of the pack with the area it was lent.
 #[derive(Clone, Debug, PartialEq, Eq)]
 pub struct Pack {
@@ -51,8 +55,8 @@ pub enum Got<'a> {
     Record(&'a [u64]),
     NothingYet,
     End,
-    /// The check error, and what was found at delivery.
-    CheckError(Judged),
+    /// The error of the read or the check error, and what was found at delivery.
+    Error(Judged),
     Leftover(&'a [u64]),
 }
 
@@ -231,7 +235,8 @@ impl Pack {
         refusals
     }
 
-    /// Books the end of an activity. The words are those of the block that a good read delivers.
+    /// Books the end of an activity. The words are those of the block that a read delivers, good or, by M-101,
+    /// with a redundancy or an incomplete word.
     pub fn report(
         &mut self,
         channel: u64,
@@ -250,9 +255,18 @@ impl Pack {
         match (operation, result) {
             (_, Booked::Repeated) | (Operation::Mark, _) => {}
             (Operation::Read, Booked::Good | Booked::GoodInOppositeMode) => {
-                delivered = Some(self.deliver(file, words));
+                delivered = Some(self.deliver(file, words, 0));
             }
-            // "A read that ends with a mark or a permanent error gives its buffer back as empty."
+            // M-101: "If such a report is permanent and carries words, the block is kept as full". "Words on a
+            // repeated attempt are dropped."
+            (Operation::Read, Booked::PermanentRedundancy) if !words.is_empty() => {
+                delivered = Some(self.deliver(file, words, UNRECOVERABLE_READ));
+            }
+            (Operation::Read, Booked::PermanentIncompleteWord) if !words.is_empty() => {
+                delivered = Some(self.deliver(file, words, INCOMPLETE_WORD_READ));
+            }
+            // "A read that ends with a mark or a permanent error gives its buffer back as empty": now only if
+            // no words came.
             (Operation::Read, _) => {
                 let opened = self.judged_file(file);
                 opened.taken = None;
@@ -286,8 +300,9 @@ impl Pack {
         let outcome = Outcome::of(outcome);
         let in_range = channel < CHANNELS as u64 && unit < UNITS as u64;
         refusals.when(1, !in_range || outcome.is_none());
-        // "Words given with an outcome other than 0 ... are refused 1".
-        refusals.when(1, !words.is_empty() && outcome != Some(Outcome::Good));
+        // "Words given with an outcome other than 0 ... are refused 1"; M-101: "reports of read redundancy or
+        // incomplete word may carry words", "refusal 1 for words there goes".
+        refusals.when(1, !words.is_empty() && !outcome.is_some_and(Outcome::may_carry_words));
         refusals.when(2, !all_words(words));
         let Some(request) = self.working_request(channel, unit) else {
             refusals.when(11, in_range);
@@ -302,14 +317,16 @@ impl Pack {
         refusals.when(12, !request.operation.allows(outcome));
         let file = self.file_of_unit(channel, unit).expect("the file of a request");
         let opened = self.file(file as u64).expect("an open file");
-        match (request.operation, request.result_of(outcome)) {
-            // "A delivered block has 1 + e to B + e words, else 13."
-            (Operation::Read, Booked::Good | Booked::GoodInOppositeMode) => {
-                let e = opened.chosen.e();
-                refusals.when(13, !(1 + e..=opened.block_size + e).contains(&words.len()));
+        match (request.operation, outcome) {
+            // "A delivered block has 1 + e to B + e words, else 13." No words at all deliver no block, which a
+            // good end cannot do.
+            (Operation::Read, Outcome::Good) => refusals.when(13, !opened.fits(words.len())),
+            // "sized as good blocks", whatever becomes of the words.
+            (Operation::Read, Outcome::Redundancy | Outcome::IncompleteWord) => {
+                refusals.when(13, !words.is_empty() && !opened.fits(words.len()));
             }
             // 2: "a buffer word that the call ... hands out, is 2^36 or more".
-            (Operation::Write, Booked::Good | Booked::EndOfMedium) => {
+            (Operation::Write, Outcome::Good | Outcome::EndOfMedium) => {
                 let shown = opened.full.front().map(|block| self.part(&opened.whole_block(block)));
                 refusals.when(2, shown.is_some_and(|words| !all_words(words)));
             }
@@ -319,13 +336,13 @@ impl Pack {
     }
 
     /// "A good end makes it full": puts a delivered block into the buffer that the read has taken.
-    /// "A block in error is kept and its number reported."
-    fn deliver(&mut self, file: u64, words: &[u64]) -> Judged {
+    /// "A block in error is kept and its number reported." The error of a read that failed is kept with it.
+    fn deliver(&mut self, file: u64, words: &[u64], read_error: u8) -> Judged {
         let width = self.width;
         let opened = self.judged_file(file);
         let buffer = opened.taken.take().expect("the buffer of a read");
         let judged = judge(words, opened.chosen, opened.number);
-        opened.add_full(buffer, words.len() - opened.chosen.e(), judged);
+        opened.add_full(buffer, words.len() - opened.chosen.e(), judged, read_error);
         self.area[buffer * width..][..words.len()].copy_from_slice(words);
         judged
     }
@@ -337,7 +354,7 @@ impl Pack {
             Found::Record(part) => Got::Record(self.part(&part)),
             Found::NothingYet => Got::NothingYet,
             Found::End => Got::End,
-            Found::CheckError(judged) => Got::CheckError(judged),
+            Found::Error(judged) => Got::Error(judged),
             Found::Leftover(part) => Got::Leftover(self.part(&part)),
         })
     }
@@ -410,7 +427,7 @@ impl Pack {
         let opened = self.judged_file(file);
         let part = opened.part_filled.take().expect("a part-filled buffer");
         let (chosen, number) = (opened.chosen, opened.number);
-        opened.add_full(part.buffer, part.data_words, Judged::default());
+        opened.add_full(part.buffer, part.data_words, Judged::default(), 0);
         let buffer = &mut self.area[part.buffer * width..][..width];
         seal(buffer, part.data_words, chosen, number).expect("a judged block");
     }
@@ -701,7 +718,9 @@ mod tests {
         for (channel, unit, outcome) in [(5, 0, GOOD), (0, 10, GOOD), (0, 0, 5)] {
             refused(&pack, 1, |pack| pack.report(channel, unit, outcome, &[]).map(|_| ()));
         }
-        refused(&pack, 1, |pack| pack.report(0, 0, REDUNDANCY, &[1]).map(|_| ()));
+        refused(&pack, 1, |pack| pack.report(0, 0, FILE_MARK, &[1]).map(|_| ()));
+        refused(&pack, 11, |pack| pack.report(0, 0, REDUNDANCY, &[1]).map(|_| ()));
+        refused(&pack, 2, |pack| pack.report(0, 0, INCOMPLETE, &[SPOILT]).map(|_| ()));
         refused(&pack, 11, |pack| pack.report(0, 0, GOOD, &[1]).map(|_| ()));
         refused(&pack, 2, |pack| pack.report(0, 0, GOOD, &[SPOILT]).map(|_| ()));
         pack.ask(0, READ, 0).expect("an accepted ask");
@@ -709,6 +728,10 @@ mod tests {
         refused(&pack, 1, |pack| pack.report(0, 0, END_OF_MEDIUM, &[1]).map(|_| ()));
         for words in [[].as_slice(), &[1], &[1, 2, 3, 4, 5], &[0; 2_000]] {
             refused(&pack, 13, |pack| pack.report(0, 0, GOOD, words).map(|_| ()));
+        }
+        for words in [[1].as_slice(), &[1, 2, 3, 4, 5], &[0; 2_000]] {
+            refused(&pack, 13, |pack| pack.report(0, 0, REDUNDANCY, words).map(|_| ()));
+            refused(&pack, 13, |pack| pack.report(0, 0, INCOMPLETE, words).map(|_| ()));
         }
         refused(&pack, 2, |pack| pack.report(0, 0, GOOD, &[SPOILT]).map(|_| ()));
         assert_eq!(pack.report(0, 0, GOOD, &[4, 1]).map(|reported| reported.check_error), Ok(0));
@@ -722,7 +745,7 @@ mod tests {
         assert_eq!(pack.area[..4], [5, 6, 1, 1_003]);
         assert_eq!(pack.area[10..15], [7, 8, 9, 5, 1_014]);
         assert_eq!(pack.get(0), Ok(Got::Record(&[5, 6])));
-        assert_eq!(pack.get(0), Ok(Got::CheckError(judged(1, [24, 2, 0, 5]))));
+        assert_eq!(pack.get(0), Ok(Got::Error(judged(1, [24, 2, 0, 5]))));
         assert_eq!(pack.get(0), Ok(Got::Record(&[7, 8])));
         assert_eq!(pack.get(0), Ok(Got::Leftover(&[9])));
         assert_eq!(pack.get(0), Ok(Got::NothingYet));
@@ -747,10 +770,31 @@ mod tests {
         assert_eq!(found(&mut pack, GOOD, &[7, (8 << 18) + 3]), Some(Fields::of([7, 2, 8, 3])));
         pack.area[10..12].copy_from_slice(&[1, 2]);
         assert_eq!(pack.get(0), Ok(Got::Record(&[5, 6])));
-        assert_eq!(pack.get(0), Ok(Got::CheckError(judged(3, [7, 2, 8, 3]))));
+        assert_eq!(pack.get(0), Ok(Got::Error(judged(3, [7, 2, 8, 3]))));
         assert_eq!(found(&mut pack, INCOMPLETE, &[]), None);
         assert_eq!(found(&mut pack, INCOMPLETE, &[]), None);
         assert_eq!(found(&mut pack, FILE_MARK, &[]), None);
+    }
+
+    /// Reading G11: a kept block lies from its buffer's first word; dropped and refused words write nothing.
+    #[test]
+    fn g11_only_kept_words_are_written() {
+        let mut pack = pack_with(DOUBLE + SEQUENCE, 3, 2);
+        let before = pack.area.clone();
+        pack.ask(0, READ, 0).expect("an accepted ask");
+        pack.report(0, 0, REDUNDANCY, &[1, 2, 3]).expect("a booked report");
+        pack.report(0, 0, INCOMPLETE, &[4, 5]).expect("a booked report");
+        refused(&pack, 13, |pack| pack.report(0, 0, INCOMPLETE, &[7; 5]).map(|_| ()));
+        assert_eq!(pack.area, before);
+        let reported = pack.report(0, 0, INCOMPLETE, &[6, 7, 9]).expect("a booked report");
+        assert_eq!((reported.result, reported.check_error), (Booked::PermanentIncompleteWord, 1));
+        assert_eq!(reported.found, Some(Fields::of([13, 1, 0, 9])));
+        assert_eq!(pack.area[..4], [6, 7, 9, 1_003]);
+        assert_eq!(pack.area[4..], before[4..]);
+        assert_eq!(pack.file(0).map(|file| (file.taken, file.number)), Some((None, 2)));
+        assert_eq!(pack.get(0), Ok(Got::Error(judged(10, [13, 1, 0, 9]))));
+        assert_eq!(pack.get(0), Ok(Got::Error(judged(1, [13, 1, 0, 9]))));
+        assert_eq!(pack.get(0), Ok(Got::Record(&[6, 7])));
     }
 
     /// Reading C17: a failed read, a close and a fresh start write nothing.
@@ -881,7 +925,7 @@ mod tests {
         pack.area[1] = SPOILT;
         assert_eq!(pack.get(0), Ok(Got::Record(&[5])));
         pack.area[10] = SPOILT;
-        assert_eq!(pack.get(0), Ok(Got::CheckError(judged(1, [13, 2, 0, 9]))));
+        assert_eq!(pack.get(0), Ok(Got::Error(judged(1, [13, 2, 0, 9]))));
         refused(&pack, 2, |pack| pack.get(0).map(|_| ()));
         pack.area[10] = 6;
         pack.area[11] = SPOILT;

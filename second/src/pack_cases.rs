@@ -11,12 +11,13 @@
 //! - `1 file channel unit flags B r`: open. `2 file`: close.
 //! - `3 file operation priority`: ask. Answer: `working`, 255 for none.
 //! - `4 channel unit outcome n word ..`: report with n words (0 to 64). Answer: `result error sum number
-//!   sumread numberread working start count word ..`: directly after the error what the check of a delivered
-//!   block found (M-102), four zeros if none was delivered; the block that is shown is `count` words of the
-//!   area from `start`, and if none is shown both are 0.
+//!   sumread numberread working start count word ..`: the check error, never a read error, and directly after
+//!   it what the check of a delivered block found (M-102), four zeros if none was delivered; a permanent error
+//!   with words delivers one (M-101). The block that is shown is `count` words of the area from `start`, and
+//!   if none is shown both are 0.
 //! - `5 file`: get. Answer: `kind error sum number sumread numberread start count word ..`; the kinds are
-//!   those of the session program, and directly after the error stands what was found at delivery, four
-//!   zeros if the kind is not 3.
+//!   those of the session program, the error is the read error (4 or 10) or the check error, and directly
+//!   after it stands what was found at delivery, four zeros if the kind is not 3.
 //! - `6 file n word ..`: put. `7 file`: seal. `8 file`: skip. `9`: freeze. `10`: thaw.
 //!
 //! Changes, which have no answer.
@@ -30,10 +31,11 @@
 //! Prints. `18`: the room. `19`: the state. `20`: 1 if the state is sound, else 0.
 //!
 //! Fields of a file: 0 open, 1 channel, 2 unit, 3 output, 4 double, 5 sequence, 6 check, 7 B, 8 r, 9 turned
-//! (of two full blocks the one in the high buffer is the older), 10 number, 11 marked, 12 to 20 the low
-//! buffer, 21 to 29 the high one: number, kind (0 empty, 1 taken, 2 part-filled, 3 full), words, place of
-//! get, error not told, and as the check found them (M-102) sum, number, sum read, number read; these four
-//! stay when the error is told, and are 0 in output files. A sum takes four bytes. Setting a kind makes a slot of that kind with zeros; a field that the kind has not is
+//! (of two full blocks the one in the high buffer is the older), 10 number, 11 marked, 12 to 21 the low
+//! buffer, 22 to 31 the high one: number, kind (0 empty, 1 taken, 2 part-filled, 3 full), words, place of
+//! get, check error not told, read error not told (M-101: 0, 4 or 10), and as the check found them (M-102)
+//! sum, number, sum read, number read; these four stay when the error is told, and are 0 in output files. A
+//! sum takes four bytes. Setting a kind makes a slot of that kind with zeros; a field that the kind has not is
 //! 0 and is not set. Fields of a unit: 0 declared, 1 turn (0 idle, 1 waiting, 2 displaced, 3 working), 2
 //! operation, 3 priority, 4 attempts, 5 incomplete words; an idle unit has no others, and a turn set on it
 //! makes an ordinary read with zeros. Fields of the pool: 0 m, 1 W, 2 frozen, 3 free mask (modulo 2^32).
@@ -47,6 +49,7 @@ mod buffers;
 mod found_by_hand;
 mod given;
 mod input_by_hand;
+mod kept_blocks;
 mod kept_masks;
 mod output_by_hand;
 mod random_changes;
@@ -72,6 +75,7 @@ pub fn pack_cases() -> Vec<Vec<u64>> {
     buffers::add_cases(&mut script);
     input_by_hand::add_cases(&mut script);
     found_by_hand::add_cases(&mut script);
+    kept_blocks::add_cases(&mut script);
     output_by_hand::add_cases(&mut script);
     turns_by_hand::add_cases(&mut script);
     random_steps::add_cases(&mut script);
@@ -155,9 +159,9 @@ mod tests {
     #[test]
     fn the_script_keeps_its_size() {
         let script = lines_of(&pack_cases());
-        assert!(script.len() < 140_000, "{}", script.len());
+        assert!(script.len() < 200_000, "{}", script.len());
         let answers = answer_script(&script).expect("a script");
-        assert!(answers.len() < 200_000, "{}", answers.len());
+        assert!(answers.len() < 260_000, "{}", answers.len());
     }
 
     #[test]
@@ -188,6 +192,9 @@ mod tests {
             match (played.command[0], answer) {
                 (REPORT, &[0, result, error, sum, number, sum_read, number_read, working, _, count, ..]) => {
                     note("result", result);
+                    if number > 0 || sum > 0 {
+                        note("result that delivers a block", result);
+                    }
                     note("error of a report", error);
                     note("sum found", u64::from(sum == sum_read));
                     note("number found", u64::from(number == number_read));
@@ -211,12 +218,13 @@ mod tests {
             ("working unit", 1),
             ("block shown", 1),
             ("get", 4),
-            ("error of a get", 3),
             ("ask", 1),
             ("sound", 1),
         ] {
             assert!(met[what].iter().copied().eq(0..=last), "{what}");
         }
+        assert!(met["error of a get"].iter().copied().eq([0, 1, 2, 3, 4, 10]));
+        assert!(met["result that delivers a block"].iter().copied().eq([1, 2, 5, 6]));
     }
 
     /// Every clause is broken alone, by several states that are asked for.

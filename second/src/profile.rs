@@ -14,17 +14,20 @@ pub enum Profile {
     Malformed,
     /// Every refusal and pairs of refusals.
     Refusals,
+    /// Reads that fail for good, with words and without.
+    Kept,
     /// Block numbers that pass 32,767.
     Wrap,
 }
 
-pub const PROFILES: [(&str, Profile); 7] = [
+pub const PROFILES: [(&str, Profile); 8] = [
     ("mixed", Profile::Mixed),
     ("retries", Profile::Retries),
     ("turns", Profile::Turns),
     ("blocks", Profile::Blocks),
     ("malformed", Profile::Malformed),
     ("refusals", Profile::Refusals),
+    ("kept", Profile::Kept),
     ("wrap", Profile::Wrap),
 ];
 
@@ -58,7 +61,8 @@ pub struct Habits {
     pub channels: u64,
     pub files: usize,
     /// In parts of a hundred: asks with priority, failures, marks and ends of medium among
-    /// reports, files with check words, and damaged blocks among those delivered.
+    /// reports, files with check words, damaged blocks among those delivered, failed reads with words, and
+    /// files for output.
     pub priority: u64,
     pub redundancies: u64,
     pub incomplete_words: u64,
@@ -66,6 +70,8 @@ pub struct Habits {
     pub ends_of_medium: u64,
     pub chosen: u64,
     pub damaged: u64,
+    pub failed_words: u64,
+    pub outputs: u64,
 }
 
 impl Profile {
@@ -88,6 +94,8 @@ impl Profile {
             ends_of_medium: 5,
             chosen: 60,
             damaged: 10,
+            failed_words: 25,
+            outputs: 50,
         };
         match self {
             Profile::Mixed => mixed,
@@ -131,6 +139,18 @@ impl Profile {
                 channels: 2,
                 files: 4,
                 marks: 15,
+                ..mixed
+            },
+            Profile::Kept => Habits {
+                weights: weights([1, 60, 8, 250, 400, 250, 40, 5, 25, 8, 20, 25, 1]),
+                files: 8,
+                redundancies: 25,
+                incomplete_words: 50,
+                marks: 2,
+                chosen: 75,
+                damaged: 40,
+                failed_words: 70,
+                outputs: 10,
                 ..mixed
             },
         }

@@ -2,7 +2,7 @@
 
 use std::collections::BTreeMap;
 
-use crate::channel::{Channel, Turn, UNITS};
+use crate::channel::{Channel, Operation, Request, Turn, UNITS};
 use crate::file::Direction;
 use crate::frame::{answer_line, frame_of, refusals_of, Frame};
 use crate::pack::{Pack, FILES};
@@ -25,6 +25,8 @@ impl Default for Reach {
         names.extend((0..=6).map(|number| format!("result {number}")));
         names.extend((1..=3).map(|number| format!("check error {number}")));
         names.extend((0..=4).map(|number| format!("get {number}")));
+        // M-101: 4 and 10 are errors of reads.
+        names.extend([1, 2, 3, 4, 10].map(|number| format!("get error {number}")));
         names.extend(OTHERS.map(str::to_string));
         Reach { counts: names.into_iter().map(|name| (name, 0)).collect(), pairs: BTreeMap::new() }
     }
@@ -35,16 +37,30 @@ const FREEZE: &str = "freeze in the middle of an operation";
 const PRIORITY_PAST: &str = "priority turn past a lower unit that waits";
 const PRIORITY_WRAP: &str = "priority turn after the scan's wrap";
 const PRIORITY_THAW: &str = "priority turn of another than the one that a freeze stopped";
+const KEPT_ALONE: &str = "kept block without a check error";
+const KEPT_IN_ERROR: &str = "kept block with a check error";
+const KEPT_BEHIND: &str = "kept block behind an older one";
+const NOT_KEPT: &str = "permanent read error without words";
+const DROPPED: &str = "words of a repeated read dropped";
+const FIRST_INCOMPLETE: &str = "kept block of the first incomplete word, at attempt 101";
+const SKIPPED: &str = "kept block skipped before its error was told";
 const NO_CHECK_WORD: &str = "block delivered without a check word";
 const NOT_CHOSEN: &str = "block good, though a field that is not chosen differs";
 const WRAP_INPUT: &str = "block number 32,767 passed on input";
 const WRAP_OUTPUT: &str = "block number 32,767 passed on output";
-const OTHERS: [&str; 9] = [
+const OTHERS: [&str; 16] = [
     DISPLACEMENT,
     FREEZE,
     PRIORITY_PAST,
     PRIORITY_WRAP,
     PRIORITY_THAW,
+    KEPT_ALONE,
+    KEPT_IN_ERROR,
+    KEPT_BEHIND,
+    NOT_KEPT,
+    DROPPED,
+    FIRST_INCOMPLETE,
+    SKIPPED,
     NO_CHECK_WORD,
     NOT_CHOSEN,
     WRAP_INPUT,
@@ -89,11 +105,24 @@ impl Reach {
         if let Some(frame) = &frame {
             self.see_refusals(pack, frame);
         }
+        let asked = frame.as_ref().and_then(|frame| reported_request(pack, frame));
+        let untold = frame.as_ref().is_some_and(|frame| skips_a_read_error(pack, frame));
         let answer = answer_line(pack, line);
         let bytes = bytes_of(&answer);
         match (bytes[0], frame) {
-            (0, Some(Frame::Report { channel, unit, .. })) => self.see_report(pack, channel, unit, &bytes),
-            (0, Some(Frame::Get { .. })) => self.count(&format!("get {}", bytes[1])),
+            (0, Some(Frame::Report { channel, unit, words, .. })) => {
+                self.see_report(pack, channel, unit, &bytes);
+                if let Some(request) = &asked {
+                    self.see_failed_read(pack, [channel, unit], request, &words, &bytes);
+                }
+            }
+            (0, Some(Frame::Get { .. })) => {
+                self.count(&format!("get {}", bytes[1]));
+                if bytes[1] == 3 {
+                    self.count(&format!("get error {}", bytes[2]));
+                }
+            }
+            (0, Some(Frame::Skip { .. })) if untold => self.count(SKIPPED),
             (0, _) => {}
             (refusal, _) => self.count(&format!("refusal {refusal}")),
         }
@@ -128,6 +157,35 @@ impl Reach {
         let waits_again = channel.request(unit).is_some_and(|request| request.turn == Turn::Displaced);
         if waits_again {
             self.count(if channel.frozen { FREEZE } else { DISPLACEMENT });
+        }
+    }
+
+    /// An accepted report of a read that failed (M-101), with its request as it stood before.
+    fn see_failed_read(
+        &mut self,
+        pack: &Pack,
+        [channel, unit]: [u64; 2],
+        request: &Request,
+        words: &[u64],
+        answer: &[u8],
+    ) {
+        if request.operation != Operation::Read {
+            return;
+        }
+        match answer[1] {
+            0 if !words.is_empty() => self.count(DROPPED),
+            5 | 6 if words.is_empty() => self.count(NOT_KEPT),
+            5 | 6 => {
+                self.count(if answer[2] == 0 { KEPT_ALONE } else { KEPT_IN_ERROR });
+                if request.incomplete_words == 0 && answer[1] == 6 {
+                    self.count(FIRST_INCOMPLETE);
+                }
+                let file = pack.file_of_unit(channel, unit).and_then(|file| pack.files[file].as_ref());
+                if file.is_some_and(|file| file.full.len() > 1) {
+                    self.count(KEPT_BEHIND);
+                }
+            }
+            _ => {}
         }
     }
 
@@ -171,6 +229,27 @@ impl Reach {
     }
 }
 
+/// The request that a report is for, if its channel works for it.
+fn reported_request(pack: &Pack, frame: &Frame) -> Option<Request> {
+    match *frame {
+        Frame::Report { channel, unit, .. } => {
+            pack.channels.get(channel as usize)?.working_request(unit).cloned()
+        }
+        _ => None,
+    }
+}
+
+/// Whether a frame would skip a block whose read error is not told.
+fn skips_a_read_error(pack: &Pack, frame: &Frame) -> bool {
+    match *frame {
+        Frame::Skip { file } => {
+            let oldest = pack.file(file).and_then(|file| file.full.front());
+            oldest.is_some_and(|block| block.read_error != 0)
+        }
+        _ => false,
+    }
+}
+
 fn files_at_the_last_number(pack: &Pack) -> Vec<usize> {
     let at_last = |file: &usize| pack.files[*file].as_ref().is_some_and(|file| file.number == LAST_NUMBER);
     (0..FILES).filter(at_last).collect()
@@ -199,7 +278,7 @@ mod tests {
     fn everything_is_missing_at_first() {
         let reach = Reach::default();
         assert_eq!(reach.missing().len(), reach.counts.len());
-        assert_eq!(reach.counts.len(), 14 + 7 + 3 + 5 + 9);
+        assert_eq!(reach.counts.len(), 14 + 7 + 3 + 5 + 5 + 16);
         assert!(!reach.missing().contains(&"refusal 14"));
         assert_eq!(reach.lines().lines().count(), reach.counts.len() + 1);
     }

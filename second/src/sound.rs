@@ -10,12 +10,14 @@ use crate::word::{ones, Fields, HALF_BITS, LAST_NUMBER};
 
 /// "Error 1 is sequence, 2 check sum, 3 both."
 const LAST_ERROR: u64 = 3;
+/// M-101: "error 4 or 10", 0 for none.
+const READ_ERRORS: [u64; 3] = [0, 4, 10];
 
 /// Whether a clause holds for a state.
 type Holds = fn(&State) -> bool;
 
 /// The clauses, each with the test that a state must pass.
-const CLAUSES: [(Clause, Holds); 31] = [
+const CLAUSES: [(Clause, Holds); 33] = [
     (Clause::PoolSizes, pool_sizes),
     (Clause::NothingBeforeFresh, nothing_before_fresh),
     (Clause::ScanMarks, scan_marks),
@@ -24,6 +26,8 @@ const CLAUSES: [(Clause, Holds); 31] = [
     (Clause::FileSizes, file_sizes),
     (Clause::BlockNumbers, block_numbers),
     (Clause::CheckErrors, check_errors),
+    (Clause::ReadErrors, read_errors),
+    (Clause::ReadErrorsFirst, read_errors_first),
     (Clause::FoundFields, found_fields),
     (Clause::NothingRead, nothing_read),
     (Clause::ErrorsAsFound, errors_as_found),
@@ -60,6 +64,8 @@ pub enum Clause {
     FileSizes,
     BlockNumbers,
     CheckErrors,
+    ReadErrors,
+    ReadErrorsFirst,
     FoundFields,
     NothingRead,
     ErrorsAsFound,
@@ -149,6 +155,26 @@ fn check_errors(state: &State) -> bool {
     all_slots(state, |_, slot| !matches!(slot, Slot::Full { error, .. } if error > LAST_ERROR))
 }
 
+/// M-101: a read error is 0, 4 or 10.
+fn read_errors(state: &State) -> bool {
+    all_slots(state, |_, slot| match slot {
+        Slot::Full { read_error, .. } => READ_ERRORS.contains(&read_error),
+        _ => true,
+    })
+}
+
+/// "get reports error 4 or 10, once, before any check error": while it is not told, get has given nothing
+/// of the block, and a check error that the fields say is not told either.
+fn read_errors_first(state: &State) -> bool {
+    all_slots(state, |file, slot| match slot {
+        Slot::Full { at, error, read_error, found, .. } => {
+            let told = error == 0 && found.error(file.chosen()) != 0;
+            file.output || !READ_ERRORS[1..].contains(&read_error) || (at == 0 && !told)
+        }
+        _ => true,
+    })
+}
+
 /// M-102: a sum has 18 bits, a number is 0 to 32,767, worked out or read.
 fn found_fields(state: &State) -> bool {
     all_slots(state, |_, slot| match slot {
@@ -204,12 +230,12 @@ fn block_orders(state: &State) -> bool {
     state.open_files().all(|file| !file.turned || file.count(Slot::is_full) == 2)
 }
 
-/// The same of the mark, the places of get, the check errors and what was found of an output file.
+/// The same of the mark, the places of get, the errors and what was found of an output file.
 fn output_zeros(state: &State) -> bool {
     let unmarked = state.open_files().all(|file| !(file.output && file.marked));
     let untouched = |file: &FileState, slot| match slot {
-        Slot::Full { at, error, found, .. } => {
-            !file.output || (at == 0 && error == 0 && found == Fields::default())
+        Slot::Full { at, error, read_error, found, .. } => {
+            !file.output || (at == 0 && error == 0 && read_error == 0 && found == Fields::default())
         }
         _ => true,
     };
@@ -357,12 +383,17 @@ mod tests {
     /// A full block; what was read differs from the zeros that were worked out where the error says so.
     fn full(words: u64, at: u64, error: u64) -> Slot {
         let fields = [0, 0, error >> 1 & 1, error & 1];
-        Slot::Full { words, at, error, found: Fields::of(fields) }
+        Slot::Full { words, at, error, read_error: 0, found: Fields::of(fields) }
     }
 
     /// A full block with an error and fields by hand.
     fn found(error: u64, fields: [u64; 4]) -> Slot {
-        Slot::Full { words: 1, at: 0, error, found: Fields::of(fields) }
+        Slot::Full { words: 1, at: 0, error, read_error: 0, found: Fields::of(fields) }
+    }
+
+    /// A block of three words that was kept, with an error and fields by hand.
+    fn kept(read_error: u64, at: u64, error: u64, fields: [u64; 4]) -> Slot {
+        Slot::Full { words: 3, at, error, read_error, found: Fields::of(fields) }
     }
 
     /// A file on channel 0 with blocks of up to 5 words and records of 2.
@@ -529,6 +560,52 @@ mod tests {
     }
 
     #[test]
+    fn read_errors() {
+        for file in [INPUT, IDLE] {
+            for read_error in [0, 4, 10] {
+                keeps(|state| state.files[file].low.slot = kept(read_error, 0, 0, [0; 4]));
+            }
+            for read_error in [1, 2, 3, 5, 9, 11, 255, u64::MAX] {
+                breaks(Clause::ReadErrors, |state| {
+                    state.files[file].low.slot = kept(read_error, 0, 0, [0; 4]);
+                });
+            }
+        }
+        breaks(Clause::ReadErrors, |state| state.files[INPUT].high.slot = kept(1, 0, 0, [0; 4]));
+    }
+
+    /// With a read error that is not told, get's place is 0 and the check error is what the fields say.
+    #[test]
+    fn read_errors_first() {
+        for read_error in [4, 10] {
+            for at in [1, 3] {
+                keeps(|state| state.files[INPUT].low.slot = kept(0, at, 0, [0; 4]));
+                breaks(Clause::ReadErrorsFirst, |state| {
+                    state.files[INPUT].low.slot = kept(read_error, at, 0, [0; 4]);
+                });
+                breaks(Clause::ReadErrorsFirst, |state| {
+                    state.files[INPUT].high.slot = kept(read_error, at, 1, [0, 0, 0, 1]);
+                });
+            }
+            for (error, fields) in [(1, [7, 8, 7, 9]), (2, [7, 8, 6, 8]), (3, [7, 8, 0, 0])] {
+                keeps(|state| state.files[INPUT].low.slot = kept(read_error, 0, error, fields));
+                keeps(|state| state.files[INPUT].low.slot = kept(0, 0, 0, fields));
+                breaks(Clause::ReadErrorsFirst, |state| {
+                    state.files[INPUT].low.slot = kept(read_error, 0, 0, fields);
+                });
+                breaks(Clause::ErrorsAsFound, |state| {
+                    state.files[INPUT].low.slot = kept(read_error, 0, error % 3 + 1, fields);
+                });
+            }
+            // A field that is not chosen says nothing.
+            keeps(|state| {
+                state.files[INPUT].low.slot = kept(read_error, 0, 0, [7, 8, 7, 9]);
+                state.files[INPUT].sequence = false;
+            });
+        }
+    }
+
+    #[test]
     fn found_fields() {
         let ends = [262_143, 32_767, 262_143, 32_767];
         for fields in [ends, [0, 0, 262_143, 0], [262_143, 32_767, 0, 0]] {
@@ -660,8 +737,8 @@ mod tests {
         keeps(|state| state.files[INPUT].marked = true);
         breaks(Clause::OutputZeros, |state| state.files[OUTPUT].marked = true);
         keeps(|state| state.files[INPUT].low.slot = full(5, 1, 1));
-        for (at, error) in [(1, 0), (0, 1)] {
-            let slot = Slot::Full { words: 4, at, error, found: Fields::default() };
+        for (at, error, read_error) in [(1, 0, 0), (0, 1, 0), (0, 0, 4), (0, 0, 10), (1, 0, 4)] {
+            let slot = Slot::Full { words: 4, at, error, read_error, found: Fields::default() };
             breaks(Clause::OutputZeros, |state| state.files[WRITING].low.slot = slot);
             breaks(Clause::OutputZeros, |state| state.files[OUTPUT].high.slot = slot);
         }

@@ -15,12 +15,13 @@ pub enum Slot {
     PartFilled {
         words: u64,
     },
-    /// A full block: its data words, the place of get, the check error that is not told yet, and what the
-    /// check found.
+    /// A full block: its data words, the place of get, the check error and the read error (M-101) that are not
+    /// told yet, and what the check found.
     Full {
         words: u64,
         at: u64,
         error: u64,
+        read_error: u64,
         found: Fields,
     },
 }

@@ -105,7 +105,7 @@ pub fn get(state: &mut State, area: &mut [u64], file: u64) -> Result<GetAnswer, 
             Got::Record(words) => (0, nothing, shown(words)),
             Got::NothingYet => (1, nothing, Shown::default()),
             Got::End => (2, nothing, Shown::default()),
-            Got::CheckError(judged) => (3, judged, Shown::default()),
+            Got::Error(judged) => (3, judged, Shown::default()),
             Got::Leftover(words) => (4, nothing, shown(words)),
         };
         Ok(GetAnswer { kind, check_error: u64::from(judged.error), found: judged.fields, words })

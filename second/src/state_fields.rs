@@ -18,7 +18,7 @@ pub const RECORD_LENGTH: u64 = 8;
 pub const TURNED: u64 = 9;
 pub const NUMBER: u64 = 10;
 pub const MARKED: u64 = 11;
-/// The first of the nine fields of each buffer.
+/// The first of the ten fields of each buffer.
 pub const LOW: u64 = 12;
 pub const HIGH: u64 = LOW + BUFFER_FIELDS;
 pub const FILE_FIELDS: u64 = HIGH + BUFFER_FIELDS;
@@ -29,11 +29,12 @@ pub const SLOT_KIND: u64 = 1;
 pub const WORDS: u64 = 2;
 pub const AT: u64 = 3;
 pub const ERROR: u64 = 4;
-pub const FOUND_SUM: u64 = 5;
-pub const FOUND_NUMBER: u64 = 6;
-pub const SUM_READ: u64 = 7;
-pub const NUMBER_READ: u64 = 8;
-pub const BUFFER_FIELDS: u64 = 9;
+pub const READ_ERROR: u64 = 5;
+pub const FOUND_SUM: u64 = 6;
+pub const FOUND_NUMBER: u64 = 7;
+pub const SUM_READ: u64 = 8;
+pub const NUMBER_READ: u64 = 9;
+pub const BUFFER_FIELDS: u64 = 10;
 
 /// The kinds of slots.
 pub const EMPTY: u64 = 0;
@@ -101,6 +102,7 @@ fn set_buffer_field(buffer: &mut Buffer, field: u64, value: u64) {
         (WORDS, Slot::PartFilled { words } | Slot::Full { words, .. }) => *words = value,
         (AT, Slot::Full { at, .. }) => *at = value,
         (ERROR, Slot::Full { error, .. }) => *error = value,
+        (READ_ERROR, Slot::Full { read_error, .. }) => *read_error = value,
         (FOUND_SUM, Slot::Full { found, .. }) => found.sum = value,
         (FOUND_NUMBER, Slot::Full { found, .. }) => found.number = value,
         (SUM_READ, Slot::Full { found, .. }) => found.sum_read = value,
@@ -113,7 +115,7 @@ fn slot_of_kind(kind: u64) -> Slot {
     match kind {
         TAKEN => Slot::Taken,
         PART_FILLED => Slot::PartFilled { words: 0 },
-        FULL => Slot::Full { words: 0, at: 0, error: 0, found: Fields::default() },
+        FULL => Slot::Full { words: 0, at: 0, error: 0, read_error: 0, found: Fields::default() },
         _ => Slot::Empty,
     }
 }
@@ -179,14 +181,14 @@ pub fn file_fields(file: &FileState) -> Vec<u64> {
 
 fn buffer_fields(buffer: &Buffer) -> [u64; BUFFER_FIELDS as usize] {
     let nothing = Fields::default();
-    let (kind, words, at, error, found) = match buffer.slot {
-        Slot::Empty => (EMPTY, 0, 0, 0, nothing),
-        Slot::Taken => (TAKEN, 0, 0, 0, nothing),
-        Slot::PartFilled { words } => (PART_FILLED, words, 0, 0, nothing),
-        Slot::Full { words, at, error, found } => (FULL, words, at, error, found),
+    let (kind, words, at, errors, found) = match buffer.slot {
+        Slot::Empty => (EMPTY, 0, 0, [0, 0], nothing),
+        Slot::Taken => (TAKEN, 0, 0, [0, 0], nothing),
+        Slot::PartFilled { words } => (PART_FILLED, words, 0, [0, 0], nothing),
+        Slot::Full { words, at, error, read_error, found } => (FULL, words, at, [error, read_error], found),
     };
     let [sum, number, sum_read, number_read] = found.in_order();
-    [buffer.number, kind, words, at, error, sum, number, sum_read, number_read]
+    [buffer.number, kind, words, at, errors[0], errors[1], sum, number, sum_read, number_read]
 }
 
 /// The fields of a unit in their order; an idle one has zeros.
@@ -297,17 +299,18 @@ mod tests {
             for (field, value) in [(BUFFER_NUMBER, 6), (SLOT_KIND, kind), (WORDS, 7), (AT, 8), (ERROR, 9)] {
                 set_buffer_field(&mut buffer, field, value);
             }
+            set_buffer_field(&mut buffer, READ_ERROR, 10);
             for field in FOUND_SUM..=NUMBER_READ {
                 set_buffer_field(&mut buffer, field, 100 + field);
             }
             buffer_fields(&buffer)
         };
-        assert_eq!(set(FULL), [6, FULL, 7, 8, 9, 105, 106, 107, 108]);
-        assert_eq!(set(PART_FILLED), [6, PART_FILLED, 7, 0, 0, 0, 0, 0, 0]);
-        assert_eq!(set(TAKEN), [6, TAKEN, 0, 0, 0, 0, 0, 0, 0]);
-        assert_eq!(set(4), [6, EMPTY, 0, 0, 0, 0, 0, 0, 0]);
+        assert_eq!(set(FULL), [6, FULL, 7, 8, 9, 10, 106, 107, 108, 109]);
+        assert_eq!(set(PART_FILLED), [6, PART_FILLED, 7, 0, 0, 0, 0, 0, 0, 0]);
+        assert_eq!(set(TAKEN), [6, TAKEN, 0, 0, 0, 0, 0, 0, 0, 0]);
+        assert_eq!(set(4), [6, EMPTY, 0, 0, 0, 0, 0, 0, 0, 0]);
         set_buffer_field(&mut buffer, SLOT_KIND, FULL);
-        assert_eq!(buffer_fields(&buffer), [6, FULL, 0, 0, 0, 0, 0, 0, 0]);
+        assert_eq!(buffer_fields(&buffer), [6, FULL, 0, 0, 0, 0, 0, 0, 0, 0]);
     }
 
     /// A kind keeps the request that is there; an idle unit has none.

@@ -75,7 +75,7 @@ fn file_of(state: &FileState) -> File {
 }
 
 fn block_of(buffer: &Buffer) -> Option<Block> {
-    let Slot::Full { words, at, error, found } = buffer.slot else {
+    let Slot::Full { words, at, error, read_error, found } = buffer.slot else {
         return None;
     };
     Some(Block {
@@ -83,6 +83,7 @@ fn block_of(buffer: &Buffer) -> Option<Block> {
         data_words: words as usize,
         place: at as usize,
         error: error as u8,
+        read_error: read_error as u8,
         found,
     })
 }
@@ -123,6 +124,7 @@ fn buffer_state(file: &File, buffer: usize) -> Buffer {
             words: block.data_words as u64,
             at: block.place as u64,
             error: u64::from(block.error),
+            read_error: u64::from(block.read_error),
             found: block.found,
         },
         _ if file.taken == Some(buffer) => Slot::Taken,
@@ -141,7 +143,13 @@ mod tests {
     /// A full block of a file with sequence numbers; the number that was read is wrong if there is an error.
     fn full(words: u64, at: u64, error: u64) -> Slot {
         let found = Fields { number: error * words, ..Fields::default() };
-        Slot::Full { words, at, error, found }
+        Slot::Full { words, at, error, read_error: 0, found }
+    }
+
+    /// A block that was kept after a permanent error of its read.
+    fn kept(words: u64, error: u64, read_error: u64) -> Slot {
+        let found = Fields { number: error * words, ..Fields::default() };
+        Slot::Full { words, at: 0, error, read_error, found }
     }
 
     /// A pool of five buffers of four words, and a double file on unit 7 of channel 3; it holds 1 and 4.
@@ -187,13 +195,12 @@ mod tests {
 
     #[test]
     fn slots_of_all_kinds() {
-        let input = [Slot::Empty, full(3, 0, 1), full(2, 2, 0)];
+        let input = [Slot::Empty, full(3, 0, 1), full(2, 2, 0), kept(3, 1, 10), kept(1, 0, 4)];
         let output = [Slot::Empty, full(3, 0, 0), Slot::PartFilled { words: 2 }];
-        for (is_output, slots) in [(false, input), (true, output)] {
+        for (is_output, slots) in [(false, &input[..]), (true, &output)] {
             for low in slots {
-                for high in slots.into_iter().filter(|high| !(low.is_part_filled() && high.is_part_filled()))
-                {
-                    there_and_back(&state_with(is_output, low, high));
+                for high in slots.iter().filter(|high| !(low.is_part_filled() && high.is_part_filled())) {
+                    there_and_back(&state_with(is_output, *low, *high));
                 }
             }
         }

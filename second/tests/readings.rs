@@ -163,7 +163,8 @@ fn a2_a_given_word_is_judged_by_itself() {
 #[test]
 fn a3_words_with_another_outcome_need_no_operation() {
     let mut session = input(0, 2, 1);
-    session.refuses(&report(0, 0, REDUNDANCY, &[5]), "01");
+    session.refuses(&report(0, 0, FILE_MARK, &[5]), "01");
+    session.refuses(&report(0, 0, END_OF_MEDIUM, &[TOO_LARGE]), "01");
     session.refuses(&report(0, 0, GOOD, &[5]), "0B");
     session.refuses(&report(0, 0, GOOD, &[TOO_LARGE]), "02");
 }
@@ -1054,6 +1055,198 @@ fn h9_get_tells_what_was_found_at_delivery() {
     session.gives(&get(0), "00 03 02 00000006 0002 00000007 0002");
     session.gives(&get(0), &format!("00 04 {}", words(&[6])));
     session.gives(&get(0), &format!("00 04 {}", words(&[8])));
+}
+
+/// Document 02, M-101. A session at work on a read of file 0 after so many failures of an outcome.
+fn failing(flags: u8, failures: usize, outcome: u8) -> Session {
+    let mut session = input(flags, 3, 2);
+    fails(&mut session, failures, outcome);
+    session
+}
+
+/// Asks a read of file 0 that fails so often.
+fn fails(session: &mut Session, failures: usize, outcome: u8) {
+    session.gives(&ask(0, READ, 0), "00 00");
+    for _ in 0..failures {
+        session.gives(&report(0, 0, outcome, &[]), "00 00 00 00");
+    }
+}
+
+/// Reading G1: words with outcomes 1 and 2 are judged as those with outcome 0 are.
+#[test]
+fn g1_words_of_failed_reads_are_no_longer_1() {
+    let mut session = input(0, 3, 2);
+    for outcome in [REDUNDANCY, INCOMPLETE] {
+        session.refuses(&report(0, 0, outcome, &[5]), "0B");
+        session.refuses(&report(0, 9, outcome, &[5; 9]), "0B");
+        session.refuses(&report(0, 0, outcome, &[TOO_LARGE]), "02");
+        session.refuses(&report(5, 0, outcome, &[TOO_LARGE]), "01");
+    }
+    for outcome in [FILE_MARK, END_OF_MEDIUM, 5] {
+        session.refuses(&report(0, 0, outcome, &[5]), "01");
+        session.refuses(&report(0, 0, outcome, &[TOO_LARGE]), "01");
+    }
+    session.gives(&ask(0, READ, 0), "00 00");
+    session.gives(&report(0, 0, REDUNDANCY, &[5]), "00 00 00 00");
+    session.gives(&report(0, 0, INCOMPLETE, &[5]), "00 00 00 00");
+    session.refuses(&report(0, 0, FILE_MARK, &[5]), "01");
+    let mut session = output(0, 2, 2);
+    session.gives(&ask(0, MARK, 0), "00 00");
+    for outcome in [REDUNDANCY, INCOMPLETE] {
+        session.refuses(&report(0, 0, outcome, &[5]), "01");
+    }
+    session.gives(&report(0, 0, GOOD, &[]), "00 01 00 FF");
+    session.gives(&put(0, &[5, 6]), "00");
+    session.gives(&ask(0, WRITE, 0), "00 00");
+    for outcome in [REDUNDANCY, INCOMPLETE] {
+        session.refuses(&report(0, 0, outcome, &[5, 6]), "01");
+    }
+}
+
+/// Reading G2: 1 + e to B + e words, else 13, repeated or permanent; a word too large is 2; none is no fault.
+#[test]
+fn g2_words_of_failed_reads_are_sized_as_good_blocks() {
+    for (flags, wrong) in [(0, [4, 5, 1_024]), (CHECK, [1, 5, 1_024])] {
+        for (failures, outcome) in [(0, REDUNDANCY), (0, INCOMPLETE), (100, REDUNDANCY)] {
+            let mut session = failing(flags, failures, REDUNDANCY);
+            for length in wrong {
+                session.refuses(&report(0, 0, outcome, &vec![7; length]), "0D");
+            }
+            session.refuses(&report(0, 0, outcome, &[7, TOO_LARGE]), "02");
+            session.refuses(&report(0, 0, outcome, &[TOO_LARGE; 9]), "02");
+        }
+    }
+    let mut session = failing(0, 1, INCOMPLETE);
+    session.refuses(&report(0, 0, INCOMPLETE, &[7; 4]), "0D");
+    session.gives(&report(0, 0, INCOMPLETE, &[]), "00 06 00 FF");
+    let mut session = failing(SEQUENCE, 100, REDUNDANCY);
+    session.gives(&report(0, 0, REDUNDANCY, &[]), "00 05 00 FF");
+}
+
+/// Reading G3: redundancy at attempt 101, an incomplete word there and the second incomplete word are
+/// permanent; without words of their own the buffer is empty again and no number is used.
+#[test]
+fn g3_the_words_are_those_of_the_permanent_report_itself() {
+    let mut session = failing(SEQUENCE, 99, REDUNDANCY);
+    session.gives(&report(0, 0, REDUNDANCY, &[1, 2, 1]), "00 00 00 00");
+    session.gives(&report(0, 0, REDUNDANCY, &[]), "00 05 00 FF");
+    session.gives(&get(0), "00 01");
+    session.gives(&ask(0, READ, 0), "00 00");
+    session.gives(&report(0, 0, INCOMPLETE, &[1, 2, 1]), "00 00 00 00");
+    session.gives(&report(0, 0, REDUNDANCY, &[3, 1]), "00 00 00 00");
+    session.gives(&report(0, 0, INCOMPLETE, &[]), "00 06 00 FF");
+    session.gives(&get(0), "00 01");
+    session.reads(&[7, 1], 0);
+    // The last of several blocks that came.
+    let mut session = failing(0, 0, REDUNDANCY);
+    session.gives(&report(0, 0, INCOMPLETE, &[1, 2, 3]), "00 00 00 00");
+    session.gives(&report(0, 0, INCOMPLETE, &[9]), "00 06 00 00000009 0001 00000000 0000 FF");
+    session.gives(&get(0), "00 03 0A 00000009 0001 00000000 0000");
+    session.gives(&get(0), &format!("00 04 {}", words(&[9])));
+}
+
+/// Readings G4 and G5: 03 and 04 for a redundancy, 03 and 0A for an incomplete word, whatever came before.
+#[test]
+fn g4_get_names_the_outcome_that_was_permanent() {
+    for (before, outcome, result, error) in
+        [(100, REDUNDANCY, "05", "04"), (100, INCOMPLETE, "06", "0A"), (0, INCOMPLETE, "06", "0A")]
+    {
+        let mut session = failing(0, before, REDUNDANCY);
+        if before == 0 {
+            session.gives(&report(0, 0, INCOMPLETE, &[]), "00 00 00 00");
+            session.gives(&report(0, 0, REDUNDANCY, &[]), "00 00 00 00");
+        }
+        session.gives(&report(0, 0, outcome, &[5, 6]), &format!("00 {result} 00 .. FF"));
+        session.gives(&get(0), &format!("00 03 {error} .."));
+        session.gives(&get(0), &format!("00 00 {}", words(&[5, 6])));
+        session.gives(&get(0), "00 01");
+    }
+    // An incomplete word first and then a hundred redundancies.
+    let mut session = failing(0, 1, INCOMPLETE);
+    for _ in 0..99 {
+        session.gives(&report(0, 0, REDUNDANCY, &[]), "00 00 00 00");
+    }
+    session.gives(&report(0, 0, REDUNDANCY, &[5]), "00 05 00 .. FF");
+    session.gives(&get(0), "00 03 04 ..");
+}
+
+/// Readings G6, G7 and H8: the report has the check error and what was found; get tells the error of the read,
+/// then the check error with the same bytes, then the records and the leftover.
+#[test]
+fn g6_the_error_of_the_read_comes_before_the_check_error() {
+    let mut session = failing(SEQUENCE + CHECK, 100, REDUNDANCY);
+    let found = "00000006 0001 00000007 0009";
+    session.gives(&report(0, 0, REDUNDANCY, &[1, 2, 3, (7 << 18) + 9]), &format!("00 05 03 {found} FF"));
+    session.gives(&get(0), &format!("00 03 04 {found}"));
+    session.gives(&get(0), &format!("00 03 03 {found}"));
+    session.gives(&get(0), &format!("00 00 {}", words(&[1, 2])));
+    session.gives(&get(0), &format!("00 04 {}", words(&[3])));
+    session.gives(&get(0), "00 01");
+    // A kept block in which nothing is wrong has one error only.
+    fails(&mut session, 1, INCOMPLETE);
+    session.gives(&report(0, 0, INCOMPLETE, &[5, (5 << 18) + 2]), "00 06 00 00000005 0002 00000005 0002 FF");
+    session.gives(&get(0), "00 03 0A 00000005 0002 00000005 0002");
+    session.gives(&get(0), &format!("00 04 {}", words(&[5])));
+}
+
+/// Reading G8: a kept block has a number, and the next one the next.
+#[test]
+fn g8_a_kept_block_counts_as_delivered() {
+    let mut session = failing(DOUBLE + SEQUENCE, 1, INCOMPLETE);
+    session.gives(&report(0, 0, INCOMPLETE, &[5, 1]), "00 06 00 00000005 0001 00000000 0001 FF");
+    session.reads(&[5, 2], 0);
+    session.gives(&skip(0), "00");
+    fails(&mut session, 1, INCOMPLETE);
+    session.gives(&report(0, 0, INCOMPLETE, &[5, 2]), "00 06 01 00000005 0003 00000000 0002 FF");
+    session.gives(&skip(0), "00");
+    session.reads(&[5, 4], 0);
+}
+
+/// Reading G9: skip and close drop both errors; ask read finds no empty buffer; older blocks go first; a
+/// used-up buffer waits for the next get.
+#[test]
+fn g9_a_kept_block_is_full_in_every_way() {
+    let mut session = failing(SEQUENCE, 1, INCOMPLETE);
+    session.gives(&report(0, 0, INCOMPLETE, &[5, 7]), "00 06 01 .. FF");
+    session.refuses(&ask(0, READ, 0), "09");
+    session.gives(&get(0), "00 03 0A ..");
+    session.gives(&skip(0), "00");
+    session.gives(&get(0), "00 01");
+    session.reads(&[5, 2], 0);
+    session.gives(&close(0), "00");
+    session.gives(&open(0, 0, 0, DOUBLE + SEQUENCE, 3, 2), "00");
+    session.reads(&[5, 1], 0);
+    fails(&mut session, 100, REDUNDANCY);
+    session.gives(&report(0, 0, REDUNDANCY, &[6, 7, 9]), "00 05 01 .. FF");
+    session.gives(&get(0), &format!("00 04 {}", words(&[5])));
+    session.refuses(&ask(0, READ, 0), "09");
+    session.gives(&get(0), "00 03 04 ..");
+    session.gives(&get(0), "00 03 01 ..");
+    session.gives(&get(0), &format!("00 00 {}", words(&[6, 7])));
+    session.gives(&ask(0, READ, 0), "00 00");
+    session.gives(&report(0, 0, GOOD, &[8, 3]), "00 01 00 .. FF");
+    session.refuses(&ask(0, READ, 0), "09");
+    session.gives(&get(0), &format!("00 04 {}", words(&[8])));
+    session.gives(&ask(0, READ, 0), "00 00");
+    session.gives(&report(0, 0, FILE_MARK, &[]), "00 03 00 FF");
+    session.gives(&get(0), "00 02");
+    session.gives(&close(0), "00");
+}
+
+/// Reading G10: the operation has ended and the scan's mark moves, with words as without.
+#[test]
+fn g10_the_turns_are_as_without_words() {
+    for block in [&[][..], &[5]] {
+        let mut session = inputs(&[2, 5, 7]);
+        for unit in [5, 2, 7] {
+            session.gives(&ask(unit, READ, 0), "00 05");
+        }
+        session.gives(&report(0, 5, INCOMPLETE, block), "00 00 00 05");
+        let found = if block.is_empty() { "" } else { ".." };
+        session.gives(&report(0, 5, INCOMPLETE, block), &format!("00 06 00 {found} 07"));
+        session.refuses(&report(0, 5, INCOMPLETE, block), "0B");
+        session.gives(&report(0, 7, GOOD, &[5]), "00 01 00 .. 02");
+    }
 }
 
 #[test]

@@ -14,6 +14,7 @@ const ASK_READ: u64 = 0;
 const ASK_WRITE: u64 = 1;
 
 const GOOD: u64 = 0;
+const REDUNDANCY: u64 = 1;
 const INCOMPLETE: u64 = 2;
 const FILE_MARK: u64 = 3;
 const END_OF_MEDIUM: u64 = 4;
@@ -44,7 +45,7 @@ impl Walker {
         match event[0] {
             OPEN => self.open(event),
             READ => self.ask(ASK_READ),
-            READ_GOOD => self.deliver(event[1], event[2], Fields::of(event[3..].try_into().expect("fields"))),
+            READ_GOOD => self.deliver(event),
             READ_ERROR => {
                 assert_eq!(self.report(INCOMPLETE), (Booked::Repeated, vec![]));
                 assert_eq!(self.report(INCOMPLETE), (Booked::PermanentIncompleteWord, vec![]));
@@ -94,17 +95,40 @@ impl Walker {
         (reported.result, reported.block.to_vec())
     }
 
-    /// A good read of a block of which the error and the fields are what is asked for.
-    fn deliver(&mut self, count: u64, error: u64, found: Fields) {
+    /// A good read of a block, or a permanent error that brings it, of which the errors and the fields are what
+    /// is asked for.
+    fn deliver(&mut self, event: &[u64]) {
+        let &[_, count, error, read_error, ref fields @ ..] = event else {
+            panic!("{event:?}");
+        };
+        let found = Fields::of(fields.try_into().expect("fields"));
         let mut words = self.new_words(count);
         self.make_sum(&mut words, found.sum);
         let file = self.pack.files[0].as_ref().expect("an open file");
         if file.chosen.e() == 1 {
             words.push(found.sum_read << HALF_BITS | (self.last_word & 7) << 15 | found.number_read);
         }
-        let reported = self.pack.report(0, 0, GOOD, &words).expect("a report");
-        assert_eq!((reported.result, u64::from(reported.check_error)), (Booked::Good, error));
+        let (outcome, result) = self.end_of_read(read_error);
+        let reported = self.pack.report(0, 0, outcome, &words).expect("a report");
+        assert_eq!((reported.result, u64::from(reported.check_error)), (result, error));
         assert_eq!(reported.found, Some(found));
+    }
+
+    /// Brings a read so far that the next report ends it with this error, and says which it is.
+    fn end_of_read(&mut self, read_error: u64) -> (u64, Booked) {
+        match read_error {
+            0 => (GOOD, Booked::Good),
+            4 => {
+                for _ in 0..100 {
+                    assert_eq!(self.report(REDUNDANCY), (Booked::Repeated, vec![]));
+                }
+                (REDUNDANCY, Booked::PermanentRedundancy)
+            }
+            _ => {
+                assert_eq!(self.report(INCOMPLETE), (Booked::Repeated, vec![]));
+                (INCOMPLETE, Booked::PermanentIncompleteWord)
+            }
+        }
     }
 
     /// Makes the last word such that the folded sum is the one that is asked for, and still like no other.
@@ -123,7 +147,7 @@ impl Walker {
             Got::Record(words) => (0, words.to_vec(), nothing),
             Got::NothingYet => (1, vec![], nothing),
             Got::End => (2, vec![], nothing),
-            Got::CheckError(judged) => (3, vec![], judged),
+            Got::Error(judged) => (3, vec![], judged),
             Got::Leftover(words) => (4, words.to_vec(), nothing),
         };
         assert_eq!((number, u64::from(judged.error)), (answer[0], answer[3]));

@@ -6,7 +6,8 @@ use crate::sound::is_sound;
 use crate::state_fields::{
     AT, ATTEMPTS, BLOCK_SIZE, BUFFERS, BUFFER_NUMBER, CHANNEL, CHECK, DECLARED, DOUBLE, ERROR, FOUND_NUMBER,
     FOUND_SUM, FROZEN, HIGH, INCOMPLETE, LOW, MARKED, NUMBER, NUMBER_READ, OPENED, OPERATION, OUTPUT,
-    PRIORITY, RECORD_LENGTH, SEQUENCE, SLOT_KIND, SUM_READ, TURNED, TURN_KIND, UNIT, WIDTH, WORDS,
+    PRIORITY, READ_ERROR, RECORD_LENGTH, SEQUENCE, SLOT_KIND, SUM_READ, TURNED, TURN_KIND, UNIT, WIDTH,
+    WORDS,
 };
 
 impl Steps<'_> {
@@ -88,6 +89,10 @@ impl Steps<'_> {
                     error &= u64::from(opened.sequence) | u64::from(opened.check) << 1;
                 }
                 self.script.full(file, side, [words, at, error]);
+                if !self.file_at(file).output && (at == 0 || self.random.chance(1, 8)) {
+                    let read_error = self.random.pick(&[0, 0, 4, 10, 5]);
+                    self.script.file(file, side + READ_ERROR, read_error);
+                }
             }
             2 => {
                 let field =

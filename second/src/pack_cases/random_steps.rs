@@ -1,7 +1,7 @@
 //! Random calls and changes over small pools, from a fixed seed: most of them sensible, so that much
 //! comes about, and some of any kind.
 
-use super::script::{Script, GOOD, HUGE, MARK, READ, SPOILT, WRITE};
+use super::script::{Script, GOOD, HUGE, INCOMPLETE_WORD, MARK, READ, REDUNDANCY, SPOILT, WRITE};
 use crate::channel::Turn;
 use crate::pack_player as player;
 use crate::random::Random;
@@ -264,7 +264,12 @@ impl Steps<'_> {
             if at_work.is_empty() || self.random.chance(1, 20) { any } else { self.random.pick(&at_work) };
         let outcome = self.random.pick(&[0, 0, 0, 0, 0, 0, 1, 1, 2, 3, 4]);
         let bound = self.state().files_of(channel, unit).next().cloned().unwrap_or_default();
-        let brings = outcome == GOOD && (!bound.output || self.random.chance(1, 10));
+        let of_ten = match outcome {
+            GOOD if !bound.output => 10,
+            REDUNDANCY | INCOMPLETE_WORD if !bound.output => 6,
+            _ => 1,
+        };
+        let brings = self.random.chance(of_ten, 10);
         let words = if brings { self.block(&bound) } else { vec![] };
         [vec![player::REPORT, channel, unit, outcome, words.len() as u64], words].concat()
     }

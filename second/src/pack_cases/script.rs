@@ -88,7 +88,12 @@ impl Script {
 
     /// A report of channel 0 with words.
     pub fn deliver(&mut self, unit: u64, words: &[u64]) {
-        self.add(&[&[player::REPORT, 0, unit, GOOD, words.len() as u64], words].concat());
+        self.end_with(unit, GOOD, words);
+    }
+
+    /// A report of channel 0 with an outcome and words.
+    pub fn end_with(&mut self, unit: u64, outcome: u64, words: &[u64]) {
+        self.add(&[&[player::REPORT, 0, unit, outcome, words.len() as u64], words].concat());
     }
 
     /// A report of channel 0 without words.

@@ -7,7 +7,7 @@ use crate::sound::is_sound;
 use crate::state_fields::*;
 
 /// The clauses about ranges, each tried on a bench of its own.
-const CLAUSES: [fn(&mut Bench); 12] = [
+const CLAUSES: [fn(&mut Bench); 14] = [
     pool_sizes,
     before_fresh,
     scan_marks,
@@ -17,6 +17,8 @@ const CLAUSES: [fn(&mut Bench); 12] = [
     chosen_sizes,
     block_numbers,
     check_errors,
+    read_errors,
+    read_errors_first,
     found_fields,
     nothing_read,
     errors_as_found,
@@ -142,6 +144,43 @@ fn check_errors(bench: &mut Bench) {
             bench.unsound(change);
         }
     }
+}
+
+/// M-101: a read error is 0, 4 or 10.
+fn read_errors(bench: &mut Bench) {
+    bench.file(INPUT, LOW + READ_ERROR, &[1, 3, 5, 9, 11, 255], &[4, 10]);
+    bench.script.full(INPUT, HIGH, [1, 0, 0]);
+    bench.file(INPUT, HIGH + READ_ERROR, &[1, 2], &[10]);
+    bench.script.full(IDLE_INPUT, LOW, [2, 0, 0]);
+    bench.file(IDLE_INPUT, LOW + READ_ERROR, &[1, 8], &[4]);
+}
+
+/// While it is not told, get's place is 0 and a check error is not told either.
+fn read_errors_first(bench: &mut Bench) {
+    for read_error in [4, 10] {
+        bench.script.file(INPUT, LOW + READ_ERROR, read_error);
+        bench.file(INPUT, LOW + AT, &[1, 5], &[0]);
+        for (error, fields) in [(1, [15, 1, 15, 2]), (2, [15, 1, 14, 1]), (3, [15, 1, 0, 0])] {
+            for given in 0..4 {
+                let change = |script: &mut Script| {
+                    script.found(INPUT, LOW, fields);
+                    script.file(INPUT, LOW + ERROR, given);
+                };
+                if given == error {
+                    bench.sound(change);
+                } else {
+                    bench.unsound(change);
+                }
+            }
+        }
+        // A field that is not chosen says nothing.
+        bench.script.file(INPUT, SEQUENCE, 0);
+        bench.file(INPUT, LOW + NUMBER_READ, &[], &[7]);
+        bench.file(INPUT, LOW + SUM_READ, &[7], &[15]);
+        bench.script.file(INPUT, SEQUENCE, 1);
+    }
+    bench.script.full(INPUT, HIGH, [3, 1, 0]);
+    bench.file(INPUT, HIGH + READ_ERROR, &[4, 10], &[0]);
 }
 
 /// A sum has 18 bits, a number 15.

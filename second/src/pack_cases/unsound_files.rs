@@ -74,9 +74,11 @@ fn output_zeros(bench: &mut Bench) {
     bench.file(READING, MARKED, &[], &[1]);
     bench.file(WRITING, LOW + AT, &[1, 4], &[0]);
     bench.file(WRITING, LOW + ERROR, &[1, 3], &[0]);
+    bench.file(WRITING, LOW + READ_ERROR, &[4, 10, 1], &[0]);
     bench.script.full(OUTPUT_FILE, HIGH, [3, 0, 0]);
     bench.file(OUTPUT_FILE, HIGH + AT, &[1], &[]);
     bench.file(OUTPUT_FILE, HIGH + ERROR, &[2], &[]);
+    bench.file(OUTPUT_FILE, HIGH + READ_ERROR, &[4, 10], &[]);
     for field in FOUND_SUM..=NUMBER_READ {
         bench.file(OUTPUT_FILE, HIGH + field, &[1], &[]);
     }
