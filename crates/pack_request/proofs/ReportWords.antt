@@ -2,7 +2,7 @@
 -- write lies in the area and its words are below 2^36. Assumes nothing.
 use mathlib.Core.Path.{_≡_, refl, sym, ap, _∙_}
 use mathlib.Core.Logic.{_⊎_, ⊎-elim}
-use mathlib.Core.Bool.{Bool, true, false, not, _&&_, _||_, and-false}
+use mathlib.Core.Bool.{Bool, true, false, not, cond, _&&_, _||_, and-false}
 use mathlib.Core.List.{List}
 use Prim.Native.Nat.{ℕ, _+_, _-_, _*_, _≤_, _<_}
 use native.Mathlib.Nat.{suc-mul}
@@ -18,6 +18,8 @@ use Rattle.area.proofs.Walks.{true-not-false, or-left, or-right}
 use Rattle.area.proofs.Pastes.{length-part, paste-fitting, length-paste, paste-before, paste-after}
 use Rattle.channel.specs.declared.Op.{Op}
 use Rattle.channel.specs.declared.Op.the-variants.{Read, Write, Mark}
+use Rattle.channel.specs.declared.Position.{Position}
+use Rattle.channel.specs.declared.Request.{Request}
 use Rattle.channel.specs.declared.Turn.{Turn}
 use Rattle.channel.specs.declared.Channel.{Channel}
 use Rattle.channel.specs.declared.Work.{Work}
@@ -26,7 +28,8 @@ use Rattle.channel_outcomes.specs.declared.Ending.{Ending}
 use Rattle.channel_outcomes.specs.declared.Ending.the-variants.{Good, Opposite, MarkRead, MediumEnd, LostRedundancy, LostIncomplete}
 use Rattle.channel_outcomes.specs.declared.Verdict.{Verdict}
 use Rattle.channel_outcomes.specs.declared.Verdict.the-variants.{Refused, Repeats, Ends}
-use Rattle.channel_outcomes.specs.Rules.{resultNumber}
+use Rattle.channel_outcomes.specs.Positions.{cleanerDue}
+use Rattle.channel_outcomes.specs.Rules.{repeatedNumber, resultNumber}
 use Rattle.channel.specs.Units.{turnAt, workOf, operationAt}
 use Rattle.file.specs.declared.File.{File}
 use Rattle.file.specs.Sides.{bufferAt, startAt, isSide, takenSide}
@@ -65,47 +68,56 @@ isGood result = eqb result 1 || eqb result 2
 abbrev isDone : ℕ → Bool
 isDone result = eqb result 1 || eqb result 4
 
+-- a repeated operation's result is neither
+repeated-not : (p : Position) (q : Request) → (isGood (repeatedNumber p q) ≡ false) × (isDone (repeatedNumber p q) ≡ false)
+unfolding repeatedNumber
+repeated-not p q = go (cleanerDue p q)
+  where
+    go : (b : Bool) → (isGood (cond b 7 0) ≡ false) × (isDone (cond b 7 0) ≡ false)
+    go true = (refl, refl)
+    go false = (refl, refl)
+
 -- a block is delivered exactly by a read that ends with 01 or 02
-pub delivers-exactly : (x : Work) (v : Verdict) → isDelivery (effectOf x v) ≡ (isRead x && isGood (resultNumber v))
-delivers-exactly (At op) (Refused n) = sym (and-false (isReadOp op))
-delivers-exactly (At op) (Repeats q) = sym (and-false (isReadOp op))
-delivers-exactly (At Read) (Ends Good) = refl
-delivers-exactly (At Read) (Ends Opposite) = refl
-delivers-exactly (At Read) (Ends MarkRead) = refl
-delivers-exactly (At Read) (Ends MediumEnd) = refl
-delivers-exactly (At Read) (Ends LostRedundancy) = refl
-delivers-exactly (At Read) (Ends LostIncomplete) = refl
-delivers-exactly (At Write) (Ends Good) = refl
-delivers-exactly (At Write) (Ends Opposite) = refl
-delivers-exactly (At Write) (Ends MarkRead) = refl
-delivers-exactly (At Write) (Ends MediumEnd) = refl
-delivers-exactly (At Write) (Ends LostRedundancy) = refl
-delivers-exactly (At Write) (Ends LostIncomplete) = refl
-delivers-exactly (At Mark) (Ends e) = refl
-delivers-exactly Nothing (Refused n) = refl
-delivers-exactly Nothing (Repeats q) = refl
-delivers-exactly Nothing (Ends e) = refl
+pub delivers-exactly : (x : Work) (p : Position) (v : Verdict) → isDelivery (effectOf x v) ≡ (isRead x && isGood (resultNumber p v))
+delivers-exactly (At op) p (Refused n) = sym (and-false (isReadOp op))
+delivers-exactly (At op) p (Repeats q) = sym (ap (λ (b : Bool). isReadOp op && b) (repeated-not p q .0) ∙ and-false (isReadOp op))
+delivers-exactly (At Read) p (Ends Good) = refl
+delivers-exactly (At Read) p (Ends Opposite) = refl
+delivers-exactly (At Read) p (Ends MarkRead) = refl
+delivers-exactly (At Read) p (Ends MediumEnd) = refl
+delivers-exactly (At Read) p (Ends LostRedundancy) = refl
+delivers-exactly (At Read) p (Ends LostIncomplete) = refl
+delivers-exactly (At Write) p (Ends Good) = refl
+delivers-exactly (At Write) p (Ends Opposite) = refl
+delivers-exactly (At Write) p (Ends MarkRead) = refl
+delivers-exactly (At Write) p (Ends MediumEnd) = refl
+delivers-exactly (At Write) p (Ends LostRedundancy) = refl
+delivers-exactly (At Write) p (Ends LostIncomplete) = refl
+delivers-exactly (At Mark) p (Ends e) = refl
+delivers-exactly Nothing p (Refused n) = refl
+delivers-exactly Nothing p (Repeats q) = refl
+delivers-exactly Nothing p (Ends e) = refl
 
 -- a block is handed out exactly by a write that ends with 01 or 04
-pub sends-exactly : (x : Work) (v : Verdict) → isSending (effectOf x v) ≡ (isWrite x && isDone (resultNumber v))
-sends-exactly (At op) (Refused n) = sym (and-false (isWriteOp op))
-sends-exactly (At op) (Repeats q) = sym (and-false (isWriteOp op))
-sends-exactly (At Read) (Ends Good) = refl
-sends-exactly (At Read) (Ends Opposite) = refl
-sends-exactly (At Read) (Ends MarkRead) = refl
-sends-exactly (At Read) (Ends MediumEnd) = refl
-sends-exactly (At Read) (Ends LostRedundancy) = refl
-sends-exactly (At Read) (Ends LostIncomplete) = refl
-sends-exactly (At Write) (Ends Good) = refl
-sends-exactly (At Write) (Ends Opposite) = refl
-sends-exactly (At Write) (Ends MarkRead) = refl
-sends-exactly (At Write) (Ends MediumEnd) = refl
-sends-exactly (At Write) (Ends LostRedundancy) = refl
-sends-exactly (At Write) (Ends LostIncomplete) = refl
-sends-exactly (At Mark) (Ends e) = refl
-sends-exactly Nothing (Refused n) = refl
-sends-exactly Nothing (Repeats q) = refl
-sends-exactly Nothing (Ends e) = refl
+pub sends-exactly : (x : Work) (p : Position) (v : Verdict) → isSending (effectOf x v) ≡ (isWrite x && isDone (resultNumber p v))
+sends-exactly (At op) p (Refused n) = sym (and-false (isWriteOp op))
+sends-exactly (At op) p (Repeats q) = sym (ap (λ (b : Bool). isWriteOp op && b) (repeated-not p q .1) ∙ and-false (isWriteOp op))
+sends-exactly (At Read) p (Ends Good) = refl
+sends-exactly (At Read) p (Ends Opposite) = refl
+sends-exactly (At Read) p (Ends MarkRead) = refl
+sends-exactly (At Read) p (Ends MediumEnd) = refl
+sends-exactly (At Read) p (Ends LostRedundancy) = refl
+sends-exactly (At Read) p (Ends LostIncomplete) = refl
+sends-exactly (At Write) p (Ends Good) = refl
+sends-exactly (At Write) p (Ends Opposite) = refl
+sends-exactly (At Write) p (Ends MarkRead) = refl
+sends-exactly (At Write) p (Ends MediumEnd) = refl
+sends-exactly (At Write) p (Ends LostRedundancy) = refl
+sends-exactly (At Write) p (Ends LostIncomplete) = refl
+sends-exactly (At Mark) p (Ends e) = refl
+sends-exactly Nothing p (Refused n) = refl
+sends-exactly Nothing p (Repeats q) = refl
+sends-exactly Nothing p (Ends e) = refl
 
 delivery-taken : (op : Op) (e : Ending) (f : File) → fileReady (At op) f ≡ true → isDelivery (opEffect op e) ≡ true → takenCount f ≡ 1
 delivery-taken Read e f h b = ready-facts (At Read) f h .taken
@@ -127,14 +139,14 @@ sending-full Read LostIncomplete f h b = true-not-false b refl
 sending-full Write e f h b = ready-facts (At Write) f h .block
 sending-full Mark e f h b = true-not-false b refl
 
-module _ (c : Channel) (u outcome : ℕ) (f : File) (ready : fileReady (requested (turnAt c u)) f ≡ true) where
+module _ (c : Channel) (u outcome len : ℕ) (f : File) (ready : fileReady (requested (turnAt c u)) f ≡ true) where
   by-ending : (test : Effect → Bool) (P : Type 0) → test Keeps ≡ false
       → ((op : Op) (e : Ending) → fileReady (At op) f ≡ true → test (opEffect op e) ≡ true → P)
-      → Booked c u outcome → test (effectAt c u outcome) ≡ true → P
+      → Booked c u outcome len → test (effectAt c u outcome len) ≡ true → P
   unfolding operationAt
   by-ending test P none k (again r q t j) b = true-not-false b (ap (λ (v : Verdict). test (effectOf (operationAt c u) v)) j ∙ none)
   by-ending test P none k (ended r e t j) b =
-      let here : effectAt c u outcome ≡ opEffect (r .op) e = ap (effectOf (operationAt c u)) j ∙ ap (λ (y : Turn). effectOf (workOf y) (Ends e)) t in
+      let here : effectAt c u outcome len ≡ opEffect (r .op) e = ap (effectOf (operationAt c u)) j ∙ ap (λ (y : Turn). effectOf (workOf y) (Ends e)) t in
       k (r .op) e (sym (ap (λ (y : Turn). fileReady (requested y) f) t) ∙ ready) (sym (ap test here) ∙ b)
 
 -- ---- a word before or after what is pasted
@@ -152,7 +164,7 @@ paste-right at k ys xs l h =
 
 -- ---- the call on a state
 
-module _ (s : State) (area : List ℕ) (channel unit outcome : ℕ) (words : List ℕ) where
+module _ (s : State) (area : List ℕ) (channel unit outcome len : ℕ) (words : List ℕ) where
   abbrev i : ℕ
   i = fileOf s channel unit
 
@@ -166,13 +178,13 @@ module _ (s : State) (area : List ℕ) (channel unit outcome : ℕ) (words : Lis
   wrong = reportWrong s (length area) channel
 
   abbrev refusal : ℕ
-  refusal = reportRefusal wrong f c unit outcome (s .w) area words
+  refusal = reportRefusal wrong f c unit outcome len (s .w) area words
 
   abbrev effect : Effect
-  effect = effectAt c unit outcome
+  effect = effectAt c unit outcome len
 
   abbrev after : List ℕ
-  after = reportByArea s area channel unit outcome words
+  after = reportByArea s area channel unit outcome len words
 
   -- where the taken buffer begins
   abbrev start : ℕ
@@ -188,8 +200,8 @@ module _ (s : State) (area : List ℕ) (channel unit outcome : ℕ) (words : Lis
       go (no k) b e = rw (ne-eqb refusal 0 k)
 
   module _ (sixteen : length (s .files) ≡ fileCount) (z : refusal ≡ 0) where
-    ready : ReportReady wrong f c unit outcome (s .w) area words
-    ready = report-ready wrong f c unit outcome (s .w) area words z
+    ready : ReportReady wrong f c unit outcome len (s .w) area words
+    ready = report-ready wrong f c unit outcome len (s .w) area words z
 
     long : s .m * s .w ≤ length area
     long = ltb-false (length area) (s .m * s .w) (or-left (areaShort s (length area)) _ (or-right (not (sound s)) _ (ready .right)))
@@ -205,15 +217,15 @@ module _ (s : State) (area : List ℕ) (channel unit outcome : ℕ) (words : Lis
     pub report-delivers : isDelivery effect ≡ true → Delivered
     unfolding reportByArea reportOnArea reportedArea
     report-delivers d =
-        let S = facts s area channel unit outcome words sixteen z .files i (isOpen s area channel unit outcome words sixteen z) in
-        let one = by-ending c unit outcome f (requested-ready s area channel unit outcome words sixteen z) isDelivery (takenCount f ≡ 1) refl (λ op e. delivery-taken op e f)
-        (view s area channel unit outcome words sixteen z) d in
+        let S = facts s area channel unit outcome len words sixteen z .files i (isOpen s area channel unit outcome len words sixteen z) in
+        let one = by-ending c unit outcome len f (requested-ready s area channel unit outcome len words sixteen z) isDelivery (takenCount f ≡ 1) refl (λ op e. delivery-taken op e f)
+        (view s area channel unit outcome len words sixteen z) d in
         let here = some-taken f one in
         let b = fits-bounds f (length words) (ready .fits d) in
         let fit : start + length words ≤ length area = omega (arith, taken-inside (s .m) (s .w) f S (length words) here (b .1), long) in
         record {
           side = here;
-          held = held-own f (takenSide f) (isOpen s area channel unit outcome words sixteen z) (own-taken (s .m) (s .w) f S here);
+          held = held-own f (takenSide f) (isOpen s area channel unit outcome len words sixteen z) (own-taken (s .m) (s .w) f S here);
           room = omega (arith, size-fits (s .m) (s .w) f S, b .1);
           inside = fit;
           pasted = rw (eq-eqb refusal 0 z, d) (paste-fitting start words area fit);
@@ -230,14 +242,14 @@ module _ (s : State) (area : List ℕ) (channel unit outcome : ℕ) (words : Lis
     shown-inside MeetsMark h = omega arith
     shown-inside GivesBack h = omega arith
     shown-inside Sends h =
-        let S = facts s area channel unit outcome words sixteen z .files i (isOpen s area channel unit outcome words sixteen z) in
+        let S = facts s area channel unit outcome len words sixteen z .files i (isOpen s area channel unit outcome len words sixteen z) in
         omega (arith, send-inside (s .m) (s .w) f S (h refl), long)
     shown-inside Keeps h = omega arith
 
     pub report-shows : ShowsBlock
     report-shows =
-        let l = shown-inside effect (by-ending c unit outcome f (requested-ready s area channel unit outcome words sixteen z) isSending (hasFull f ≡ true) refl (λ op e. sending-full op e f)
-        (view s area channel unit outcome words sixteen z)) in
+        let l = shown-inside effect (by-ending c unit outcome len f (requested-ready s area channel unit outcome len words sixteen z) isSending (hasFull f ≡ true) refl (λ op e. sending-full op e f)
+        (view s area channel unit outcome len words sixteen z)) in
         record { inside = l; whole = length-part (shownStart effect (s .w) f) (shownCount effect f) area l; small = ready .handed }
 
   -- words outside the file's own buffers are as they were, whatever the answer: those before each of its buffers or after it
