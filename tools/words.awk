@@ -54,15 +54,18 @@ function flagsText(flags,    text) {
 # The name with the number n in a list of names, or the number where the list has none.
 function named(n, names, other,    parts) { return n < split(names, parts, "|") && parts[n + 1] != "" ? parts[n + 1] : other " " n }
 
-# Whether a line is a frame, by its kind and its count of bytes.
+# How many of a report's n bytes stand ahead of its words: two more with a length, which the bytes left over from fives show.
+function headOf(n) { return n > 4 && (n - 4) % 5 == 2 ? 6 : 4 }
+
+# Whether a line is a frame, by its kind and its count of bytes; a length stands in a redundancy's report alone.
 function isFrame(s,    n, kind) {
-    if (length(s) > 10248 || length(s) == 0 || !isText(s)) return 0
+    if (length(s) > 10252 || length(s) == 0 || !isText(s)) return 0
     n = length(s) / 2
     kind = byte(s, 0)
     if (kind == 0) return n == 14
     if (kind == 1) return n == 9
     if (kind == 3) return n == 4
-    if (kind == 4) return n >= 4 && (n - 4) % 5 == 0
+    if (kind == 4) return n >= 4 && (n - headOf(n)) % 5 == 0 && (headOf(n) == 4 || byte(s, 3) == 1)
     if (kind == 6) return n >= 2 && (n - 2) % 5 == 0
     if (kind == 9 || kind == 10) return n == 1
     return kind <= 8 && n == 2
@@ -76,7 +79,7 @@ function frameText(s,    kind, n) {
     if (kind == 1) return "open file " byte(s, 1) " on channel " byte(s, 2) ", unit " byte(s, 3) ": " flagsText(byte(s, 4)) "; blocks of " many(size(s, 5), "word", "words") ", records of " size(s, 7)
     if (kind == 2) return "close file " byte(s, 1)
     if (kind == 3) return "ask of file " byte(s, 1) ": " named(byte(s, 2), "read|write|mark", "operation") ", " named(byte(s, 3), "ordinary|priority", "priority")
-    if (kind == 4) return "report of channel " byte(s, 1) ", unit " byte(s, 2) ": " named(byte(s, 3), "good|redundancy|incomplete word|file mark|end of medium", "outcome") (n > 4 ? ", with " wordsFrom(s, 4) : "")
+    if (kind == 4) return "report of channel " byte(s, 1) ", unit " byte(s, 2) ": " named(byte(s, 3), "good|redundancy|incomplete word|file mark|end of medium", "outcome") (headOf(n) > 4 ? ", a length of " many(size(s, 4), "word", "words") : "") (n > headOf(n) ? ", with " wordsFrom(s, headOf(n)) : "")
     if (kind == 5) return "get from file " byte(s, 1)
     if (kind == 6) return "put to file " byte(s, 1) ": " wordsFrom(s, 2)
     if (kind == 7) return "seal file " byte(s, 1)
@@ -95,7 +98,7 @@ function noBuffer(frame,    kind) {
 }
 
 function refusal(n, frame) {
-    if (n == 1) return "an argument is outside its range, the area is short, words come with a report that may have none, or the frame is malformed"
+    if (n == 1) return "an argument is outside its range, the area is short, words come with a report that may have none, a length is not the number of its words, or the frame is malformed"
     if (n == 2) return "a given word, or a buffer word that the call sums or hands out, is 2^36 or more"
     if (n == 3) return "the unit is not declared"
     if (n == 4) return "the file number is open already, or the unit is already bound"
@@ -132,7 +135,7 @@ function answerText(frame, s,    n, kind, result, found) {
     if (kind == 4) {
         if (n < 4) return ""
         result = named(byte(s, 1), "repeated|ended good|ended good, in the opposite mode|ended with a file mark|ended with the end of the medium|ended with a permanent redundancy|ended with a permanent incomplete word|backspace three, then repeat", "result")
-        found = length(frame) > 8 ? foundBytes(n, 4) : 0
+        found = length(frame) / 2 > headOf(length(frame) / 2) ? foundBytes(n, 4) : 0
         if (n - found > 4 && ((n - 4) % 5 || length(frame) > 8)) return ""
         return result ", " errorText(byte(s, 2)) (found ? foundText(s, 3) : "") "; " worksFor(byte(s, 3 + found)) (n - found > 4 ? "; the block has " wordsFrom(s, 4) : "")
     }

@@ -12,6 +12,7 @@ use Rattle.area.proofs.Lowest.{lowest-none}
 use Rattle.area.specs.Lists.{allOf}
 use Rattle.area.specs.Parts.{isWord, partOf}
 use Rattle.area.specs.Refusals.{lowest}
+use Rattle.channel.specs.declared.Position.{Position}
 use Rattle.channel.specs.declared.Request.{Request}
 use Rattle.channel.specs.declared.Turn.{Turn}
 use Rattle.channel.specs.declared.Turn.the-variants.{Idle, Waiting, Displaced, Working}
@@ -20,8 +21,9 @@ use Rattle.channel_outcomes.specs.declared.Ending.{Ending}
 use Rattle.channel.specs.declared.Work.{Work}
 use Rattle.channel_outcomes.specs.declared.Verdict.{Verdict}
 use Rattle.channel_outcomes.specs.declared.Verdict.the-variants.{Refused, Repeats, Ends}
-use Rattle.channel_outcomes.specs.Rules.{isAllowed, isFailure, isPermanent, nextAttempt, endingOf, verdictOf, resultNumber, refusalNumber}
-use Rattle.channel.specs.Units.{turnAt, workOf, operationAt}
+use Rattle.channel_outcomes.specs.Rules.{isAllowed, isFailure, isPermanent, isNoise, pastNoise, nextAttempt, endingOf, tableVerdict, verdictOf, resultNumber, refusalNumber}
+use Rattle.channel_outcomes.proofs.Laws.Rules.{noise-allowed}
+use Rattle.channel.specs.Units.{turnAt, positionAt, workOf, operationAt}
 use Rattle.channel_turns.specs.Scans.{workingIn, unitNumber}
 use Rattle.channel_turns.specs.Turns.{judgeTurn, judgeOf, bookOf}
 use Rattle.file.specs.declared.File.{File}
@@ -39,46 +41,55 @@ use Rattle.call_request.specs.Report.{isIdleFor, takesNoWords, isForbidd
 
 -- ---- report: what the channel refuses
 
--- a request that is worked for is refused 12 or not at all
+-- a request that is worked for is refused 12 or not at all: a noise record is an outcome that is allowed
 verdict-number : (a b : Bool) (e : Ending) (q : Request) (n : ℕ) → eqb 0 n ≡ false → eqb (refusalNumber (cond a (cond b (Ends e) (Repeats q)) (Refused 12))) n ≡ (not a && eqb 12 n)
 verdict-number true true e q n z = z
 verdict-number true false e q n z = z
 verdict-number false b e q n z = refl
 
-pub idle-number : (c : Channel) (u outcome : ℕ) → eqb (refusalNumber (judgeOf c u outcome)) 11 ≡ isIdleFor (operationAt c u)
-unfolding judgeOf operationAt verdictOf
-idle-number c u outcome = go (turnAt c u)
+worked-number : (q : Request) (outcome len n : ℕ) → eqb 0 n ≡ false → eqb (refusalNumber (verdictOf q outcome len)) n ≡ (not (isAllowed (q .op) outcome) && eqb 12 n)
+unfolding verdictOf tableVerdict
+worked-number q outcome len n z = go (isNoise q outcome len) refl
   where
-    works : (q : Request) (a : Bool) → (not a && false) ≡ false
-    works q true = refl
-    works q false = refl
+    go : (b : Bool) → isNoise q outcome len ≡ b
+        → eqb (refusalNumber (cond b (Repeats (pastNoise q)) (tableVerdict q outcome))) n ≡ (not (isAllowed (q .op) outcome) && eqb 12 n)
+    go true e = z ∙ sym (ap (λ (a : Bool). not a && eqb 12 n) (noise-allowed q outcome len true (sym e) refl))
+    go false e = verdict-number (isAllowed (q .op) outcome) (not (isFailure outcome) || isPermanent q outcome) (endingOf (q .op) (q .attempts) outcome) (nextAttempt q outcome) n z
 
-    go : (t : Turn) → eqb (refusalNumber (judgeTurn t outcome)) 11 ≡ isIdleFor (workOf t)
+pub idle-number : (c : Channel) (u outcome len : ℕ) → eqb (refusalNumber (judgeOf c u outcome len)) 11 ≡ isIdleFor (operationAt c u)
+unfolding judgeOf operationAt
+idle-number c u outcome len = go (turnAt c u)
+  where
+    works : (a : Bool) → (not a && false) ≡ false
+    works true = refl
+    works false = refl
+
+    go : (t : Turn) → eqb (refusalNumber (judgeTurn t outcome len)) 11 ≡ isIdleFor (workOf t)
     go Idle = refl
     go (Waiting q) = refl
     go (Displaced q) = refl
-    go (Working q) = verdict-number (isAllowed (q .op) outcome) (not (isFailure outcome) || isPermanent q outcome) (endingOf (q .op) (q .attempts) outcome) (nextAttempt q outcome) 11 refl ∙ works q (isAllowed (q .op) outcome)
+    go (Working q) = worked-number q outcome len 11 refl ∙ works (isAllowed (q .op) outcome)
 
-pub forbidden-number : (c : Channel) (u outcome : ℕ) → eqb (refusalNumber (judgeOf c u outcome)) 12 ≡ isForbidden (operationAt c u) outcome
-unfolding judgeOf operationAt verdictOf
-forbidden-number c u outcome = go (turnAt c u)
+pub forbidden-number : (c : Channel) (u outcome len : ℕ) → eqb (refusalNumber (judgeOf c u outcome len)) 12 ≡ isForbidden (operationAt c u) outcome
+unfolding judgeOf operationAt
+forbidden-number c u outcome len = go (turnAt c u)
   where
     works : (a : Bool) → (not a && true) ≡ not a
     works true = refl
     works false = refl
 
-    go : (t : Turn) → eqb (refusalNumber (judgeTurn t outcome)) 12 ≡ isForbidden (workOf t) outcome
+    go : (t : Turn) → eqb (refusalNumber (judgeTurn t outcome len)) 12 ≡ isForbidden (workOf t) outcome
     go Idle = refl
     go (Waiting q) = refl
     go (Displaced q) = refl
-    go (Working q) = verdict-number (isAllowed (q .op) outcome) (not (isFailure outcome) || isPermanent q outcome) (endingOf (q .op) (q .attempts) outcome) (nextAttempt q outcome) 12 refl ∙ works (isAllowed (q .op) outcome)
+    go (Working q) = worked-number q outcome len 12 refl ∙ works (isAllowed (q .op) outcome)
 
 -- ---- report: its rows
 
 -- what the code has looked at before it judges, by the names of `rowsBy`
-pub record Seen (f : File) (c : Channel) (u outcome w : ℕ) (area words : List ℕ) (x : Work) (v : Verdict) (e : Effect) (fits clean room : Bool) (start count : ℕ) : Type 0 where
+pub record Seen (f : File) (c : Channel) (u outcome len w : ℕ) (area words : List ℕ) (x : Work) (v : Verdict) (e : Effect) (fits clean room : Bool) (start count : ℕ) : Type 0 where
   pub work : x ≡ operationAt c u
-  pub verdict : v ≡ judgeOf c u outcome
+  pub verdict : v ≡ judgeOf c u outcome len
   pub effect : e ≡ effectOf (ltb 0 (length words)) x v
   pub given : fits ≡ allOf isWord words
   pub from : start ≡ shownStart e w f
@@ -86,18 +97,18 @@ pub record Seen (f : File) (c : Channel) (u outcome w : ℕ) (area words : List 
   pub handed : clean ≡ allOf isWord (partOf start count area)
   pub space : room ≡ blockFits f (length words)
 
-module _ (wrong frozen : Bool) {f : File} {c : Channel} {u outcome w : ℕ} {area words : List ℕ} {x : Work} {v : Verdict} {e : Effect} {fits clean room : Bool}
-    {start count : ℕ} (S : Seen f c u outcome w area words x v e fits clean room start count) where
-  same : e ≡ effectAt c u outcome (length words)
+module _ (wrong frozen : Bool) {f : File} {c : Channel} {u outcome len w : ℕ} {area words : List ℕ} {x : Work} {v : Verdict} {e : Effect} {fits clean room : Bool}
+    {start count : ℕ} (S : Seen f c u outcome len w area words x v e fits clean room start count) where
+  same : e ≡ effectAt c u outcome len (length words)
   same = S .effect ∙ ap (λ (y : Work). effectOf (ltb 0 (length words)) y v) (S .work) ∙ ap (effectOf (ltb 0 (length words)) (operationAt c u)) (S .verdict)
 
-  pub refusal-found : lowest (rowsBy wrong u outcome x v e fits clean room (length words)) ≡ reportRefusal wrong f c u outcome w area words
+  pub refusal-found : lowest (rowsBy wrong u outcome len x v e fits clean room (length words)) ≡ reportRefusal wrong f c u outcome len w area words
   unfolding reportRefusal
   refusal-found =
-      rw (S .handed, S .from, S .many, same, S .given, S .space, S .work, S .verdict, idle-number c u outcome, forbidden-number c u outcome)
+      rw (S .handed, S .from, S .many, same, S .given, S .space, S .work, S .verdict, idle-number c u outcome len, forbidden-number c u outcome len)
 
   -- a report that is not refused and delivers a block has as many words as it may have
-  pub room-found : lowest (rowsBy wrong u outcome x v e fits clean room (length words)) ≡ 0 → isDelivery e ≡ true → blockFits f (length words) ≡ true
+  pub room-found : lowest (rowsBy wrong u outcome len x v e fits clean room (length words)) ≡ 0 → isDelivery e ≡ true → blockFits f (length words) ≡ true
   room-found z brings =
       let a = lowest-none 1 _ _ (λ q. omega arith) z in
       let b = lowest-none 2 _ _ (λ q. omega arith) (a .1) in
@@ -111,19 +122,19 @@ module _ (wrong frozen : Bool) {f : File} {c : Channel} {u outcome w : ℕ} {are
       so false true w t q = true-not-false refl q
       so false false w t q = true-not-false t refl
 
-  module _ (no : ℕ) (found : no ≡ reportRefusal wrong f c u outcome w area words) where
-    pub report-refused : (no ≡ 0 → ⊥) → (refusedReport no f c ≡ reportOn wrong f c u outcome w frozen area words) × (area ≡ reportOnArea wrong f c u outcome w area words)
+  module _ (no : ℕ) (found : no ≡ reportRefusal wrong f c u outcome len w area words) where
+    pub report-refused : (no ≡ 0 → ⊥) → (refusedReport no f c ≡ reportOn wrong f c u outcome len w frozen area words) × (area ≡ reportOnArea wrong f c u outcome len w area words)
     unfolding reportOn reportOnArea
     report-refused h = (rw (← found, ne-eqb no 0 h), rw (← found, ne-eqb no 0 h))
 
-    pub report-booked : no ≡ 0 → (er : Checked) (dl : Delivery) (r wk : ℕ) (g : File) (d : Channel) → er ≡ deliveryCheck e f words → dl ≡ deliveryOf e er → r ≡ resultNumber v
+    pub report-booked : no ≡ 0 → (er : Checked) (dl : Delivery) (p : Position) (r wk : ℕ) (g : File) (d : Channel) → er ≡ deliveryCheck e f words → dl ≡ deliveryOf e er → p ≡ positionAt c u → r ≡ resultNumber p v
         → g ≡ reportedFile e f (length words) er → d ≡ bookOf c u v frozen → wk ≡ unitNumber (workingIn d)
         → _≡_ {A = ReportChange} (record { refusal = 0; result = r; delivery = dl; working = wk; start = start; count = count; file = g; channel = d })
-        (reportOn wrong f c u outcome w frozen area words)
+        (reportOn wrong f c u outcome len w frozen area words)
     unfolding reportOn
-    report-booked h er dl r wk g d isEr isDl isR isG isD isWk = rw (isWk, isG, isD, isDl, isEr, isR, S .from, S .many, same, S .verdict, ← found, h)
+    report-booked h er dl p r wk g d isEr isDl isP isR isG isD isWk = rw (isWk, isG, isD, isDl, isEr, isR, isP, S .from, S .many, same, S .verdict, ← found, h)
 
-    pub booked-area : no ≡ 0 → reportedArea e f w words area ≡ reportOnArea wrong f c u outcome w area words
+    pub booked-area : no ≡ 0 → reportedArea e f w words area ≡ reportOnArea wrong f c u outcome len w area words
     unfolding reportOnArea
     booked-area h = rw (same, ← found, h)
 

@@ -13,8 +13,8 @@ use Rattle.channel.specs.declared.Work.{Work}
 use Rattle.channel.specs.declared.Work.the-variants as work
 use Rattle.channel.specs.declared.Channel.{Channel}
 use Rattle.channel_outcomes.specs.declared.Verdict.{Verdict}
-use Rattle.channel_outcomes.specs.Rules.{outcomeCount, incompleteWord, isAllowed, resultNumber, refusalNumber}
-use Rattle.channel.specs.Units.{unitCount, operationAt}
+use Rattle.channel_outcomes.specs.Rules.{redundancy, incompleteWord, outcomeCount, noLength, isAllowed, resultNumber, refusalNumber}
+use Rattle.channel.specs.Units.{unitCount, operationAt, positionAt}
 use Rattle.channel_turns.specs.Scans.{workingIn, unitNumber}
 use Rattle.channel_turns.specs.Turns.{judgeOf, bookOf}
 use Rattle.file.specs.declared.File.{File}
@@ -32,11 +32,11 @@ use Rattle.call_request.specs.declared.Effect.the-variants.{Delivers, Me
 use Rattle.call_request.specs.declared.ReportChange.{ReportChange}
 use Rattle.call_request.specs.Effects.{effectOf, isDelivery}
 
--- ---- what is reported of unit u of the channel c, with an outcome
+-- ---- what is reported of unit u of the channel c, with an outcome and the length in words that the report carries, `noLength` if it carries none
 
 -- what the report, which gives n words, comes to, and what that means for the file
-abbrev pub effectAt : Channel → ℕ → ℕ → ℕ → Effect
-effectAt c u outcome n = effectOf (ltb 0 n) (operationAt c u) (judgeOf c u outcome)
+abbrev pub effectAt : Channel → ℕ → ℕ → ℕ → ℕ → Effect
+effectAt c u outcome len n = effectOf (ltb 0 n) (operationAt c u) (judgeOf c u outcome len)
 
 -- "11 | report: the channel is not working for that unit"
 abbrev pub isIdleFor : Work → Bool
@@ -54,6 +54,12 @@ takesNoWords work.Nothing = false
 abbrev pub isForbidden : Work → ℕ → Bool
 isForbidden (work.At op) outcome = not (isAllowed op outcome)
 isForbidden work.Nothing outcome = false
+
+-- "A read's redundancy report may carry a length in words, two bytes ..; if words follow it must be their number, else 1" (document 02, M-106): of
+-- a report that carries a length, n words after it
+unfoldable pub lengthWrong : ℕ → ℕ → Work → ℕ → Bool
+lengthWrong outcome len x n =
+    not (eqb len noLength) && ((ltb noLength len || not (eqb outcome redundancy)) || ((ltb 0 n && not (eqb len n)) || takesNoWords x))
 
 -- the block that a report hands out lies in the area from `shownStart` on and has `shownCount` words, check word last; there is none
 -- unless a write has ended well or at the end of medium
@@ -76,32 +82,32 @@ shownBlock x w f area = partOf (shownStart x w f) (shownCount x f) area
 
 -- ---- its rows of the table; `wrong` is what row 1 says of the state, of the area and of the channel's number
 
-abbrev pub reportRows : Bool → File → Channel → ℕ → ℕ → ℕ → List ℕ → List ℕ → Rows
-reportRows wrong f c u outcome w area words =
+abbrev pub reportRows : Bool → File → Channel → ℕ → ℕ → ℕ → ℕ → List ℕ → List ℕ → Rows
+reportRows wrong f c u outcome len w area words =
     -- "an argument is outside its range"; "Words given with an outcome other than 0, or to a write or mark, are refused 1", and document 02, M-101:
     -- "reports of read redundancy or incomplete word may carry words", "refusal 1 for words there goes"
-    (1, wrong || ((leb unitCount u || leb outcomeCount outcome) || (ltb 0 (length words) && (ltb incompleteWord outcome || takesNoWords (operationAt c u))))) ∷
+    (1, (wrong || lengthWrong outcome len (operationAt c u) (length words)) || ((leb unitCount u || leb outcomeCount outcome) || (ltb 0 (length words) && (ltb incompleteWord outcome || takesNoWords (operationAt c u))))) ∷
     -- "a given word, or a buffer word that the call .. hands out, is 2^36 or more"
-    (2, not (allOf isWord words) || not (allOf isWord (shownBlock (effectAt c u outcome (length words)) w f area))) ∷
+    (2, not (allOf isWord words) || not (allOf isWord (shownBlock (effectAt c u outcome len (length words)) w f area))) ∷
     (11, isIdleFor (operationAt c u)) ∷
     (12, isForbidden (operationAt c u) outcome) ∷
     -- "A delivered block has 1 + e to B + e words, else 13."; "sized as good blocks", though the attempt be repeated (M-101)
-    (13, (isDelivery (effectAt c u outcome (length words)) || ltb 0 (length words)) && not (blockFits f (length words))) ∷
+    (13, (isDelivery (effectAt c u outcome len (length words)) || ltb 0 (length words)) && not (blockFits f (length words))) ∷
     []
 
 -- the same rows by what the code has found: what is worked for, what the report comes to and means, whether the words given and those handed
 -- out are below 2^36, and whether n words are as many as a delivered block may have
-abbrev pub rowsBy : Bool → ℕ → ℕ → Work → Verdict → Effect → Bool → Bool → Bool → ℕ → Rows
-rowsBy wrong u outcome x v e fits clean room n =
-    (1, wrong || ((leb unitCount u || leb outcomeCount outcome) || (ltb 0 n && (ltb incompleteWord outcome || takesNoWords x)))) ∷
+abbrev pub rowsBy : Bool → ℕ → ℕ → ℕ → Work → Verdict → Effect → Bool → Bool → Bool → ℕ → Rows
+rowsBy wrong u outcome len x v e fits clean room n =
+    (1, (wrong || lengthWrong outcome len x n) || ((leb unitCount u || leb outcomeCount outcome) || (ltb 0 n && (ltb incompleteWord outcome || takesNoWords x)))) ∷
     (2, not fits || not clean) ∷
     (11, eqb (refusalNumber v) 11) ∷
     (12, eqb (refusalNumber v) 12) ∷
     (13, (isDelivery e || ltb 0 n) && not room) ∷
     []
 
-unfoldable pub reportRefusal : Bool → File → Channel → ℕ → ℕ → ℕ → List ℕ → List ℕ → ℕ
-reportRefusal wrong f c u outcome w area words = lowest (reportRows wrong f c u outcome w area words)
+unfoldable pub reportRefusal : Bool → File → Channel → ℕ → ℕ → ℕ → ℕ → List ℕ → List ℕ → ℕ
+reportRefusal wrong f c u outcome len w area words = lowest (reportRows wrong f c u outcome len w area words)
 
 -- ---- its effect
 
@@ -135,15 +141,15 @@ abbrev pub refusedReport : ℕ → File → Channel → ReportChange
 refusedReport refusal f c = record { refusal = refusal; result = 0; delivery = Without; working = 0; start = 0; count = 0; file = f; channel = c }
 
 -- "Report adds result, check error, working unit and, if it ends a write with 01 or 04, the block's words"
-unfoldable pub reportOn : Bool → File → Channel → ℕ → ℕ → ℕ → Bool → List ℕ → List ℕ → ReportChange
-reportOn wrong f c u outcome w frozen area words =
-    let refusal = reportRefusal wrong f c u outcome w area words in
-    let x = effectAt c u outcome (length words) in
-    let after = bookOf c u (judgeOf c u outcome) frozen in
+unfoldable pub reportOn : Bool → File → Channel → ℕ → ℕ → ℕ → ℕ → Bool → List ℕ → List ℕ → ReportChange
+reportOn wrong f c u outcome len w frozen area words =
+    let refusal = reportRefusal wrong f c u outcome len w area words in
+    let x = effectAt c u outcome len (length words) in
+    let after = bookOf c u (judgeOf c u outcome len) frozen in
     cond (eqb refusal 0)
     (record {
       refusal = 0;
-      result = resultNumber (judgeOf c u outcome);
+      result = resultNumber (positionAt c u) (judgeOf c u outcome len);
       delivery = deliveryOf x (deliveryCheck x f words);
       working = unitNumber (workingIn after);
       start = shownStart x w f;
@@ -154,6 +160,6 @@ reportOn wrong f c u outcome w frozen area words =
     (refusedReport refusal f c)
 
 -- the area afterwards: "A refusal .. changes nothing."
-unfoldable pub reportOnArea : Bool → File → Channel → ℕ → ℕ → ℕ → List ℕ → List ℕ → List ℕ
-reportOnArea wrong f c u outcome w area words =
-    cond (eqb (reportRefusal wrong f c u outcome w area words) 0) (reportedArea (effectAt c u outcome (length words)) f w words area) area
+unfoldable pub reportOnArea : Bool → File → Channel → ℕ → ℕ → ℕ → ℕ → List ℕ → List ℕ → List ℕ
+reportOnArea wrong f c u outcome len w area words =
+    cond (eqb (reportRefusal wrong f c u outcome len w area words) 0) (reportedArea (effectAt c u outcome len (length words)) f w words area) area

@@ -35,7 +35,7 @@ pub enum Delivery {
     With(Checked),
 }
 
-// The answer to a report: the refusal, 0 for none; the result, 0 repeated, 1 to 6 how the operation ended; the delivered block's check, if
+// The answer to a report: the refusal, 0 for none; the result, 0 repeated, 7 repeated after the cleaner pass, 1 to 6 how the operation ended; the delivered block's check, if
 // it delivers one; the working unit after it, 255 for none; the part of the area that holds the block of a write; the file and the channel after it.
 pub struct ReportChange {
     pub refusal: u8,

@@ -17,6 +17,8 @@ use channel::Channel;
 use channel::UNITS;
 use channel::Work;
 use channel::operation_of;
+use channel::position_of;
+use channel_outcomes::NO_LENGTH;
 use channel_outcomes::OUTCOMES;
 use channel_outcomes::Verdict;
 use channel_outcomes::refusal_number;
@@ -28,7 +30,22 @@ use file::File;
 use file_input::block_fits;
 ghost use mathlib.Core.Path.{_≡_};
 ghost use Rattle.area.specs.Refusals.{lowest};
-ghost use Rattle.call_request.specs.Report.{rowsBy, refusedReport, reportOn, reportOnArea};
+ghost use Rattle.call_request.specs.Report.{lengthWrong, rowsBy, refusedReport, reportOn, reportOnArea};
+
+// The outcome with which a report may carry a length.
+const REDUNDANCY: u8 = 1;
+
+// Whether the report carries a length that it may not carry: it is out of range, no redundancy is reported, n words follow and are not so many, or a
+// write or a mark is worked for.
+fn length_wrong(outcome: u8, length: u32, x: Work, n: usize) -> bool
+    ensures { λ r. ⌜ r ≡ lengthWrong outcome length x n ⌝ }
+{
+    let silent = takes_no_words(x);
+    let given = !(length == NO_LENGTH);
+    let off = (NO_LENGTH < length) | !(outcome == REDUNDANCY);
+    let other = (0 < n) & !(length as usize == n);
+    given & (off | (other | silent))
+}
 
 // The outcomes up to this one, good, redundancy and incomplete word, may carry words.
 const LAST_WITH_WORDS: u8 = 2;
@@ -39,6 +56,7 @@ fn report_refusal(
     wrong: bool,
     unit: u8,
     outcome: u8,
+    length: u32,
     x: Work,
     v: Verdict,
     e: Effect,
@@ -47,14 +65,15 @@ fn report_refusal(
     room: bool,
     n: usize,
 ) -> u8
-    ensures { λ r. ⌜ r ≡ lowest (rowsBy wrong unit outcome x v e fits clean room n) ⌝ }
+    ensures { λ r. ⌜ r ≡ lowest (rowsBy wrong unit outcome length x v e fits clean room n) ⌝ }
 {
+    let long = length_wrong(outcome, length, x, n);
     let silent = takes_no_words(x);
     let number = refusal_number(v);
     let brings = is_delivery(e);
     let some = 0 < n;
     let given = some & ((LAST_WITH_WORDS < outcome) | silent);
-    let c1 = wrong | (((UNITS <= unit as usize) | (OUTCOMES <= outcome)) | given);
+    let c1 = (wrong | long) | (((UNITS <= unit as usize) | (OUTCOMES <= outcome)) | given);
     let c2 = !fits | !clean;
     let c11 = number == 11;
     let c12 = number == 12;
@@ -66,24 +85,26 @@ fn report_refusal(
     )
 }
 
-// A report of a unit of the channel c, which the file f serves. `wrong` says that the channel's number, the area or the state is refused 1.
+// A report of a unit of the channel c, which the file f serves. `length` is that of a record in words, `NO_LENGTH` if the report carries none. `wrong`
+// says that the channel's number, the area or the state is refused 1.
 pub fn report_on(
     wrong: bool,
     f: File,
     c: Channel,
     unit: u8,
     outcome: u8,
+    length: u32,
     w: u16,
     frozen: bool,
     area: &mut [u64],
     words: &[u64],
 ) -> ReportChange
-    ensures { λ r. ⌜ r ≡ reportOn wrong f c unit outcome w frozen (now (area .entry)) (now (words .entry)) ⌝ }
-    ensures { λ _. ⌜ now (area .exit) ≡ reportOnArea wrong f c unit outcome w (now (area .entry)) (now (words .entry)) ⌝ }
+    ensures { λ r. ⌜ r ≡ reportOn wrong f c unit outcome length w frozen (now (area .entry)) (now (words .entry)) ⌝ }
+    ensures { λ _. ⌜ now (area .exit) ≡ reportOnArea wrong f c unit outcome length w (now (area .entry)) (now (words .entry)) ⌝ }
 {
     let u = unit as usize;
     let n = words.len();
-    let v = judge(c, u, outcome);
+    let v = judge(c, u, outcome, length);
     let x = operation_of(c, u);
     let e = effect_of(0 < n, x, v);
     let looked = look(e, f, words);
@@ -91,7 +112,19 @@ pub fn report_on(
     let count = shown_count(e, f);
     let clean = part_are_words(&area[..], start, count);
     let room = block_fits(f, n);
-    let no = report_refusal(wrong, unit, outcome, x, v, e, looked.fits, clean, room, n);
+    let no = report_refusal(
+        wrong,
+        unit,
+        outcome,
+        length,
+        x,
+        v,
+        e,
+        looked.fits,
+        clean,
+        room,
+        n,
+    );
     if no != 0 {
         return refused(no, f, c);
     }
@@ -101,7 +134,8 @@ pub fn report_on(
     let file = reported_file(e, f, n, found);
     let channel = book(c, u, v, frozen);
     let working = working_number(channel);
-    let result = result_number(v);
+    let position = position_of(c, u);
+    let result = result_number(position, v);
     ReportChange {
         refusal: 0,
         result,

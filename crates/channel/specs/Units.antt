@@ -7,6 +7,7 @@ use lib.Dec.{eqb}
 use lib.ListN.{length, getD, set}
 use Rattle.channel.specs.declared.Turn.{Turn}
 use Rattle.channel.specs.declared.Turn.the-variants.{Idle, Waiting, Displaced, Working}
+use Rattle.channel.specs.declared.Position.{Position}
 use Rattle.channel.specs.declared.Unit.{Unit}
 use Rattle.channel.specs.declared.Channel.{Channel}
 use Rattle.channel.specs.declared.Work.{Work}
@@ -19,9 +20,14 @@ unitCount = 10
 abbrev pub size : Channel → ℕ
 size c = length (c .units)
 
--- a unit without a request
+-- "Each unit gains a position, zero at the fresh start: file marks passed, and records since the last mark" (document 02, M-106); and whether a
+-- noise record was met since
+abbrev pub atStart : Position
+atStart = record { marks = 0; records = 0; noisy = false }
+
+-- a unit without a request, whose reel stands at its start
 abbrev pub idleUnit : Bool → Unit
-idleUnit declared = record { declared = declared; turn = Idle }
+idleUnit declared = record { declared = declared; turn = Idle; position = atStart }
 
 -- a number that is no unit's stands for a unit that is not declared
 abbrev pub unitAt : Channel → ℕ → Unit
@@ -33,15 +39,24 @@ declaredAt c u = unitAt c u .declared
 abbrev pub turnAt : Channel → ℕ → Turn
 turnAt c u = unitAt c u .turn
 
--- the channel with another turn at unit u
-unfoldable pub withTurn : Channel → ℕ → Turn → Channel
-withTurn c u t = record { units = set (c .units) u (record { declared = declaredAt c u; turn = t }); mark = c .mark; urgent = c .urgent }
+-- where the reel of unit u stands
+abbrev pub positionAt : Channel → ℕ → Position
+positionAt c u = unitAt c u .position
+
+-- the channel with another turn and another position at unit u
+unfoldable pub withUnit : Channel → ℕ → Turn → Position → Channel
+withUnit c u t p = record { units = set (c .units) u (record { declared = declaredAt c u; turn = t; position = p }); mark = c .mark; urgent = c .urgent }
+
+-- the channel with another turn at unit u, whose reel stands where it stood
+abbrev pub withTurn : Channel → ℕ → Turn → Channel
+withTurn c u t = withUnit c u t (positionAt c u)
 
 -- the channel with other marks: of the scan for ordinary requests, and of that for priority requests
 abbrev pub withMarks : Channel → ℕ → ℕ → Channel
 withMarks c m p = record { units = c .units; mark = m; urgent = p }
 
--- "A fresh start .. drops all requests .. and resets the scans"; the units of the list are declared
+-- "A fresh start .. drops all requests .. and resets the scans"; "Each unit gains a position, zero at the fresh start"; the units of the list are
+-- declared
 unfoldable pub freshWith : List Bool → Channel
 freshWith declared = record { units = map idleUnit declared; mark = 0; urgent = 0 }
 

@@ -8,8 +8,10 @@ pub use units::fresh;
 pub use units::has_request;
 pub use units::is_declared;
 pub use units::operation_of;
+pub use units::position_of;
 pub use units::turn_of;
 pub use units::with_turn;
+pub use units::with_unit;
 
 // How many units a channel has.
 pub const UNITS: usize = 10;
@@ -20,12 +22,14 @@ pub enum Op {
     Mark,
 }
 
-// A request. `attempts` is the number of the attempt that is at work or due, `incomplete` how many incomplete words it met.
+// A request. `attempts` is the number of the attempt that is at work or due, `incomplete` how many incomplete words it met, `noise` how many
+// noise records it passed over.
 pub struct Request {
     pub op: Op,
     pub priority: bool,
     pub attempts: u8,
     pub incomplete: u8,
+    pub noise: u8,
 }
 
 // How a unit stands: it has no request, or its request waits, was displaced, or is worked for.
@@ -36,9 +40,17 @@ pub enum Turn {
     Working(Request),
 }
 
+// Where a unit's reel stands since the fresh start: the file marks passed, the records since the last of them, and whether a noise record was met.
+pub struct Position {
+    pub marks: u16,
+    pub records: u16,
+    pub noisy: bool,
+}
+
 pub struct Unit {
     pub declared: bool,
     pub turn: Turn,
+    pub position: Position,
 }
 
 // `mark` is the unit at which the next scan for ordinary requests begins, `urgent` that of the next scan for priority requests.

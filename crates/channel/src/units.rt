@@ -1,27 +1,45 @@
 // A channel's units: a fresh start, what can be seen of a unit, and another turn at one. A number that is no unit's is that of an undeclared unit.
 use crate::Channel;
+use crate::Position;
 use crate::Turn;
 use crate::UNITS;
 use crate::Unit;
 use crate::Work;
 ghost use mathlib.Core.Path.{_≡_};
-ghost use Rattle.channel.specs.Units.{freshOf, isIdle, declaredAt, turnAt, withTurn, hasRequest, acceptsAt, workOf, operationAt};
+ghost use Rattle.channel.specs.Units.{atStart, idleUnit, freshOf, isIdle, declaredAt, turnAt, positionAt, withUnit, withTurn, hasRequest, acceptsAt, workOf, operationAt};
 
-// A channel after a fresh start: unit u is declared if bit u of the mask is set, and nothing is asked for.
+// The position at a fresh start: nothing was passed or met.
+fn at_start() -> Position
+    ensures { λ r. ⌜ r ≡ atStart ⌝ }
+{
+    Position {
+        marks: 0,
+        records: 0,
+        noisy: false,
+    }
+}
+
+// A unit without a request, whose reel stands at its start.
+fn idle_unit(declared: bool) -> Unit
+    ensures { λ r. ⌜ r ≡ idleUnit declared ⌝ }
+{
+    let position = at_start();
+    Unit {
+        declared,
+        turn: Turn::Idle,
+        position,
+    }
+}
+
+// A channel after a fresh start: unit u is declared if bit u of the mask is set, nothing is asked for, and every reel stands at its start.
 pub fn fresh(mask: u16) -> Channel
     ensures { λ r. ⌜ r ≡ freshOf mask ⌝ }
 {
-    let none = Unit {
-        declared: false,
-        turn: Turn::Idle,
-    };
+    let none = idle_unit(false);
     let mut units = [none; UNITS];
     let mut i: usize = 0;
     while i < UNITS {
-        let u = Unit {
-            declared: (mask >> i) % 2 == 1,
-            turn: Turn::Idle,
-        };
+        let u = idle_unit((mask >> i) % 2 == 1);
         units[i] = u;
         i = i + 1;
     }
@@ -52,6 +70,17 @@ pub fn turn_of(c: Channel, unit: usize) -> Turn
     }
     let x = c.units[unit];
     x.turn
+}
+
+// Where the unit's reel stands.
+pub fn position_of(c: Channel, unit: usize) -> Position
+    ensures { λ r. ⌜ r ≡ positionAt c unit ⌝ }
+{
+    if UNITS <= unit {
+        return at_start();
+    }
+    let x = c.units[unit];
+    x.position
 }
 
 fn is_idle(t: Turn) -> bool
@@ -104,9 +133,9 @@ pub fn operation_of(c: Channel, unit: usize) -> Work
     work(t)
 }
 
-// The channel with another turn at the unit.
-pub fn with_turn(c: Channel, unit: usize, turn: Turn) -> Channel
-    ensures { λ r. ⌜ r ≡ withTurn c unit turn ⌝ }
+// The channel with another turn and another position at the unit.
+pub fn with_unit(c: Channel, unit: usize, turn: Turn, position: Position) -> Channel
+    ensures { λ r. ⌜ r ≡ withUnit c unit turn position ⌝ }
 {
     if UNITS <= unit {
         return c;
@@ -115,8 +144,17 @@ pub fn with_turn(c: Channel, unit: usize, turn: Turn) -> Channel
     let v = Unit {
         declared: u.declared,
         turn,
+        position,
     };
     let mut d = c;
     d.units[unit] = v;
     d
+}
+
+// The channel with another turn at the unit.
+pub fn with_turn(c: Channel, unit: usize, turn: Turn) -> Channel
+    ensures { λ r. ⌜ r ≡ withTurn c unit turn ⌝ }
+{
+    let position = position_of(c, unit);
+    with_unit(c, unit, turn, position)
 }

@@ -2,11 +2,13 @@
 use crate::Ending;
 use crate::OUTCOMES;
 use crate::Verdict;
+use crate::positions::cleaner_due;
 use channel::Op;
+use channel::Position;
 use channel::Request;
 ghost use mathlib.Core.Path.{_≡_};
 ghost use Prim.Native.Nat.{_<_};
-ghost use Rattle.channel_outcomes.specs.Rules.{opNumber, incompleteWord, rowOf, nextAttempt, goodEnding, endingOf, verdictOf, endingNumber, resultNumber, refusalNumber};
+ghost use Rattle.channel_outcomes.specs.Rules.{opNumber, incompleteWord, rowOf, isNoise, pastNoise, nextAttempt, goodEnding, endingOf, tableVerdict, verdictOf, endingNumber, repeatedNumber, resultNumber, refusalNumber};
 
 // These two outcomes are failures.
 const REDUNDANCY: usize = 1;
@@ -22,6 +24,16 @@ const NOT_ALLOWED: u8 = 255;
 const READS: u8 = 101;
 
 const WRITES: u8 = 27;
+
+// The noise records that a read passes over, and the words from which on a record is none.
+const NOISE: u8 = 100;
+
+const NO_NOISE: u32 = 3;
+
+// The result of a report that repeats the operation, and of one that asks for the cleaner pass first.
+const REPEATED: u8 = 0;
+
+const BACKSPACE: u8 = 7;
 
 // A row for each operation, indexed by outcome: the attempt from which on the outcome ends the operation.
 const RULES: [[u8; 5]; 3] = [
@@ -92,9 +104,9 @@ fn next_attempt(q: Request, outcome: u8) -> Request
     next
 }
 
-// What an outcome means for the request that is worked for.
-pub fn verdict_of(q: Request, outcome: u8) -> Verdict
-    ensures { λ r. ⌜ r ≡ verdictOf q outcome ⌝ }
+// What an outcome means, by the table, for the request that is worked for.
+fn table_verdict(q: Request, outcome: u8) -> Verdict
+    ensures { λ r. ⌜ r ≡ tableVerdict q outcome ⌝ }
 {
     if OUTCOMES <= outcome {
         return Verdict::Refused(12);
@@ -113,6 +125,46 @@ pub fn verdict_of(q: Request, outcome: u8) -> Verdict
     Verdict::Repeats(next_attempt(q, outcome))
 }
 
+// How many noise records the operation passes over.
+pub fn noise_limit(op: Op) -> u8
+    ensures { λ r. ⌜ r ≡ rowOf op .noise ⌝ }
+{
+    match op {
+        Op::Read => NOISE,
+        Op::Write => 0,
+        Op::Mark => 0,
+    }
+}
+
+// Whether the report is of a noise record, and the request passes over one more.
+fn is_noise(q: Request, outcome: u8, length: u32) -> bool
+    ensures { λ r. ⌜ r ≡ isNoise q outcome length ⌝ }
+{
+    let op = q.op;
+    let most = noise_limit(op);
+    (outcome as usize == REDUNDANCY) & ((length < NO_NOISE) & (q.noise < most))
+}
+
+// The request that has passed over one noise record more, at the attempt that it has.
+fn past_noise(q: Request) -> Request
+    requires { ⌜ q .noise < 255 ⌝ }
+    ensures { λ r. ⌜ r ≡ pastNoise q ⌝ }
+{
+    let mut next = q;
+    next.noise = q.noise + 1;
+    next
+}
+
+// What an outcome means for the request that is worked for; `length` is that of the report, in words.
+pub fn verdict_of(q: Request, outcome: u8, length: u32) -> Verdict
+    ensures { λ r. ⌜ r ≡ verdictOf q outcome length ⌝ }
+{
+    if is_noise(q, outcome, length) {
+        return Verdict::Repeats(past_noise(q));
+    }
+    table_verdict(q, outcome)
+}
+
 fn ending_number(e: Ending) -> u8
     ensures { λ r. ⌜ r ≡ endingNumber e ⌝ }
 {
@@ -126,13 +178,24 @@ fn ending_number(e: Ending) -> u8
     }
 }
 
-// Document 01's number of a report's result: 0 repeated, 1 to 6 how the operation ended, 0 for a refusal.
-pub fn result_number(v: Verdict) -> u8
-    ensures { λ r. ⌜ r ≡ resultNumber v ⌝ }
+// The result of a report that repeats the request q of a unit whose reel stands at p.
+fn repeated_number(p: Position, q: Request) -> u8
+    ensures { λ r. ⌜ r ≡ repeatedNumber p q ⌝ }
+{
+    if cleaner_due(p, q) {
+        return BACKSPACE;
+    }
+    REPEATED
+}
+
+// The number of a report's result, where the unit's reel stood at p: 0 repeated, 7 repeated after the cleaner pass, 1 to 6 how the operation ended,
+// 0 for a refusal.
+pub fn result_number(p: Position, v: Verdict) -> u8
+    ensures { λ r. ⌜ r ≡ resultNumber p v ⌝ }
 {
     match v {
         Verdict::Refused(_) => 0,
-        Verdict::Repeats(_) => 0,
+        Verdict::Repeats(q) => repeated_number(p, q),
         Verdict::Ends(e) => ending_number(e),
     }
 }

@@ -21,3 +21,4 @@ pub mod Machine
 pub mod Bound
 pub mod Bookings
 pub mod Starting
+pub mod Positions

@@ -29,8 +29,10 @@ abbrev pub station : Channel → Bool → Station
 station c frozen = record { channel = c; frozen = frozen }
 
 pub data Event : Type 0 where
+  -- unit, operation, priority
   ask : ℕ → Op → Bool → Event
-  report : ℕ → ℕ → Event
+  -- unit, outcome, length
+  report : ℕ → ℕ → ℕ → Event
   freeze thaw : Event
 
 pub data Answer : Type 0 where
@@ -62,7 +64,7 @@ reportStep frozen r = stepTo (reportAnswer (r .verdict)) (station (r .channel) f
 -- one call: the functions `ask`, `report` and `thaw`; "Freeze stops starts on all channels; reports are still booked"
 unfoldable pub step : Station → Event → Step
 step s (ask u op priority) = askStep (s .frozen) (askOf (s .channel) u op priority (s .frozen))
-step s (report u outcome) = reportStep (s .frozen) (reportOf (s .channel) u outcome (s .frozen))
+step s (report u outcome length) = reportStep (s .frozen) (reportOf (s .channel) u outcome length (s .frozen))
 step s freeze = stepTo accepted (station (s .channel) true)
 step s thaw = stepTo accepted (station (thawOf (s .channel)) false)
 
@@ -104,28 +106,28 @@ aReport e answered = true
 -- an accepted report of unit u
 abbrev pub aReportOf : ℕ → Event → Answer → Bool
 aReportOf u (ask x op p) a = false
-aReportOf u (report x o) a = eqb x u && aReport (report x o) a
+aReportOf u (report x o l) a = eqb x u && aReport (report x o l) a
 aReportOf u freeze a = false
 aReportOf u thaw a = false
 
 -- an accepted priority request
 abbrev pub aPriority : Event → Answer → Bool
 aPriority (ask x op p) a = p && isAccepted a
-aPriority (report x o) a = false
+aPriority (report x o l) a = false
 aPriority freeze a = false
 aPriority thaw a = false
 
 -- an accepted request of unit u
 abbrev pub aRequestOf : ℕ → Event → Answer → Bool
 aRequestOf u (ask x op p) a = eqb x u && isAccepted a
-aRequestOf u (report x o) a = false
+aRequestOf u (report x o l) a = false
 aRequestOf u freeze a = false
 aRequestOf u thaw a = false
 
 -- an answer to the request of unit u
 abbrev pub anAnswerTo : ℕ → Event → Answer → Bool
 anAnswerTo u (ask x op p) a = false
-anAnswerTo u (report x o) a = eqb x u && isAnswered a
+anAnswerTo u (report x o l) a = eqb x u && isAnswered a
 anAnswerTo u freeze a = false
 anAnswerTo u thaw a = false
 
@@ -155,12 +157,13 @@ pub record KeptWithin (most u : ℕ) (d : Station) (later : List Event) : Type 0
   -- and fewer reports than that have been accepted
   pub soon : count (anAnswerTo u) d later ≡ 0 → count aReport d later < most
 
--- Demand 3, of an ordinary request on a channel with U declared units: s is the state when the request was accepted. It is answered by the
--- time that 101 × (U + P) reports have been accepted, where P counts the priority requests that had no answer when it was accepted and
+-- Demand 3, with 201 for its 101 (M-106), of an ordinary request on a channel with U declared units: s is the state when the request was accepted. It is answered by the
+-- time that 201 × (U + P) reports have been accepted, where P counts the priority requests that had no answer when it was accepted and
 -- those that were accepted since.
 abbrev pub Kept : ℕ → ℕ → Station → Station → List Event → Type 0
 Kept U u s d later = KeptWithin (mostReports * (U + (urgentIn (s .channel) + count aPriority d later))) u d later
 
--- M-112, of a priority request: "answered by the time 101 × U + 1 reports have been accepted on its channel"
+-- M-112, of a priority request: "answered by the time 101 × U + 1 reports have been accepted on its channel (201 for 101 with
+-- M-106)"
 abbrev pub KeptUrgent : ℕ → ℕ → Station → List Event → Type 0
 KeptUrgent U u d later = KeptWithin (mostReports * U + 1) u d later

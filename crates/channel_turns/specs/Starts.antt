@@ -37,7 +37,7 @@ thawOf c = startOf c false
 -- ---- ask
 
 abbrev pub newRequest : Op → Bool → Request
-newRequest op priority = record { op = op; priority = priority; attempts = 1; incomplete = 0 }
+newRequest op priority = record { op = op; priority = priority; attempts = 1; incomplete = 0; noise = 0 }
 
 -- "A unit holds one unanswered request at most": accepted if the unit is declared and has none
 unfoldable pub askOf : Channel → ℕ → Op → Bool → Bool → Asked

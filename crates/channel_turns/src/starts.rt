@@ -68,6 +68,7 @@ pub fn ask(c: Channel, unit: usize, op: Op, priority: bool, frozen: bool) -> Ask
             priority,
             attempts: 1,
             incomplete: 0,
+            noise: 0,
         };
         let d = with_turn(c, unit, Turn::Waiting(q));
         let e = start(d, frozen);

@@ -28,8 +28,8 @@ use Rattle.channel.specs.declared.Work.the-variants.{At, Nothing}
 use Rattle.channel_outcomes.specs.declared.Ending.{Ending}
 use Rattle.channel_outcomes.specs.declared.Verdict.{Verdict}
 use Rattle.channel_outcomes.specs.declared.Verdict.the-variants.{Repeats, Ends}
-use Rattle.channel_outcomes.specs.Rules.{isAllowed, isFailure, isPermanent, nextAttempt, endingOf, verdictOf, resultNumber, outcomeCount, incompleteWord}
-use Rattle.channel.specs.Units.{turnAt, workOf, operationAt, unitCount}
+use Rattle.channel_outcomes.specs.Rules.{isAllowed, isFailure, isPermanent, isNoise, pastNoise, nextAttempt, endingOf, tableVerdict, verdictOf, resultNumber, outcomeCount, incompleteWord}
+use Rattle.channel.specs.Units.{turnAt, positionAt, workOf, operationAt, unitCount}
 use Rattle.channel_turns.specs.Scans.{workingIn, unitNumber}
 use Rattle.channel_turns.specs.Turns.{judgeTurn, judgeOf, bookOf, reportOf}
 use Rattle.channel_theorems.specs.History.{station, report, stepTo, reportAnswer, step, aReport}
@@ -63,40 +63,44 @@ use Rattle.call_request.specs.declared.Effect.{Effect}
 use Rattle.call_request.specs.declared.ReportChange.{ReportChange}
 use Rattle.pack_request.specs.declared.Reporting.{Reporting}
 use Rattle.call_request.specs.Effects.{effectOf, opEffect, isDelivery}
-use Rattle.call_request.specs.Report.{isIdleFor, takesNoWords, isForbidden, shownStart, shownCount, shownBlock, effectAt, reportRows, reportRefusal, deliveryCheck, deliveryOf, reportedFile, refusedReport, reportOn, reportOnArea}
+use Rattle.call_request.specs.Report.{isIdleFor, takesNoWords, isForbidden, lengthWrong, shownStart, shownCount, shownBlock, effectAt, reportRows, reportRefusal, deliveryCheck, deliveryOf, reportedFile, refusedReport, reportOn, reportOnArea}
 use Rattle.pack_request.specs.Calls.{fileOf, reportWrong, reportBy, reportByArea}
 use Rattle.pack_request.proofs.Ready.{not-false, ended-file}
 use Rattle.pack_request.proofs.Changed.{Frame, changed-refused, changed-taken, changed-frame, here-file, here-channel, became-sound}
 
 -- ---- what a report that is booked comes to
 
-pub data Booked (c : Channel) (u outcome : ℕ) : Type 0 where
-  again : (r q : Request) → turnAt c u ≡ Working r → judgeOf c u outcome ≡ Repeats q → Booked c u outcome
-  ended : (r : Request) (e : Ending) → turnAt c u ≡ Working r → judgeOf c u outcome ≡ Ends e → Booked c u outcome
+pub data Booked (c : Channel) (u outcome len : ℕ) : Type 0 where
+  again : (r q : Request) → turnAt c u ≡ Working r → judgeOf c u outcome len ≡ Repeats q → Booked c u outcome len
+  ended : (r : Request) (e : Ending) → turnAt c u ≡ Working r → judgeOf c u outcome len ≡ Ends e → Booked c u outcome len
 
-pub booked : (c : Channel) (u outcome : ℕ) → isIdleFor (operationAt c u) ≡ false → isForbidden (operationAt c u) outcome ≡ false → Booked c u outcome
-unfolding operationAt judgeOf verdictOf
-booked c u outcome = go (turnAt c u) refl
+pub booked : (c : Channel) (u outcome len : ℕ) → isIdleFor (operationAt c u) ≡ false → isForbidden (operationAt c u) outcome ≡ false → Booked c u outcome len
+unfolding operationAt judgeOf verdictOf tableVerdict
+booked c u outcome len = go (turnAt c u) refl
   where
-    judged-as : (r : Request) (a b : Bool) → turnAt c u ≡ Working r → isAllowed (r .op) outcome ≡ a → (not (isFailure outcome) || isPermanent r outcome) ≡ b → a ≡ true → Booked c u outcome
-    judged-as r true true i p q h = ended r (endingOf (r .op) (r .attempts) outcome) i (ap (λ (t : Turn). judgeTurn t outcome) i ∙ rw (p, q))
-    judged-as r true false i p q h = again r (nextAttempt r outcome) i (ap (λ (t : Turn). judgeTurn t outcome) i ∙ rw (p, q))
-    judged-as r false b i p q h = true-not-false h refl
+    judged-as : (r : Request) (n a b : Bool) → turnAt c u ≡ Working r → isNoise r outcome len ≡ n → isAllowed (r .op) outcome ≡ a
+        → (not (isFailure outcome) || isPermanent r outcome) ≡ b → a ≡ true → Booked c u outcome len
+    judged-as r true a b i l p q h = again r (pastNoise r) i (ap (λ (t : Turn). judgeTurn t outcome len) i ∙ rw l)
+    judged-as r false true true i l p q h = ended r (endingOf (r .op) (r .attempts) outcome) i (ap (λ (t : Turn). judgeTurn t outcome len) i ∙ rw (l, p, q))
+    judged-as r false true false i l p q h = again r (nextAttempt r outcome) i (ap (λ (t : Turn). judgeTurn t outcome len) i ∙ rw (l, p, q))
+    judged-as r false false b i l p q h = true-not-false h refl
 
-    go : (t : Turn) → turnAt c u ≡ t → isIdleFor (workOf t) ≡ false → isForbidden (workOf t) outcome ≡ false → Booked c u outcome
+    go : (t : Turn) → turnAt c u ≡ t → isIdleFor (workOf t) ≡ false → isForbidden (workOf t) outcome ≡ false → Booked c u outcome len
     go Idle i w a = true-not-false refl w
     go (Waiting q) i w a = true-not-false refl w
     go (Displaced q) i w a = true-not-false refl w
-    go (Working r) i w a = judged-as r (isAllowed (r .op) outcome) (not (isFailure outcome) || isPermanent r outcome) i refl refl (not-false (isAllowed (r .op) outcome) a)
+    go (Working r) i w a =
+        judged-as r (isNoise r outcome len) (isAllowed (r .op) outcome) (not (isFailure outcome) || isPermanent r outcome) i refl refl refl
+        (not-false (isAllowed (r .op) outcome) a)
 
 -- it is booked by the channel too
-booked-answer : (c : Channel) (u outcome : ℕ) → Booked c u outcome → aReport (report u outcome) (reportAnswer (judgeOf c u outcome)) ≡ true
-booked-answer c u outcome (again r q i j) = ap (λ (v : Verdict). aReport (report u outcome) (reportAnswer v)) j
-booked-answer c u outcome (ended r e i j) = ap (λ (v : Verdict). aReport (report u outcome) (reportAnswer v)) j
+booked-answer : (c : Channel) (u outcome len : ℕ) → Booked c u outcome len → aReport (report u outcome len) (reportAnswer (judgeOf c u outcome len)) ≡ true
+booked-answer c u outcome len (again r q i j) = ap (λ (v : Verdict). aReport (report u outcome len) (reportAnswer v)) j
+booked-answer c u outcome len (ended r e i j) = ap (λ (v : Verdict). aReport (report u outcome len) (reportAnswer v)) j
 
-busy : (c : Channel) (u outcome : ℕ) → Booked c u outcome → isNone (requested (turnAt c u)) ≡ false
-busy c u outcome (again r q i j) = ap (λ (t : Turn). isNone (requested t)) i
-busy c u outcome (ended r e i j) = ap (λ (t : Turn). isNone (requested t)) i
+busy : (c : Channel) (u outcome len : ℕ) → Booked c u outcome len → isNone (requested (turnAt c u)) ≡ false
+busy c u outcome len (again r q i j) = ap (λ (t : Turn). isNone (requested t)) i
+busy c u outcome len (ended r e i j) = ap (λ (t : Turn). isNone (requested t)) i
 
 -- ---- what is found may stand with the block
 
@@ -130,41 +134,43 @@ serving fs c u n p = go (servingFile fs c u) refl
 
 -- ---- what an accepted report found
 
-pub record ReportReady (wrong : Bool) (f : File) (c : Channel) (u outcome w : ℕ) (area words : List ℕ) : Type 0 where
+pub record ReportReady (wrong : Bool) (f : File) (c : Channel) (u outcome len w : ℕ) (area words : List ℕ) : Type 0 where
   pub right : wrong ≡ false
+  pub measure : lengthWrong outcome len (operationAt c u) (length words) ≡ false
   pub range : (leb unitCount u || leb outcomeCount outcome) ≡ false
   pub given : allOf isWord words ≡ true
-  pub handed : allOf isWord (shownBlock (effectAt c u outcome (length words)) w f area) ≡ true
+  pub handed : allOf isWord (shownBlock (effectAt c u outcome len (length words)) w f area) ≡ true
   pub works : isIdleFor (operationAt c u) ≡ false
   pub allowed : isForbidden (operationAt c u) outcome ≡ false
-  pub fits : isDelivery (effectAt c u outcome (length words)) ≡ true → blockFits f (length words) ≡ true
+  pub fits : isDelivery (effectAt c u outcome len (length words)) ≡ true → blockFits f (length words) ≡ true
 
 and-not : (a w b : Bool) → ((a || w) && not b) ≡ false → a ≡ true → b ≡ true
 and-not true w b e t = not-false b e
 and-not false w b e t = true-not-false t refl
 
-pub report-ready : (wrong : Bool) (f : File) (c : Channel) (u outcome w : ℕ) (area words : List ℕ) → reportRefusal wrong f c u outcome w area words ≡ 0
-    → ReportReady wrong f c u outcome w area words
+pub report-ready : (wrong : Bool) (f : File) (c : Channel) (u outcome len w : ℕ) (area words : List ℕ) → reportRefusal wrong f c u outcome len w area words ≡ 0
+    → ReportReady wrong f c u outcome len w area words
 unfolding reportRefusal
-report-ready wrong f c u outcome w area words z =
-    let a = lowest-none 1 (wrong || ((leb unitCount u || leb outcomeCount outcome) || (ltb 0 (length words) && (ltb incompleteWord outcome || takesNoWords (operationAt c u))))) _ (λ q. omega arith) z in
-    let b = lowest-none 2 (not (allOf isWord words) || not (allOf isWord (shownBlock (effectAt c u outcome (length words)) w f area))) _ (λ q. omega arith) (a .1) in
+report-ready wrong f c u outcome len w area words z =
+    let a = lowest-none 1 ((wrong || lengthWrong outcome len (operationAt c u) (length words)) || ((leb unitCount u || leb outcomeCount outcome) || (ltb 0 (length words) && (ltb incompleteWord outcome || takesNoWords (operationAt c u))))) _ (λ q. omega arith) z in
+    let b = lowest-none 2 (not (allOf isWord words) || not (allOf isWord (shownBlock (effectAt c u outcome len (length words)) w f area))) _ (λ q. omega arith) (a .1) in
     let d = lowest-none 11 _ _ (λ q. omega arith) (b .1) in
     let e = lowest-none 12 _ _ (λ q. omega arith) (d .1) in
-    let g = lowest-none 13 ((isDelivery (effectAt c u outcome (length words)) || ltb 0 (length words)) && not (blockFits f (length words))) _ (λ q. omega arith) (e .1) in
+    let g = lowest-none 13 ((isDelivery (effectAt c u outcome len (length words)) || ltb 0 (length words)) && not (blockFits f (length words))) _ (λ q. omega arith) (e .1) in
     record {
-      right = or-left wrong _ (a .0);
-      range = or-left (leb unitCount u || leb outcomeCount outcome) _ (or-right wrong _ (a .0));
+      right = or-left wrong _ (or-left (wrong || lengthWrong outcome len (operationAt c u) (length words)) _ (a .0));
+      measure = or-right wrong _ (or-left (wrong || lengthWrong outcome len (operationAt c u) (length words)) _ (a .0));
+      range = or-left (leb unitCount u || leb outcomeCount outcome) _ (or-right (wrong || lengthWrong outcome len (operationAt c u) (length words)) _ (a .0));
       given = not-false (allOf isWord words) (or-left (not (allOf isWord words)) _ (b .0));
       handed = not-false _ (or-right (not (allOf isWord words)) _ (b .0));
       works = d .0;
       allowed = e .0;
-      fits = and-not (isDelivery (effectAt c u outcome (length words))) (ltb 0 (length words)) (blockFits f (length words)) (g .0);
+      fits = and-not (isDelivery (effectAt c u outcome len (length words))) (ltb 0 (length words)) (blockFits f (length words)) (g .0);
     }
 
 -- ---- the call on a state
 
-module _ (s : State) (area : List ℕ) (channel unit outcome : ℕ) (words : List ℕ) where
+module _ (s : State) (area : List ℕ) (channel unit outcome len : ℕ) (words : List ℕ) where
   abbrev i : ℕ
   i = fileOf s channel unit
 
@@ -178,25 +184,25 @@ module _ (s : State) (area : List ℕ) (channel unit outcome : ℕ) (words : Lis
   wrong = reportWrong s (length area) channel
 
   abbrev rows : Rows
-  rows = reportRows wrong f c unit outcome (s .w) area words
+  rows = reportRows wrong f c unit outcome len (s .w) area words
 
   abbrev refusal : ℕ
-  refusal = reportRefusal wrong f c unit outcome (s .w) area words
+  refusal = reportRefusal wrong f c unit outcome len (s .w) area words
 
   abbrev reported : Reporting
-  reported = reportBy s area channel unit outcome words
+  reported = reportBy s area channel unit outcome len words
 
   abbrev after : List ℕ
-  after = reportByArea s area channel unit outcome words
+  after = reportByArea s area channel unit outcome len words
 
   abbrev change : ReportChange
-  change = reportOn wrong f c unit outcome (s .w) (s .frozen) area words
+  change = reportOn wrong f c unit outcome len (s .w) (s .frozen) area words
 
   abbrev effect : Effect
-  effect = effectAt c unit outcome (length words)
+  effect = effectAt c unit outcome len (length words)
 
   abbrev booking : Channel
-  booking = bookOf c unit (judgeOf c unit outcome) (s .frozen)
+  booking = bookOf c unit (judgeOf c unit outcome len) (s .frozen)
 
   abbrev became : File
   became = reportedFile effect f (length words) (deliveryCheck effect f words)
@@ -207,7 +213,7 @@ module _ (s : State) (area : List ℕ) (channel unit outcome : ℕ) (words : Lis
 
   change-booked : refusal ≡ 0 → change ≡ record {
     refusal = 0;
-    result = resultNumber (judgeOf c unit outcome);
+    result = resultNumber (positionAt c unit) (judgeOf c unit outcome len);
     delivery = deliveryOf effect (deliveryCheck effect f words);
     working = unitNumber (workingIn booking);
     start = shownStart effect (s .w) f;
@@ -265,8 +271,8 @@ module _ (s : State) (area : List ℕ) (channel unit outcome : ℕ) (words : Lis
   report-frame = changed-frame s i channel _ _ _
 
   module _ (sixteen : length (s .files) ≡ fileCount) (z : refusal ≡ 0) where
-    ready : ReportReady wrong f c unit outcome (s .w) area words
-    ready = report-ready wrong f c unit outcome (s .w) area words z
+    ready : ReportReady wrong f c unit outcome len (s .w) area words
+    ready = report-ready wrong f c unit outcome len (s .w) area words z
 
     pub report-was-sound : sound s ≡ true
     report-was-sound = not-false (sound s) (or-left (not (sound s)) _ (ready .right))
@@ -274,11 +280,11 @@ module _ (s : State) (area : List ℕ) (channel unit outcome : ℕ) (words : Lis
     pub facts : SoundFacts s
     facts = sound-facts s report-was-sound
 
-    pub view : Booked c unit outcome
-    view = booked c unit outcome (ready .works) (ready .allowed)
+    pub view : Booked c unit outcome len
+    view = booked c unit outcome len (ready .works) (ready .allowed)
 
     serves-it : serves channel unit f ≡ true
-    serves-it = serving (s .files) channel unit sixteen (facts .served channel unit (busy c unit outcome view))
+    serves-it = serving (s .files) channel unit sixteen (facts .served channel unit (busy c unit outcome len view))
 
     pub isOpen : f .opened ≡ true
     isOpen = and-left (f .opened) _ serves-it
@@ -302,11 +308,11 @@ module _ (s : State) (area : List ℕ) (channel unit outcome : ℕ) (words : Lis
         To : Work → Verdict → Type 0
         To x v = SoundFacts (withFile (withChannel s channel (bookOf c unit v (s .frozen))) i (reportedFile (effectOf (ltb 0 (length words)) x v) f (length words) found))
 
-        go : Booked c unit outcome → (isDelivery effect ≡ true → blockFits f (length words) ≡ true) → To (operationAt c unit) (judgeOf c unit outcome)
+        go : Booked c unit outcome len → (isDelivery effect ≡ true → blockFits f (length words) ≡ true) → To (operationAt c unit) (judgeOf c unit outcome len)
         go (again r q t j) k =
             subst (To (operationAt c unit)) (sym j)
             (became-sound s i channel unit (bookOf c unit (Repeats q) (s .frozen)) f (requested (turnAt c unit)) facts isOpen on-channel on-unit
-            (repeat-moved (s .m) c unit (s .frozen) (facts .channels channel) outcome q j)
+            (repeat-moved (s .m) c unit (s .frozen) (facts .channels channel) outcome len q j)
             (record { sound = facts .files i isOpen; ready = requested-ready; alike = alike-self f }))
         go (ended r e t j) k =
             let w : operationAt c unit ≡ At (r .op) = ap workOf t in
@@ -314,7 +320,7 @@ module _ (s : State) (area : List ℕ) (channel unit outcome : ℕ) (words : Lis
             subst (To (operationAt c unit)) (sym j)
             (subst (λ (x : Work). To x (Ends e)) (sym w)
             (became-sound s i channel unit (bookOf c unit (Ends e) (s .frozen)) _ Nothing facts isOpen on-channel on-unit
-            (end-moved (s .m) c unit (s .frozen) (facts .channels channel) outcome e j)
+            (end-moved (s .m) c unit (s .frozen) (facts .channels channel) outcome len e j)
             (ended-file (s .m) (s .w) f (length words) found (facts .files i isOpen) right exact (ltb 0 (length words)) (r .op) e
             (sym (ap (λ (x : Turn). fileReady (requested x) f) t) ∙ requested-ready) (λ b. k (ap isDelivery here ∙ b)))))
 
@@ -324,12 +330,12 @@ module _ (s : State) (area : List ℕ) (channel unit outcome : ℕ) (words : Lis
         here-channel s i channel _ _ _ (booked-number z) (subst (λ (n : ℕ). n < length (s .channels)) on-channel (line-of s facts i isOpen))
         ∙ ap (λ (x : ReportChange). x .channel) (change-booked z)
 
-    reported-event : Agrees (station c (s .frozen)) (some (record { event = report unit outcome; answer = reportAnswer (judgeOf c unit outcome) }))
+    reported-event : Agrees (station c (s .frozen)) (some (record { event = report unit outcome len; answer = reportAnswer (judgeOf c unit outcome len) }))
         (station (channelAt (reported .state) channel) (reported .state .frozen))
     unfolding step reportOf
     reported-event =
-        ap (λ (d : Channel). stepTo (reportAnswer (judgeOf c unit outcome)) (station d (s .frozen))) (sym reported-channel)
-        ∙ ap (λ (b : Bool). stepTo (reportAnswer (judgeOf c unit outcome)) (station (channelAt (reported .state) channel) b)) (sym (report-frame .frozen))
+        ap (λ (d : Channel). stepTo (reportAnswer (judgeOf c unit outcome len)) (station d (s .frozen))) (sym reported-channel)
+        ∙ ap (λ (b : Bool). stepTo (reportAnswer (judgeOf c unit outcome len)) (station (channelAt (reported .state) channel) b)) (sym (report-frame .frozen))
 
     -- no other file serves that unit
     only-file : (k : ℕ) → serves channel unit (fileAt s k) ≡ true → k ≡ i
@@ -353,12 +359,12 @@ module _ (s : State) (area : List ℕ) (channel unit outcome : ℕ) (words : Lis
 
   -- an accepted report is one event of its channel, which the channel books too
   pub record ReportEvent : Type 0 where
-    pub event : Agrees (station c (s .frozen)) (some (record { event = report unit outcome; answer = reportAnswer (judgeOf c unit outcome) }))
+    pub event : Agrees (station c (s .frozen)) (some (record { event = report unit outcome len; answer = reportAnswer (judgeOf c unit outcome len) }))
         (station (channelAt (reported .state) channel) (reported .state .frozen))
-    pub counted : aReport (report unit outcome) (reportAnswer (judgeOf c unit outcome)) ≡ true
+    pub counted : aReport (report unit outcome len) (reportAnswer (judgeOf c unit outcome len)) ≡ true
 
   pub report-event : length (s .files) ≡ fileCount → reported .refusal ≡ 0 → ReportEvent
-  report-event n z = let y = sym report-number ∙ z in record { event = reported-event n y; counted = booked-answer c unit outcome (view n y) }
+  report-event n z = let y = sym report-number ∙ z in record { event = reported-event n y; counted = booked-answer c unit outcome len (view n y) }
 
   -- A late completion cannot be booked to another file: the channel was working for the unit, one file alone is open on that unit, and that
   -- file and the channel are all that may change.

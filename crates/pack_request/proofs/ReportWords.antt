@@ -2,7 +2,7 @@
 -- write lies in the area and its words are below 2^36. Assumes nothing.
 use mathlib.Core.Path.{_≡_, refl, sym, ap, _∙_}
 use mathlib.Core.Logic.{_⊎_, ⊎-elim}
-use mathlib.Core.Bool.{Bool, true, false, not, _&&_, _||_, and-false}
+use mathlib.Core.Bool.{Bool, true, false, not, cond, _&&_, _||_, and-false}
 use mathlib.Core.List.{List}
 use Prim.Native.Nat.{ℕ, _+_, _-_, _*_, _≤_, _<_}
 use native.Mathlib.Nat.{suc-mul}
@@ -18,6 +18,8 @@ use Rattle.area.proofs.Walks.{true-not-false, or-left, or-right}
 use Rattle.area.proofs.Pastes.{length-part, paste-fitting, length-paste, paste-before, paste-after}
 use Rattle.channel.specs.declared.Op.{Op}
 use Rattle.channel.specs.declared.Op.the-variants.{Read, Write, Mark}
+use Rattle.channel.specs.declared.Position.{Position}
+use Rattle.channel.specs.declared.Request.{Request}
 use Rattle.channel.specs.declared.Turn.{Turn}
 use Rattle.channel.specs.declared.Channel.{Channel}
 use Rattle.channel.specs.declared.Work.{Work}
@@ -26,7 +28,8 @@ use Rattle.channel_outcomes.specs.declared.Ending.{Ending}
 use Rattle.channel_outcomes.specs.declared.Ending.the-variants.{Good, Opposite, MarkRead, MediumEnd, LostRedundancy, LostIncomplete}
 use Rattle.channel_outcomes.specs.declared.Verdict.{Verdict}
 use Rattle.channel_outcomes.specs.declared.Verdict.the-variants.{Refused, Repeats, Ends}
-use Rattle.channel_outcomes.specs.Rules.{resultNumber}
+use Rattle.channel_outcomes.specs.Positions.{cleanerDue}
+use Rattle.channel_outcomes.specs.Rules.{repeatedNumber, resultNumber}
 use Rattle.channel.specs.Units.{turnAt, workOf, operationAt}
 use Rattle.file.specs.declared.File.{File}
 use Rattle.file.specs.Sides.{bufferAt, startAt, isSide, takenSide}
@@ -69,51 +72,61 @@ isLost result = eqb result 5 || eqb result 6
 abbrev isDone : ℕ → Bool
 isDone result = eqb result 1 || eqb result 4
 
+-- a repeated operation's result is none of them
+repeated-not : (p : Position) (q : Request) (some : Bool)
+    → ((isGood (repeatedNumber p q) || (isLost (repeatedNumber p q) && some)) ≡ false) × (isDone (repeatedNumber p q) ≡ false)
+unfolding repeatedNumber
+repeated-not p q some = go (cleanerDue p q)
+  where
+    go : (b : Bool) → ((isGood (cond b 7 0) || (isLost (cond b 7 0) && some)) ≡ false) × (isDone (cond b 7 0) ≡ false)
+    go true = (refl, refl)
+    go false = (refl, refl)
+
 -- a block is delivered exactly by a read that ends with 01 or 02, or with 05 or 06 and words
-pub delivers-exactly : (some : Bool) (x : Work) (v : Verdict) → isDelivery (effectOf some x v) ≡ (isRead x && (isGood (resultNumber v) || (isLost (resultNumber v) && some)))
-delivers-exactly some (At op) (Refused n) = sym (and-false (isReadOp op))
-delivers-exactly some (At op) (Repeats q) = sym (and-false (isReadOp op))
-delivers-exactly some (At Read) (Ends Good) = refl
-delivers-exactly some (At Read) (Ends Opposite) = refl
-delivers-exactly some (At Read) (Ends MarkRead) = refl
-delivers-exactly some (At Read) (Ends MediumEnd) = refl
-delivers-exactly true (At Read) (Ends LostRedundancy) = refl
-delivers-exactly false (At Read) (Ends LostRedundancy) = refl
-delivers-exactly true (At Read) (Ends LostIncomplete) = refl
-delivers-exactly false (At Read) (Ends LostIncomplete) = refl
-delivers-exactly some (At Write) (Ends Good) = refl
-delivers-exactly some (At Write) (Ends Opposite) = refl
-delivers-exactly some (At Write) (Ends MarkRead) = refl
-delivers-exactly some (At Write) (Ends MediumEnd) = refl
-delivers-exactly some (At Write) (Ends LostRedundancy) = refl
-delivers-exactly some (At Write) (Ends LostIncomplete) = refl
-delivers-exactly some (At Mark) (Ends e) = refl
-delivers-exactly some Nothing (Refused n) = refl
-delivers-exactly some Nothing (Repeats q) = refl
-delivers-exactly some Nothing (Ends e) = refl
+pub delivers-exactly : (some : Bool) (x : Work) (p : Position) (v : Verdict) → isDelivery (effectOf some x v) ≡ (isRead x && (isGood (resultNumber p v) || (isLost (resultNumber p v) && some)))
+delivers-exactly some (At op) p (Refused n) = sym (and-false (isReadOp op))
+delivers-exactly some (At op) p (Repeats q) = sym (ap (λ (b : Bool). isReadOp op && b) (repeated-not p q some .0) ∙ and-false (isReadOp op))
+delivers-exactly some (At Read) p (Ends Good) = refl
+delivers-exactly some (At Read) p (Ends Opposite) = refl
+delivers-exactly some (At Read) p (Ends MarkRead) = refl
+delivers-exactly some (At Read) p (Ends MediumEnd) = refl
+delivers-exactly true (At Read) p (Ends LostRedundancy) = refl
+delivers-exactly false (At Read) p (Ends LostRedundancy) = refl
+delivers-exactly true (At Read) p (Ends LostIncomplete) = refl
+delivers-exactly false (At Read) p (Ends LostIncomplete) = refl
+delivers-exactly some (At Write) p (Ends Good) = refl
+delivers-exactly some (At Write) p (Ends Opposite) = refl
+delivers-exactly some (At Write) p (Ends MarkRead) = refl
+delivers-exactly some (At Write) p (Ends MediumEnd) = refl
+delivers-exactly some (At Write) p (Ends LostRedundancy) = refl
+delivers-exactly some (At Write) p (Ends LostIncomplete) = refl
+delivers-exactly some (At Mark) p (Ends e) = refl
+delivers-exactly some Nothing p (Refused n) = refl
+delivers-exactly some Nothing p (Repeats q) = refl
+delivers-exactly some Nothing p (Ends e) = refl
 
 -- a block is handed out exactly by a write that ends with 01 or 04
-pub sends-exactly : (some : Bool) (x : Work) (v : Verdict) → isSending (effectOf some x v) ≡ (isWrite x && isDone (resultNumber v))
-sends-exactly some (At op) (Refused n) = sym (and-false (isWriteOp op))
-sends-exactly some (At op) (Repeats q) = sym (and-false (isWriteOp op))
-sends-exactly some (At Read) (Ends Good) = refl
-sends-exactly some (At Read) (Ends Opposite) = refl
-sends-exactly some (At Read) (Ends MarkRead) = refl
-sends-exactly some (At Read) (Ends MediumEnd) = refl
-sends-exactly true (At Read) (Ends LostRedundancy) = refl
-sends-exactly false (At Read) (Ends LostRedundancy) = refl
-sends-exactly true (At Read) (Ends LostIncomplete) = refl
-sends-exactly false (At Read) (Ends LostIncomplete) = refl
-sends-exactly some (At Write) (Ends Good) = refl
-sends-exactly some (At Write) (Ends Opposite) = refl
-sends-exactly some (At Write) (Ends MarkRead) = refl
-sends-exactly some (At Write) (Ends MediumEnd) = refl
-sends-exactly some (At Write) (Ends LostRedundancy) = refl
-sends-exactly some (At Write) (Ends LostIncomplete) = refl
-sends-exactly some (At Mark) (Ends e) = refl
-sends-exactly some Nothing (Refused n) = refl
-sends-exactly some Nothing (Repeats q) = refl
-sends-exactly some Nothing (Ends e) = refl
+pub sends-exactly : (some : Bool) (x : Work) (p : Position) (v : Verdict) → isSending (effectOf some x v) ≡ (isWrite x && isDone (resultNumber p v))
+sends-exactly some (At op) p (Refused n) = sym (and-false (isWriteOp op))
+sends-exactly some (At op) p (Repeats q) = sym (ap (λ (b : Bool). isWriteOp op && b) (repeated-not p q some .1) ∙ and-false (isWriteOp op))
+sends-exactly some (At Read) p (Ends Good) = refl
+sends-exactly some (At Read) p (Ends Opposite) = refl
+sends-exactly some (At Read) p (Ends MarkRead) = refl
+sends-exactly some (At Read) p (Ends MediumEnd) = refl
+sends-exactly true (At Read) p (Ends LostRedundancy) = refl
+sends-exactly false (At Read) p (Ends LostRedundancy) = refl
+sends-exactly true (At Read) p (Ends LostIncomplete) = refl
+sends-exactly false (At Read) p (Ends LostIncomplete) = refl
+sends-exactly some (At Write) p (Ends Good) = refl
+sends-exactly some (At Write) p (Ends Opposite) = refl
+sends-exactly some (At Write) p (Ends MarkRead) = refl
+sends-exactly some (At Write) p (Ends MediumEnd) = refl
+sends-exactly some (At Write) p (Ends LostRedundancy) = refl
+sends-exactly some (At Write) p (Ends LostIncomplete) = refl
+sends-exactly some (At Mark) p (Ends e) = refl
+sends-exactly some Nothing p (Refused n) = refl
+sends-exactly some Nothing p (Repeats q) = refl
+sends-exactly some Nothing p (Ends e) = refl
 
 delivery-taken : (some : Bool) (op : Op) (e : Ending) (f : File) → fileReady (At op) f ≡ true → isDelivery (opEffect some op e) ≡ true → takenCount f ≡ 1
 delivery-taken some Read e f h b = ready-facts (At Read) f h .taken
@@ -137,14 +150,14 @@ sending-full false Read LostIncomplete f h b = true-not-false b refl
 sending-full some Write e f h b = ready-facts (At Write) f h .block
 sending-full some Mark e f h b = true-not-false b refl
 
-module _ (c : Channel) (u outcome n : ℕ) (f : File) (ready : fileReady (requested (turnAt c u)) f ≡ true) where
+module _ (c : Channel) (u outcome len n : ℕ) (f : File) (ready : fileReady (requested (turnAt c u)) f ≡ true) where
   by-ending : (test : Effect → Bool) (P : Type 0) → test Keeps ≡ false
       → ((op : Op) (e : Ending) → fileReady (At op) f ≡ true → test (opEffect (ltb 0 n) op e) ≡ true → P)
-      → Booked c u outcome → test (effectAt c u outcome n) ≡ true → P
+      → Booked c u outcome len → test (effectAt c u outcome len n) ≡ true → P
   unfolding operationAt
   by-ending test P none k (again r q t j) b = true-not-false b (ap (λ (v : Verdict). test (effectOf (ltb 0 n) (operationAt c u) v)) j ∙ none)
   by-ending test P none k (ended r e t j) b =
-      let here : effectAt c u outcome n ≡ opEffect (ltb 0 n) (r .op) e = ap (effectOf (ltb 0 n) (operationAt c u)) j ∙ ap (λ (y : Turn). effectOf (ltb 0 n) (workOf y) (Ends e)) t in
+      let here : effectAt c u outcome len n ≡ opEffect (ltb 0 n) (r .op) e = ap (effectOf (ltb 0 n) (operationAt c u)) j ∙ ap (λ (y : Turn). effectOf (ltb 0 n) (workOf y) (Ends e)) t in
       k (r .op) e (sym (ap (λ (y : Turn). fileReady (requested y) f) t) ∙ ready) (sym (ap test here) ∙ b)
 
 -- ---- a word before or after what is pasted
@@ -162,7 +175,7 @@ paste-right at k ys xs l h =
 
 -- ---- the call on a state
 
-module _ (s : State) (area : List ℕ) (channel unit outcome : ℕ) (words : List ℕ) where
+module _ (s : State) (area : List ℕ) (channel unit outcome len : ℕ) (words : List ℕ) where
   abbrev i : ℕ
   i = fileOf s channel unit
 
@@ -176,13 +189,13 @@ module _ (s : State) (area : List ℕ) (channel unit outcome : ℕ) (words : Lis
   wrong = reportWrong s (length area) channel
 
   abbrev refusal : ℕ
-  refusal = reportRefusal wrong f c unit outcome (s .w) area words
+  refusal = reportRefusal wrong f c unit outcome len (s .w) area words
 
   abbrev effect : Effect
-  effect = effectAt c unit outcome (length words)
+  effect = effectAt c unit outcome len (length words)
 
   abbrev after : List ℕ
-  after = reportByArea s area channel unit outcome words
+  after = reportByArea s area channel unit outcome len words
 
   -- where the taken buffer begins
   abbrev start : ℕ
@@ -198,8 +211,8 @@ module _ (s : State) (area : List ℕ) (channel unit outcome : ℕ) (words : Lis
       go (no k) b e = rw (ne-eqb refusal 0 k)
 
   module _ (sixteen : length (s .files) ≡ fileCount) (z : refusal ≡ 0) where
-    ready : ReportReady wrong f c unit outcome (s .w) area words
-    ready = report-ready wrong f c unit outcome (s .w) area words z
+    ready : ReportReady wrong f c unit outcome len (s .w) area words
+    ready = report-ready wrong f c unit outcome len (s .w) area words z
 
     long : s .m * s .w ≤ length area
     long = ltb-false (length area) (s .m * s .w) (or-left (areaShort s (length area)) _ (or-right (not (sound s)) _ (ready .right)))
@@ -215,15 +228,15 @@ module _ (s : State) (area : List ℕ) (channel unit outcome : ℕ) (words : Lis
     pub report-delivers : isDelivery effect ≡ true → Delivered
     unfolding reportByArea reportOnArea reportedArea
     report-delivers d =
-        let S = facts s area channel unit outcome words sixteen z .files i (isOpen s area channel unit outcome words sixteen z) in
-        let one = by-ending c unit outcome (length words) f (requested-ready s area channel unit outcome words sixteen z) isDelivery (takenCount f ≡ 1) refl (λ op e. delivery-taken (ltb 0 (length words)) op e f)
-        (view s area channel unit outcome words sixteen z) d in
+        let S = facts s area channel unit outcome len words sixteen z .files i (isOpen s area channel unit outcome len words sixteen z) in
+        let one = by-ending c unit outcome len (length words) f (requested-ready s area channel unit outcome len words sixteen z) isDelivery (takenCount f ≡ 1) refl (λ op e. delivery-taken (ltb 0 (length words)) op e f)
+        (view s area channel unit outcome len words sixteen z) d in
         let here = some-taken f one in
         let b = fits-bounds f (length words) (ready .fits d) in
         let fit : start + length words ≤ length area = omega (arith, taken-inside (s .m) (s .w) f S (length words) here (b .1), long) in
         record {
           side = here;
-          held = held-own f (takenSide f) (isOpen s area channel unit outcome words sixteen z) (own-taken (s .m) (s .w) f S here);
+          held = held-own f (takenSide f) (isOpen s area channel unit outcome len words sixteen z) (own-taken (s .m) (s .w) f S here);
           room = omega (arith, size-fits (s .m) (s .w) f S, b .1);
           inside = fit;
           pasted = rw (eq-eqb refusal 0 z, d) (paste-fitting start words area fit);
@@ -240,14 +253,14 @@ module _ (s : State) (area : List ℕ) (channel unit outcome : ℕ) (words : Lis
     shown-inside MeetsMark h = omega arith
     shown-inside GivesBack h = omega arith
     shown-inside Sends h =
-        let S = facts s area channel unit outcome words sixteen z .files i (isOpen s area channel unit outcome words sixteen z) in
+        let S = facts s area channel unit outcome len words sixteen z .files i (isOpen s area channel unit outcome len words sixteen z) in
         omega (arith, send-inside (s .m) (s .w) f S (h refl), long)
     shown-inside Keeps h = omega arith
 
     pub report-shows : ShowsBlock
     report-shows =
-        let l = shown-inside effect (by-ending c unit outcome (length words) f (requested-ready s area channel unit outcome words sixteen z) isSending (hasFull f ≡ true) refl (λ op e. sending-full (ltb 0 (length words)) op e f)
-        (view s area channel unit outcome words sixteen z)) in
+        let l = shown-inside effect (by-ending c unit outcome len (length words) f (requested-ready s area channel unit outcome len words sixteen z) isSending (hasFull f ≡ true) refl (λ op e. sending-full (ltb 0 (length words)) op e f)
+        (view s area channel unit outcome len words sixteen z)) in
         record { inside = l; whole = length-part (shownStart effect (s .w) f) (shownCount effect f) area l; small = ready .handed }
 
   -- words outside the file's own buffers are as they were, whatever the answer: those before each of its buffers or after it

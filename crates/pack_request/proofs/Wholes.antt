@@ -27,15 +27,15 @@ pub ask-whole : (s : State) (file op priority : ℕ) (f : File) (c : Channel) (w
 unfolding askBy
 ask-whole s file op priority f c whole x t isF isC isW isX isT = rw (isT, isX, isC, isW, isF)
 
-module _ (s : State) (area : List ℕ) (channel unit outcome : ℕ) (words : List ℕ) (i : ℕ) (f : File) (c : Channel) (whole short : Bool)
+module _ (s : State) (area : List ℕ) (channel unit outcome len : ℕ) (words : List ℕ) (i : ℕ) (f : File) (c : Channel) (whole short : Bool)
     (isI : i ≡ fileOf s channel unit) (isF : f ≡ fileAt s i) (isC : c ≡ channelAt s channel) (isW : whole ≡ sound s) (isS : short ≡ areaShort s (length area)) where
-  pub report-whole : (x : ReportChange) (t : State) → x ≡ reportOn (not whole || (short || leb channelCount channel)) f c unit outcome (s .w) (s .frozen) area words
+  pub report-whole : (x : ReportChange) (t : State) → x ≡ reportOn (not whole || (short || leb channelCount channel)) f c unit outcome len (s .w) (s .frozen) area words
       → t ≡ changedState s i channel (x .refusal) (x .file) (x .channel)
       → _≡_ {A = Reporting} (record { refusal = x .refusal; result = x .result; delivery = x .delivery; working = x .working; start = x .start; count = x .count; state = t })
-      (reportBy s area channel unit outcome words)
+      (reportBy s area channel unit outcome len words)
   unfolding reportBy
   report-whole x t isX isT = rw (isT, isX, isC, isW, isS, isF, isI)
 
-  pub report-area : reportOnArea (not whole || (short || leb channelCount channel)) f c unit outcome (s .w) area words ≡ reportByArea s area channel unit outcome words
+  pub report-area : reportOnArea (not whole || (short || leb channelCount channel)) f c unit outcome len (s .w) area words ≡ reportByArea s area channel unit outcome len words
   unfolding reportByArea
   report-area = rw (isC, isW, isS, isF, isI)

@@ -43,13 +43,13 @@ abbrev pub reportWrong : State → ℕ → ℕ → Bool
 reportWrong s n c = not (sound s) || (areaShort s n || leb channelCount c)
 
 -- what changes: the channel, and the file that its unit serves
-abbrev pub reportChange : State → List ℕ → ℕ → ℕ → ℕ → List ℕ → ReportChange
-reportChange s area c u outcome words =
-    reportOn (reportWrong s (length area) c) (fileAt s (fileOf s c u)) (channelAt s c) u outcome (s .w) (s .frozen) area words
+abbrev pub reportChange : State → List ℕ → ℕ → ℕ → ℕ → ℕ → List ℕ → ReportChange
+reportChange s area c u outcome len words =
+    reportOn (reportWrong s (length area) c) (fileAt s (fileOf s c u)) (channelAt s c) u outcome len (s .w) (s .frozen) area words
 
-unfoldable pub reportBy : State → List ℕ → ℕ → ℕ → ℕ → List ℕ → Reporting
-reportBy s area c u outcome words =
-    let x = reportChange s area c u outcome words in
+unfoldable pub reportBy : State → List ℕ → ℕ → ℕ → ℕ → ℕ → List ℕ → Reporting
+reportBy s area c u outcome len words =
+    let x = reportChange s area c u outcome len words in
     record {
       refusal = x .refusal;
       result = x .result;
@@ -60,6 +60,6 @@ reportBy s area c u outcome words =
       state = changedState s (fileOf s c u) c (x .refusal) (x .file) (x .channel);
     }
 
-unfoldable pub reportByArea : State → List ℕ → ℕ → ℕ → ℕ → List ℕ → List ℕ
-reportByArea s area c u outcome words =
-    reportOnArea (reportWrong s (length area) c) (fileAt s (fileOf s c u)) (channelAt s c) u outcome (s .w) area words
+unfoldable pub reportByArea : State → List ℕ → ℕ → ℕ → ℕ → ℕ → List ℕ → List ℕ
+reportByArea s area c u outcome len words =
+    reportOnArea (reportWrong s (length area) c) (fileAt s (fileOf s c u)) (channelAt s c) u outcome len (s .w) area words

@@ -38,18 +38,20 @@ pub fn ask(s: State, file: u8, op: u8, priority: u8) -> Asking
     }
 }
 
-// A report of a unit: its outcome, 0 good, 1 redundancy, 2 incomplete word, 3 file mark, 4 end of medium, and the words of a block that a
-// good read brings, which go into the area. A refusal gives the state that was passed and changes no word.
+// A report of a unit: its outcome, 0 good, 1 redundancy, 2 incomplete word, 3 file mark, 4 end of medium, the length in words that a read's redundancy
+// report may carry, 65,536 for none, and the words of a block that a good read brings, which go into the area. A refusal gives the state that was
+// passed and changes no word.
 pub fn report(
     s: State,
     area: &mut [u64],
     channel: u8,
     unit: u8,
     outcome: u8,
+    length: u32,
     words: &[u64],
 ) -> Reporting
-    ensures { λ r. ⌜ r ≡ reportBy s (now (area .entry)) channel unit outcome (now (words .entry)) ⌝ }
-    ensures { λ _. ⌜ now (area .exit) ≡ reportByArea s (now (area .entry)) channel unit outcome (now (words .entry)) ⌝ }
+    ensures { λ r. ⌜ r ≡ reportBy s (now (area .entry)) channel unit outcome length (now (words .entry)) ⌝ }
+    ensures { λ _. ⌜ now (area .exit) ≡ reportByArea s (now (area .entry)) channel unit outcome length (now (words .entry)) ⌝ }
 {
     let short = area_short(s, area.len());
     let whole = is_sound(s);
@@ -59,7 +61,18 @@ pub fn report(
     let j = channel as usize;
     let c = channel_at(s, j);
     let wrong = !whole | (short | (CHANNELS <= j));
-    let x = report_on(wrong, f, c, unit, outcome, s.w, s.frozen, area, words);
+    let x = report_on(
+        wrong,
+        f,
+        c,
+        unit,
+        outcome,
+        length,
+        s.w,
+        s.frozen,
+        area,
+        words,
+    );
     let g = x.file;
     let d = x.channel;
     let delivery = x.delivery;

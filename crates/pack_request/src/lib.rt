@@ -16,7 +16,7 @@ pub struct Asking {
     pub state: State,
 }
 
-// The answer to a report: the refusal, 0 for none; the result, 0 repeated, 1 to 6 how the operation ended; the delivered block's check, if
+// The answer to a report: the refusal, 0 for none; the result, 0 repeated, 7 repeated after the cleaner pass, 1 to 6 how the operation ended; the delivered block's check, if
 // it delivers one; the working unit after the call, 255 for none; the part of the area that holds the block of a write; the state after the call.
 pub struct Reporting {
     pub refusal: u8,

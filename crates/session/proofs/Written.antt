@@ -17,7 +17,7 @@ use Rattle.session_frame.specs.Fields.{wordsOf}
 use Rattle.session_frame.specs.Writes.{placeAfter}
 use Rattle.session_frame.specs.declared.Frame.{Frame}
 use Rattle.session_frame.specs.declared.Frame.the-variants.{Malformed, Fresh, Open, Close, Ask, Report, Get, Put, Seal, Skip, Freeze, Thaw}
-use Rattle.session_frame.specs.Frames.{frameOf, wordsFrom}
+use Rattle.session_frame.specs.Frames.{wordsAt, frameOf, wordsFrom}
 use Rattle.session_frame.proofs.Laws.Given.{All, report-words, put-words}
 use Rattle.session_frame.specs.declared.Answer.{Answer}
 use Rattle.session_frame.specs.Answers.{answerText}
@@ -33,7 +33,7 @@ taken-most n ws = omega (arith, length-take n ws)
 
 pub given-within : (f : Frame) (line : List ℕ) (n : ℕ) → length (givenIn f line n) ≤ n
 unfolding givenIn wordsFrom
-given-within (Report q) line n = taken-most n (wordsOf (drop 4 (bytesOf line)))
+given-within (Report q) line n = taken-most n (wordsOf (drop (wordsAt q) (bytesOf line)))
 given-within (Put q) line n = taken-most n (wordsOf (drop 2 (bytesOf line)))
 given-within Malformed line n = omega arith
 given-within (Fresh q) line n = omega arith
@@ -53,7 +53,7 @@ all-taken line head k n a h = take-all n (wordsOf (drop head (bytesOf line))) (o
 -- a room of 1,024 words takes them all
 pub given-all : (f : Frame) (line : List ℕ) (n : ℕ) → f ≡ frameOf line → mostWords ≤ n → givenIn f line n ≡ givenWords f line
 unfolding givenIn givenWords
-given-all (Report q) line n e h = all-taken line 4 (q .words) n (report-words line q (sym e)) h
+given-all (Report q) line n e h = all-taken line (wordsAt q) (q .words) n (report-words line q (sym e)) h
 given-all (Put q) line n e h = all-taken line 2 (q .words) n (put-words line q (sym e)) h
 given-all Malformed line n e h = refl
 given-all (Fresh q) line n e h = refl

@@ -8,7 +8,7 @@ use Rattle.area.specs.Parts.{paste, pastedIn}
 use Rattle.session_frame.specs.Writes.{placeAfter}
 use Rattle.session_frame.specs.declared.Frame.{Frame}
 use Rattle.session_frame.specs.declared.Frame.the-variants.{Malformed, Fresh, Open, Close, Ask, Report, Get, Put, Seal, Skip, Freeze, Thaw}
-use Rattle.session_frame.specs.Frames.{frameOf, wordsFrom}
+use Rattle.session_frame.specs.Frames.{wordsAt, frameOf, wordsFrom}
 use Rattle.state.specs.declared.State.{State}
 use Rattle.session_reply.specs.Replies.{Reply, givenWords, textOf}
 
@@ -24,7 +24,7 @@ lacksRooms words out = ltb (length words) mostWords || ltb (length out) mostText
 
 -- the words of a line that a room of n words takes
 unfoldable pub givenIn : Frame → List ℕ → ℕ → List ℕ
-givenIn (Report q) line n = wordsFrom line 4 n
+givenIn (Report q) line n = wordsFrom line (wordsAt q) n
 givenIn (Put q) line n = wordsFrom line 2 n
 givenIn Malformed line n = []
 givenIn (Fresh q) line n = []

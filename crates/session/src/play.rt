@@ -10,6 +10,7 @@ use pool::free_after;
 use session_frame::Answer;
 use session_frame::Frame;
 use session_frame::frame_of;
+use session_frame::words_at;
 use session_frame::words_into;
 use session_frame::write_answer;
 use session_line::Line;
@@ -54,7 +55,10 @@ fn given(f: Frame, line: &[u8], room: &mut [u64]) -> usize
         Frame::Open(_) => 0,
         Frame::Close(_) => 0,
         Frame::Ask(_) => 0,
-        Frame::Report(_) => words_into(line, 4, room),
+        Frame::Report(q) => {
+            let start = words_at(q);
+            words_into(line, start, room)
+        }
         Frame::Get(_) => 0,
         Frame::Put(_) => words_into(line, 2, room),
         Frame::Seal(_) => 0,

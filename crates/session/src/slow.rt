@@ -50,7 +50,7 @@ fn refused(n: u8, t: Talk, at: usize) -> Heard
 
 // Plays a part of the session from `at` on, until it is used up or the output has less than an answer's length left; then the caller takes the
 // answers off the front of `out`, and calls again from the place reached. What has come of the next line is kept by the session and `room`, which
-// has 10,248 characters; `words` is a room of 1,024, and `out` of at least 10,249. Refused, and nothing changes: 17 after the end, 1 with a shorter
+// has 10,252 characters; `words` is a room of 1,024, and `out` of at least 10,249. Refused, and nothing changes: 17 after the end, 1 with a shorter
 // room. The state is not judged: from `new_talk` on it stays sound.
 pub fn talk_part(
     t: Talk,

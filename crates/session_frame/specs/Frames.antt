@@ -7,12 +7,13 @@ use lib.ListN.{length, take, drop}
 use Rattle.area.specs.Lists.{allOf}
 use Rattle.session_frame.specs.Digits.{isDigit, bytesOf}
 use Rattle.session_frame.specs.Fields.{byteAt, sizeAt, wordsOf}
+use Rattle.session_frame.specs.declared.ReportFrame.{ReportFrame}
 use Rattle.session_frame.specs.declared.Frame.{Frame}
 use Rattle.session_frame.specs.declared.Frame.the-variants.{Malformed, Fresh, Open, Close, Ask, Report, Get, Put, Seal, Skip, Freeze, Thaw}
 
--- "Over 10,248 digits is malformed."
+-- "Over 10,248 digits is malformed."; "Lines then run to 10,252 digits."
 abbrev pub longest : ℕ
-longest = 10248
+longest = 10252
 
 -- "One frame a line, pairs of upper-case hexadecimal digits"
 unfoldable pub isText : List ℕ → Bool
@@ -51,9 +52,38 @@ openFrom n b =
 unfoldable pub askFrom : ℕ → List ℕ → Frame
 askFrom n b = sized n 4 (Ask (record { file = byteAt b 1; op = byteAt b 2; priority = byteAt b 3 }))
 
--- "04 channel unit outcome words"
+-- the bytes of a report ahead of its words: "04 channel unit outcome", and with a length "two bytes ahead of any words"
+abbrev pub reportHead : ℕ
+reportHead = 4
+
+abbrev pub lengthHead : ℕ
+lengthHead = 6
+
+-- a length is one of two bytes: this stands for none
+abbrev pub noLength : ℕ
+noLength = 65536
+
+-- the outcome whose report may carry a length
+abbrev pub redundancy : ℕ
+redundancy = 1
+
+-- "shown by the bytes left over from fives"
+unfoldable pub showsLength : ℕ → Bool
+showsLength n = eqb ((n - reportHead) % 5) 2
+
+-- "04 channel unit outcome words", the words after `head` bytes
+unfoldable pub reportWith : ℕ → ℕ → ℕ → List ℕ → Frame
+reportWith head len n b =
+    worded n head (Report (record { channel = byteAt b 1; unit = byteAt b 2; outcome = byteAt b 3; length = len; words = wordCount n head }))
+
+-- "A read's redundancy report may carry a length in words, two bytes ahead of any words, shown by the bytes left over from fives"
 unfoldable pub reportFrom : ℕ → List ℕ → Frame
-reportFrom n b = worded n 4 (Report (record { channel = byteAt b 1; unit = byteAt b 2; outcome = byteAt b 3; words = wordCount n 4 }))
+reportFrom n b =
+    cond (showsLength n) (cond (eqb (byteAt b 3) redundancy) (reportWith lengthHead (sizeAt b 4) n b) Malformed) (reportWith reportHead noLength n b)
+
+-- how many bytes of a report's line stand ahead of its words
+unfoldable pub wordsAt : ReportFrame → ℕ
+wordsAt q = cond (eqb (q .length) noLength) reportHead lengthHead
 
 -- "06 put file words"
 unfoldable pub putFrom : ℕ → List ℕ → Frame

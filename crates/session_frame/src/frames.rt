@@ -5,6 +5,7 @@ use crate::Frame;
 use crate::FreshFrame;
 use crate::LONGEST;
 use crate::Masks;
+use crate::NO_LENGTH;
 use crate::OpenFrame;
 use crate::PutFrame;
 use crate::ReportFrame;
@@ -13,7 +14,7 @@ ghost use Prim.Native.Nat.{_<_};
 ghost use Rattle.area.specs.Lists.{allOf};
 ghost use Rattle.session_frame.specs.Digits.{isDigit, valueOf, bytesOf};
 ghost use Rattle.session_frame.specs.Fields.{byteAt, sizeAt, wordAt};
-ghost use Rattle.session_frame.specs.Frames.{sized, worded, wordCount, freshFrom, openFrom, askFrom, reportFrom, putFrom, isText, kindOf, frameOf, wordsFrom};
+ghost use Rattle.session_frame.specs.Frames.{sized, worded, wordCount, freshFrom, openFrom, askFrom, showsLength, reportWith, reportFrom, wordsAt, putFrom, isText, kindOf, frameOf, wordsFrom};
 ghost use lib.ListN.{length};
 ghost use Rattle.area.specs.Parts.{paste};
 
@@ -174,21 +175,66 @@ fn ask(line: &[u8], n: usize) -> Frame
     if_sized(n, 4, Frame::Ask(f))
 }
 
-// A report, with its words.
-fn report(line: &[u8], n: usize) -> Frame
-    ensures { λ r. ⌜ r ≡ reportFrom n (bytesOf (now (line .entry))) ⌝ }
+// The bytes of a report ahead of its words: without a length, and with one.
+const HEAD: usize = 4;
+
+const LENGTH_HEAD: usize = 6;
+
+// The outcome of a report that may carry a length.
+const REDUNDANCY: u8 = 1;
+
+// Whether a report of n bytes carries a length: two are left over from fives.
+fn shows_length(n: usize) -> bool
+    ensures { λ r. ⌜ r ≡ showsLength n ⌝ }
+{
+    if n < HEAD {
+        return false;
+    }
+    (n - HEAD) % 5 == 2
+}
+
+// A report with this length, whose words come after `head` bytes.
+fn report_with(line: &[u8], n: usize, head: usize, length: u32) -> Frame
+    ensures { λ r. ⌜ r ≡ reportWith head length n (bytesOf (now (line .entry))) ⌝ }
 {
     let channel = byte_at(line, 1);
     let unit = byte_at(line, 2);
     let outcome = byte_at(line, 3);
-    let words = words_after(n, 4);
+    let words = words_after(n, head);
     let f = ReportFrame {
         channel,
         unit,
         outcome,
+        length,
         words,
     };
-    if_worded(n, 4, Frame::Report(f))
+    if_worded(n, head, Frame::Report(f))
+}
+
+// A report, with its words; with a length where its bytes show one, which a redundancy alone may carry.
+fn report(line: &[u8], n: usize) -> Frame
+    ensures { λ r. ⌜ r ≡ reportFrom n (bytesOf (now (line .entry))) ⌝ }
+{
+    let shown = shows_length(n);
+    if !shown {
+        return report_with(line, n, HEAD, NO_LENGTH);
+    }
+    let outcome = byte_at(line, 3);
+    if outcome != REDUNDANCY {
+        return Frame::Malformed;
+    }
+    let length = size_at(line, 4);
+    report_with(line, n, LENGTH_HEAD, length as u32)
+}
+
+// How many bytes of a report's line stand ahead of its words.
+pub fn words_at(q: ReportFrame) -> usize
+    ensures { λ r. ⌜ r ≡ wordsAt q ⌝ }
+{
+    if q.length == NO_LENGTH {
+        return HEAD;
+    }
+    LENGTH_HEAD
 }
 
 // A put, with its words.

@@ -6,11 +6,15 @@ mod frames;
 
 pub use answers::write_answer;
 pub use frames::frame_of;
+pub use frames::words_at;
 pub use frames::words_into;
 use word::Checked;
 
-// The most characters that a line has: a report of 1,024 words.
-pub const LONGEST: usize = 10248;
+// The most characters that a line has: a report with a length and 1,024 words.
+pub const LONGEST: usize = 10252;
+
+// The length of a report that carries none: past every number of two bytes.
+pub const NO_LENGTH: u32 = 65536;
 
 // The unit masks of the five channels: bit u for unit u.
 pub struct Masks {
@@ -45,11 +49,12 @@ pub struct AskFrame {
     pub priority: u8,
 }
 
-// A report; `words` is how many words come with it.
+// A report; `length` is the length in words that it carries, NO_LENGTH for none, and `words` is how many words come with it.
 pub struct ReportFrame {
     pub channel: u8,
     pub unit: u8,
     pub outcome: u8,
+    pub length: u32,
     pub words: usize,
 }
 

@@ -12,7 +12,7 @@ use Rattle.call_request.specs.declared.Delivery.the-variants.{Without, With}
 use Rattle.session_frame.specs.declared.Masks as frame
 use Rattle.session_frame.specs.declared.Frame.{Frame}
 use Rattle.session_frame.specs.declared.Frame.the-variants.{Malformed, Fresh, Open, Close, Ask, Report, Get, Put, Seal, Skip, Freeze, Thaw}
-use Rattle.session_frame.specs.Frames.{frameOf}
+use Rattle.session_frame.specs.Frames.{wordsAt, frameOf}
 use Rattle.session_frame.specs.declared.Answer.{Answer}
 use Rattle.session_frame.specs.declared.Answer.the-variants as answer
 use Rattle.session_frame.specs.Answers.{answerText}
@@ -63,9 +63,9 @@ abbrev pub reportAnswer : ℕ → Delivery → ℕ → Answer
 reportAnswer result Without working = answer.Reported result working
 reportAnswer result (With found) working = answer.Delivered result found working
 
--- the words that come with a line: "04 channel unit outcome words", "06 put file words"
+-- the words that come with a line: "04 channel unit outcome words", after a length if there is one; "06 put file words"
 unfoldable pub givenWords : Frame → List ℕ → List ℕ
-givenWords (Report q) line = wordsOf (drop 4 (bytesOf line))
+givenWords (Report q) line = wordsOf (drop (wordsAt q) (bytesOf line))
 givenWords (Put q) line = wordsOf (drop 2 (bytesOf line))
 givenWords Malformed line = []
 givenWords (Fresh q) line = []

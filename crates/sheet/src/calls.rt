@@ -179,7 +179,7 @@ fn asks_no_line(d: Desk, room: usize, words: usize, out: usize) -> bool
     d.waits | d.over | (room < LONGEST) | (words < WORDS) | (out < ANSWER)
 }
 
-// Takes bytes of a part of the session from `at` on, up to the end of a line, or all if none ends; a line that ends is played. `room` has 10,248
+// Takes bytes of a part of the session from `at` on, up to the end of a line, or all if none ends; a line that ends is played. `room` has 10,252
 // characters for a line that has begun, `words` 1,024 words, and `out` 10,249 characters, in which the answer stays until it is compared.
 // Nothing is taken while an answer waits, after the session's end, and with a shorter room.
 pub fn session_part(
@@ -249,7 +249,7 @@ fn asks_no_answer(d: Desk, other: usize) -> bool
 }
 
 // Takes bytes of a part of the recorded answers from `at` on, up to the end of a line, or all if none ends; a line that ends is compared with the
-// answer in `out`. Any byte after the last answer is a line too many. `other` has 10,248 characters for a line that has begun. Nothing is
+// answer in `out`. Any byte after the last answer is a line too many. `other` has 10,252 characters for a line that has begun. Nothing is
 // taken unless an answer waits or the session is over, and nothing once a difference is found.
 pub fn answers_part(d: Desk, other: &mut [u8], bytes: &[u8], at: usize, out: &[u8]) -> Taken
     ensures { λ r. ⌜ r ≡ answersPart d (now (other .entry)) (now (bytes .entry)) at (now (out .entry)) ⌝ }

@@ -5,11 +5,15 @@ use mathlib.Core.Logic.{_≢_}
 use mathlib.Core.Bool.{Bool, true, false, not, _&&_, _||_}
 use mathlib.Core.Option.{Option, none, some}
 use mathlib.Core.List.{List}
-use Prim.Native.Nat.{ℕ, _+_, _≤_, _<_}
+use Prim.Native.Nat.{ℕ, zero, suc, _+_, _≤_, _<_}
 use native.Mathlib.Omega.{arith}
+use lib.Dec.{leb, ltb, eqb}
 use lib.ListN.{getD}
-use Rattle.area.proofs.Walks.{by-test, true-not-false, and-left, and-right, or-either}
+use borrow.Author.Tests.{leb-true, le-leb, lt-ltb}
+use Rattle.area.proofs.Walks.{by-test, true-not-false, and-left, and-right, and-both, or-either, or-first, or-second}
+use Rattle.area.proofs.Bools.{both}
 use Rattle.channel.specs.declared.Op.{Op}
+use Rattle.channel.specs.declared.Position.{Position}
 use Rattle.channel.specs.declared.Request.{Request}
 use Rattle.channel.specs.declared.Turn.{Turn}
 use Rattle.channel.specs.declared.Turn.the-variants.{Idle, Waiting, Displaced, Working}
@@ -21,8 +25,9 @@ use Rattle.channel_turns.specs.declared.Asked.{Asked}
 use Rattle.channel_outcomes.specs.declared.Ending.{Ending}
 use Rattle.channel_outcomes.specs.declared.Verdict.{Verdict}
 use Rattle.channel_outcomes.specs.declared.Verdict.the-variants.{Refused, Repeats, Ends}
+use Rattle.channel_outcomes.specs.Positions.{mostPassed, positionAfter, notedBy}
 use Rattle.channel_outcomes.specs.Rules.{verdictOf}
-use Rattle.channel.specs.Units.{size, idleUnit, unitAt, declaredAt, turnAt, withTurn, isIdle, acceptsAt}
+use Rattle.channel.specs.Units.{size, idleUnit, unitAt, declaredAt, turnAt, positionAt, operationAt, withUnit, withTurn, isIdle, acceptsAt}
 use Rattle.channel_turns.specs.Scans.{workingIn}
 use Rattle.area.specs.Lists.{isFound}
 use Rattle.channel_turns.specs.Turns.{judgeTurn, judgeOf, goesOn, incompleteTurn, repeatOf, markMoved, endOf, bookOf, reportOf}
@@ -32,9 +37,11 @@ use Rattle.channel_turns.proofs.Laws.Scans.{next-below}
 use Rattle.channel_turns.proofs.Laws.Starts.{ask-taken}
 use Rattle.channel_theorems.proofs.Theorems.Turning.{heldAs, held, markAs, mark-with, size-with, at-set, busy-inside, declared-inside}
 use Rattle.channel_theorems.proofs.Theorems.Starts.{Begins, Started, isFrozen, isBusy, isQuiet, begins, started, start-alive}
-use Rattle.channel_theorems.proofs.Theorems.Calls.{endedAt, ended-mark, Took, refuses, asks, repeats, ends, freezes, thaws, took}
-use Rattle.channel_theorems.proofs.Theorems.Sound.{Again, verdict-again, one-kept, ranges-kept}
+use Rattle.channel_theorems.proofs.Theorems.Calls.{endedAt, ended-mark, Took, refuses, asks, repeats, ends, freezes, thaws, took, incomplete-held}
+use Rattle.channel_theorems.proofs.Theorems.Positions.{Held, after-held, noted-held}
+use Rattle.channel_theorems.proofs.Theorems.Sound.{Again, verdict-again, Works, works, one-kept, ranges-kept}
 use Rattle.state_sound.specs.Requests.{requested}
+use Rattle.state_sound.specs.Soundness.{positionInRange, noiseKnown, noiseRight, positionRight}
 use Rattle.state_sound.proofs.ChannelFacts.{ChannelFacts}
 
 -- ---- what is requested of a unit is the operation that it holds
@@ -73,27 +80,82 @@ start-mark k c frozen = go (startOf c frozen) (started c frozen)
     go d (isFrozen e) = (refl, refl)
     go d (isBusy x e) = (refl, refl)
     go d (isQuiet q) = (refl, refl)
-    go d (begins x t b) = (mark-with k c x t, size-with c x t)
+    go d (begins x t b) = (mark-with k c x t _, size-with c x t _)
 
 start-works : (c : Channel) (frozen : Bool) → frozen ≡ false → (u : ℕ) → isIdle (turnAt (startOf c frozen) u) ≡ false → isFound (workingIn (startOf c frozen)) ≡ true
 start-works c frozen f u i = or-either frozen _ (start-alive c frozen (startOf c frozen) u (started c frozen) i) (λ e. true-not-false e f) (λ e. e)
 
 -- ---- every call keeps a channel's facts
 
-with-declared : (c : Channel) (x : ℕ) (t : Turn) → x < size c → (y : ℕ) → declaredAt (withTurn c x t) y ≡ declaredAt c y
-with-declared c x t l = at-set c x t l (λ y k. k .declared ≡ declaredAt c y) refl (λ y ne. refl)
+with-declared : (c : Channel) (x : ℕ) (t : Turn) (stood : Position) → x < size c → (y : ℕ) → declaredAt (withUnit c x t stood) y ≡ declaredAt c y
+with-declared c x t stood l = at-set c x t l (λ y k. k .declared ≡ declaredAt c y) refl (λ y ne. refl)
 
-mark-below : (k : Bool) (c : Channel) (u : ℕ) → markAs k c < size c → markAs k (endedAt c u) < size c
-mark-below k c u h =
+mark-below : (k : Bool) (c : Channel) (u : ℕ) (stood : Position) → markAs k c < size c → markAs k (endedAt c u stood) < size c
+mark-below k c u stood h =
     let below = by-test (λ b. markMoved b (size c) u (markAs k c) < size c) (heldAs k (turnAt c u)) (λ e. next-below (size c) u (omega arith)) (λ e. h) in
-    subst (λ (n : ℕ). n < size c) (sym (ended-mark k c u)) below
+    subst (λ (n : ℕ). n < size c) (sym (ended-mark k c u stood)) below
+
+-- ---- where the reels stand
+
+-- what a sound position says of its counts
+stands-held : (x : Unit) → positionRight x ≡ true → Held (x .position)
+unfolding positionRight
+stands-held x h =
+    let p = x .position in
+    let a = both {a = leb (p .marks) mostPassed} (and-left (positionInRange (x .declared) p) _ h) in
+    record { marks = leb-true (p .marks) mostPassed (a .0); records = leb-true (p .records) mostPassed (and-left (leb (p .records) mostPassed) _ (a .1)) }
+
+-- of a declared unit
+known-right : (x : Unit) → x .declared ≡ true → Held (x .position) → noiseRight (x .turn) (x .position) ≡ true → positionRight x ≡ true
+unfolding positionRight
+known-right x d h n =
+    let p = x .position in
+    and-both (positionInRange (x .declared) p) _
+    (and-both (leb (p .marks) mostPassed) _ (le-leb (p .marks) mostPassed (h .marks))
+    (and-both (leb (p .records) mostPassed) _ (le-leb (p .records) mostPassed (h .records)) (or-first (x .declared) _ d)))
+    n
+
+-- the noise of a unit's request goes by the request that it holds
+abbrev heldNoise : Option Request → Position → Bool
+heldNoise none p = true
+heldNoise (some q) p = noiseKnown q p
+
+noise-held : (t : Turn) (p : Position) → noiseRight t p ≡ heldNoise (held t) p
+noise-held Idle p = refl
+noise-held (Waiting q) p = refl
+noise-held (Displaced q) p = refl
+noise-held (Working q) p = refl
+
+noise-noted : (p : Position) (q : Request) (t : Turn) → held t ≡ some q → noiseRight t (notedBy p q) ≡ true
+unfolding notedBy
+noise-noted p q t e = noise-held t (notedBy p q) ∙ ap (λ (h : Option Request). heldNoise h (notedBy p q)) e ∙ either (q .noise) (p .noisy)
+  where
+    either : (n : ℕ) (b : Bool) → (eqb n 0 || (b || ltb 0 n)) ≡ true
+    either zero b = refl
+    either (suc n) b = or-second (eqb (suc n) 0) _ (or-second b _ (lt-ltb 0 (suc n) (omega arith)))
+
+start-right : (c : Channel) (frozen : Bool) → ((y : ℕ) → positionRight (unitAt c y) ≡ true) → (y : ℕ) → positionRight (unitAt (startOf c frozen) y) ≡ true
+unfolding positionRight
+start-right c frozen F y = go (startOf c frozen) (started c frozen)
+  where
+    go : (d : Channel) → Started c frozen d → positionRight (unitAt d y) ≡ true
+    go d (isFrozen e) = F y
+    go d (isBusy x e) = F y
+    go d (isQuiet q) = F y
+    go d (begins x t b) = at-set c x t (b .within) (λ z k. positionRight k ≡ true) (begun x t b) (λ z ne. F z) y
+      where
+        begun : (x : ℕ) (t : Turn) → Begins c x t → positionRight (record { declared = declaredAt c x; turn = t; position = positionAt c x }) ≡ true
+        begun x t b =
+            let p = positionAt c x in
+            and-both (positionInRange (declaredAt c x) p) _ (and-left (positionInRange (declaredAt c x) p) _ (F x))
+            (noise-held t p ∙ ap (λ (h : Option Request). heldNoise h p) (b .same) ∙ sym (noise-held (turnAt c x) p) ∙ and-right (positionInRange (declaredAt c x) p) _ (F x))
 
 module _ (m : ℕ) (s : Station) (F : ChannelFacts m (s .frozen) (s .channel)) where
   took-declared : (e : Event) (o : Step) → Took s e o → (y : ℕ) → declaredAt (o .after .channel) y ≡ declaredAt (s .channel) y
   took-declared e o refuses y = refl
-  took-declared e o (asks u op p d i) y = start-alike _ (s .frozen) y .1 ∙ with-declared (s .channel) u _ (declared-inside (s .channel) u d) y
-  took-declared e o (repeats u oc r q t i j k) y = start-alike _ (s .frozen) y .1 ∙ with-declared (s .channel) u t (busy-inside (s .channel) u (ap isIdle i)) y
-  took-declared e o (ends u oc r i) y = start-alike _ (s .frozen) y .1 ∙ with-declared (s .channel) u Idle (busy-inside (s .channel) u (ap isIdle i)) y
+  took-declared e o (asks u op p d i) y = start-alike _ (s .frozen) y .1 ∙ with-declared (s .channel) u _ _ (declared-inside (s .channel) u d) y
+  took-declared e o (repeats u oc len r q t stood i j k stands) y = start-alike _ (s .frozen) y .1 ∙ with-declared (s .channel) u t _ (busy-inside (s .channel) u (ap isIdle i)) y
+  took-declared e o (ends u oc len r how stood i judged stands) y = start-alike _ (s .frozen) y .1 ∙ with-declared (s .channel) u Idle _ (busy-inside (s .channel) u (ap isIdle i)) y
   took-declared e o freezes y = refl
   took-declared e o thaws y = start-alike (s .channel) false y .1
 
@@ -102,21 +164,43 @@ module _ (m : ℕ) (s : Station) (F : ChannelFacts m (s .frozen) (s .channel)) w
   took-mark k e o (asks u op p d i) =
       let c = withTurn (s .channel) u (Waiting (newRequest op p)) in
       let a = start-mark k c (s .frozen) in
-      omega (arith, a .0, a .1, size-with (s .channel) u (Waiting (newRequest op p)), mark-with k (s .channel) u (Waiting (newRequest op p)), F .mark k)
-  took-mark k e o (repeats u oc r q t i j n) =
-      let a = start-mark k (withTurn (s .channel) u t) (s .frozen) in
-      omega (arith, a .0, a .1, size-with (s .channel) u t, mark-with k (s .channel) u t, F .mark k)
-  took-mark k e o (ends u oc r i) =
-      let a = start-mark k (endedAt (s .channel) u) (s .frozen) in
-      omega (arith, a .0, a .1, size-with (s .channel) u Idle, mark-below k (s .channel) u (F .mark k))
+      omega (arith, a .0, a .1, size-with (s .channel) u (Waiting (newRequest op p)) (positionAt (s .channel) u), mark-with k (s .channel) u (Waiting (newRequest op p)) (positionAt (s .channel) u), F .mark k)
+  took-mark k e o (repeats u oc len r q t stood i j n stands) =
+      let a = start-mark k (withUnit (s .channel) u t stood) (s .frozen) in
+      omega (arith, a .0, a .1, size-with (s .channel) u t stood, mark-with k (s .channel) u t stood, F .mark k)
+  took-mark k e o (ends u oc len r how stood i judged stands) =
+      let a = start-mark k (endedAt (s .channel) u stood) (s .frozen) in
+      omega (arith, a .0, a .1, size-with (s .channel) u Idle stood, mark-below k (s .channel) u stood (F .mark k))
   took-mark k e o freezes = F .mark k
   took-mark k e o thaws = let a = start-mark k (s .channel) false in omega (arith, a .0, a .1, F .mark k)
+
+  took-stands : (e : Event) (o : Step) → Took s e o → (y : ℕ) → positionRight (unitAt (o .after .channel) y) ≡ true
+  took-stands e o refuses = F .stands
+  took-stands e o (asks u op p d i) =
+      start-right _ (s .frozen)
+      (at-set (s .channel) u (Waiting (newRequest op p)) (declared-inside (s .channel) u d) (λ y k. positionRight k ≡ true)
+      (known-right _ d (stands-held (unitAt (s .channel) u) (F .stands u)) refl) (λ y ne. F .stands y))
+  took-stands e o (repeats u oc len r q t stood i j k stands) =
+      let w = works (s .channel) u r (F .ranges) i in
+      start-right _ (s .frozen)
+      (at-set (s .channel) u t (w .within) (λ y k. positionRight k ≡ true)
+      (known-right _ (w .known) (rw stands (noted-held (positionAt (s .channel) u) q (stands-held (unitAt (s .channel) u) (F .stands u))))
+      (rw stands (noise-noted (positionAt (s .channel) u) q t (incomplete-held q t k))))
+      (λ y ne. F .stands y))
+  took-stands e o (ends u oc len r how stood i judged stands) =
+      let w = works (s .channel) u r (F .ranges) i in
+      start-right (endedAt (s .channel) u stood) (s .frozen)
+      (at-set (s .channel) u Idle (w .within) (λ y k. positionRight k ≡ true)
+      (known-right _ (w .known) (rw stands (after-held (operationAt (s .channel) u) how (positionAt (s .channel) u) (stands-held (unitAt (s .channel) u) (F .stands u)))) refl)
+      (λ y ne. F .stands y))
+  took-stands e o freezes = F .stands
+  took-stands e o thaws = start-right (s .channel) false (F .stands)
 
   took-alive : (e : Event) (o : Step) → Took s e o → o .after .frozen ≡ false → (u : ℕ) → isIdle (turnAt (o .after .channel) u) ≡ false → isFound (workingIn (o .after .channel)) ≡ true
   took-alive e o refuses = F .alive
   took-alive e o (asks u op p d i) = start-works _ (s .frozen)
-  took-alive e o (repeats u oc r q t i j n) = start-works _ (s .frozen)
-  took-alive e o (ends u oc r i) = start-works _ (s .frozen)
+  took-alive e o (repeats u oc len r q t stood i j n stands) = start-works _ (s .frozen)
+  took-alive e o (ends u oc len r how stood i judged stands) = start-works _ (s .frozen)
   took-alive e o freezes = λ f. true-not-false refl f
   took-alive e o thaws = start-works (s .channel) false
 
@@ -125,6 +209,7 @@ module _ (m : ℕ) (s : Station) (F : ChannelFacts m (s .frozen) (s .channel)) w
     mark = λ k. took-mark k e (step s e) (took s e);
     one = one-kept s e (step s e) (F .one) (took s e);
     ranges = ranges-kept s e (step s e) (F .ranges) (took s e);
+    stands = took-stands e (step s e) (took s e);
     pool = λ u h. F .pool u (sym (took-declared e (step s e) (took s e) u) ∙ h);
     alive = took-alive e (step s e) (took s e);
   }
@@ -138,25 +223,26 @@ pub record Moved (m : ℕ) (frozen : Bool) (c x : Channel) (u : ℕ) (r : Work) 
   pub others : (y : ℕ) → y ≢ u → (requested (turnAt x y) ≡ requested (turnAt c y)) × (declaredAt x y ≡ declaredAt c y)
 
 -- another turn at a unit, and then a start
-with-here : (c : Channel) (u : ℕ) (t : Turn) → u < size c → requested (turnAt (withTurn c u t) u) ≡ requested t
-with-here c u t l = at-set c u t l (λ y k. y ≡ u → requested (k .turn) ≡ requested t) (λ e. refl) (λ y ne e. absurd (ne e)) u refl
+with-here : (c : Channel) (u : ℕ) (t : Turn) (stood : Position) → u < size c → requested (turnAt (withUnit c u t stood) u) ≡ requested t
+with-here c u t stood l = at-set c u t l (λ y k. y ≡ u → requested (k .turn) ≡ requested t) (λ e. refl) (λ y ne e. absurd (ne e)) u refl
 
-with-others : (c : Channel) (u : ℕ) (t : Turn) → u < size c → (y : ℕ) → y ≢ u → Alike c y (unitAt (withTurn c u t) y)
-with-others c u t l = at-set c u t l (λ y k. y ≢ u → Alike c y k) (λ ne. absurd (ne refl)) (λ y ne q. (refl, refl))
+with-others : (c : Channel) (u : ℕ) (t : Turn) (stood : Position) → u < size c → (y : ℕ) → y ≢ u → Alike c y (unitAt (withUnit c u t stood) y)
+with-others c u t stood l = at-set c u t l (λ y k. y ≢ u → Alike c y k) (λ ne. absurd (ne refl)) (λ y ne q. (refl, refl))
 
-moved : (m : ℕ) (frozen : Bool) (c d : Channel) (u : ℕ) (t : Turn) → u < size c → d .units ≡ withTurn c u t .units → ChannelFacts m frozen (startOf d frozen)
+moved : (m : ℕ) (frozen : Bool) (c d : Channel) (u : ℕ) (t : Turn) (stood : Position) → u < size c → d .units ≡ withUnit c u t stood .units
+    → ChannelFacts m frozen (startOf d frozen)
     → Moved m frozen c (startOf d frozen) u (requested t)
-moved m frozen c d u t l e F = record {
+moved m frozen c d u t stood l e F = record {
   facts = F;
-  here = start-alike d frozen u .0 ∙ same u (λ k. requested (k .turn) ≡ requested t) (with-here c u t l);
-  known = start-alike d frozen u .1 ∙ same u (λ k. k .declared ≡ declaredAt c u) (with-declared c u t l u);
+  here = start-alike d frozen u .0 ∙ same u (λ k. requested (k .turn) ≡ requested t) (with-here c u t stood l);
+  known = start-alike d frozen u .1 ∙ same u (λ k. k .declared ≡ declaredAt c u) (with-declared c u t stood l u);
   others = λ y ne.
-      let o : Alike c y (unitAt d y) = same y (Alike c y) (with-others c u t l y ne) in
+      let o : Alike c y (unitAt d y) = same y (Alike c y) (with-others c u t stood l y ne) in
       let a = start-alike d frozen y in
       (a .0 ∙ o .0, a .1 ∙ o .1);
 }
   where
-    same : (y : ℕ) (P : Unit → Type 0) → P (unitAt (withTurn c u t) y) → P (unitAt d y)
+    same : (y : ℕ) (P : Unit → Type 0) → P (unitAt (withUnit c u t stood) y) → P (unitAt d y)
     same y P p = subst (λ (us : List Unit). P (getD us y (idleUnit false))) (sym e) p
 
 module _ (m : ℕ) (c : Channel) (u : ℕ) (frozen : Bool) (F : ChannelFacts m frozen c) where
@@ -168,49 +254,49 @@ module _ (m : ℕ) (c : Channel) (u : ℕ) (frozen : Bool) (F : ChannelFacts m f
       ap (λ (k : Asked). k .channel) (ask-taken c u op p frozen true (sym a) refl) in
       let F' : ChannelFacts m frozen (askOf c u op p frozen .channel) = step-facts m (station c frozen) F (ask u op p) in
       subst (λ (x : Channel). Moved m frozen c x u (At op)) (sym e)
-      (moved m frozen c (withTurn c u (Waiting (newRequest op p))) u (Waiting (newRequest op p)) (declared-inside c u (and-left (declaredAt c u) _ a)) refl
+      (moved m frozen c (withTurn c u (Waiting (newRequest op p))) u (Waiting (newRequest op p)) (positionAt c u) (declared-inside c u (and-left (declaredAt c u) _ a)) refl
       (subst (ChannelFacts m frozen) e F'))
 
-  booked-facts : (outcome : ℕ) (v : Verdict) → judgeOf c u outcome ≡ v → ChannelFacts m frozen (bookOf c u v frozen)
+  booked-facts : (outcome len : ℕ) (v : Verdict) → judgeOf c u outcome len ≡ v → ChannelFacts m frozen (bookOf c u v frozen)
   unfolding step reportOf
-  booked-facts outcome v e =
-      let F' : ChannelFacts m frozen (bookOf c u (judgeOf c u outcome) frozen) = step-facts m (station c frozen) F (report u outcome) in
+  booked-facts outcome len v e =
+      let F' : ChannelFacts m frozen (bookOf c u (judgeOf c u outcome len) frozen) = step-facts m (station c frozen) F (report u outcome len) in
       subst (λ (w : Verdict). ChannelFacts m frozen (bookOf c u w frozen)) e F'
 
-  judged-again : (t : Turn) (outcome : ℕ) (q : Request) → judgeTurn t outcome ≡ Repeats q → (isIdle t ≡ false) × (At (q .op) ≡ requested t)
-  judged-again Idle outcome q e = absurd (let z : _≡_ {A = ℕ} 0 1 = cc in omega arith)
-  judged-again (Waiting r) outcome q e = absurd (let z : _≡_ {A = ℕ} 0 1 = cc in omega arith)
-  judged-again (Displaced r) outcome q e = absurd (let z : _≡_ {A = ℕ} 0 1 = cc in omega arith)
-  judged-again (Working r) outcome q e = (refl, ap At (verdict-again r outcome q e .sameOp))
+  judged-again : (t : Turn) (outcome len : ℕ) (q : Request) → judgeTurn t outcome len ≡ Repeats q → (isIdle t ≡ false) × (At (q .op) ≡ requested t)
+  judged-again Idle outcome len q e = absurd (let z : _≡_ {A = ℕ} 0 1 = cc in omega arith)
+  judged-again (Waiting r) outcome len q e = absurd (let z : _≡_ {A = ℕ} 0 1 = cc in omega arith)
+  judged-again (Displaced r) outcome len q e = absurd (let z : _≡_ {A = ℕ} 0 1 = cc in omega arith)
+  judged-again (Working r) outcome len q e = (refl, ap At (verdict-again r outcome len q e .sameOp))
 
-  judged-ended : (t : Turn) (outcome : ℕ) (k : Ending) → judgeTurn t outcome ≡ Ends k → isIdle t ≡ false
-  judged-ended Idle outcome k e = absurd (let z : _≡_ {A = ℕ} 0 1 = cc in omega arith)
-  judged-ended (Waiting r) outcome k e = refl
-  judged-ended (Displaced r) outcome k e = refl
-  judged-ended (Working r) outcome k e = refl
+  judged-ended : (t : Turn) (outcome len : ℕ) (k : Ending) → judgeTurn t outcome len ≡ Ends k → isIdle t ≡ false
+  judged-ended Idle outcome len k e = absurd (let z : _≡_ {A = ℕ} 0 1 = cc in omega arith)
+  judged-ended (Waiting r) outcome len k e = refl
+  judged-ended (Displaced r) outcome len k e = refl
+  judged-ended (Working r) outcome len k e = refl
 
   incomplete-op : (b : Bool) (q : Request) → requested (incompleteTurn b q) ≡ At (q .op)
   incomplete-op true q = refl
   incomplete-op false q = refl
 
   -- a report after which the operation is repeated
-  pub repeat-moved : (outcome : ℕ) (q : Request) → judgeOf c u outcome ≡ Repeats q → Moved m frozen c (bookOf c u (Repeats q) frozen) u (requested (turnAt c u))
+  pub repeat-moved : (outcome len : ℕ) (q : Request) → judgeOf c u outcome len ≡ Repeats q → Moved m frozen c (bookOf c u (Repeats q) frozen) u (requested (turnAt c u))
   unfolding judgeOf bookOf repeatOf
-  repeat-moved outcome q e =
-      let j = judged-again (turnAt c u) outcome q e in
-      subst (Moved m frozen c (startOf (withTurn c u (incompleteTurn (goesOn c (q .priority) frozen) q)) frozen) u) (incomplete-op (goesOn c (q .priority) frozen) q ∙ j .1)
-      (moved m frozen c (withTurn c u (incompleteTurn (goesOn c (q .priority) frozen) q)) u (incompleteTurn (goesOn c (q .priority) frozen) q) (busy-inside c u (j .0)) refl (booked-facts outcome (Repeats q) e))
+  repeat-moved outcome len q e =
+      let j = judged-again (turnAt c u) outcome len q e in
+      subst (Moved m frozen c (startOf (withUnit c u (incompleteTurn (goesOn c (q .priority) frozen) q) (notedBy (positionAt c u) q)) frozen) u) (incomplete-op (goesOn c (q .priority) frozen) q ∙ j .1)
+      (moved m frozen c (withUnit c u (incompleteTurn (goesOn c (q .priority) frozen) q) (notedBy (positionAt c u) q)) u (incompleteTurn (goesOn c (q .priority) frozen) q) (notedBy (positionAt c u) q) (busy-inside c u (j .0)) refl (booked-facts outcome len (Repeats q) e))
 
   -- a report that ends the operation
-  pub end-moved : (outcome : ℕ) (k : Ending) → judgeOf c u outcome ≡ Ends k → Moved m frozen c (bookOf c u (Ends k) frozen) u Nothing
+  pub end-moved : (outcome len : ℕ) (k : Ending) → judgeOf c u outcome len ≡ Ends k → Moved m frozen c (bookOf c u (Ends k) frozen) u Nothing
   unfolding judgeOf bookOf endOf
-  end-moved outcome k e =
-      moved m frozen c (endedAt c u) u Idle (busy-inside c u (judged-ended (turnAt c u) outcome k e)) refl (booked-facts outcome (Ends k) e)
+  end-moved outcome len k e =
+      moved m frozen c (endedAt c u (positionAfter (operationAt c u) k (positionAt c u))) u Idle (positionAfter (operationAt c u) k (positionAt c u)) (busy-inside c u (judged-ended (turnAt c u) outcome len k e)) refl (booked-facts outcome len (Ends k) e)
 
 -- ---- freeze and thaw
 
 pub freeze-facts : (m : ℕ) (frozen : Bool) (c : Channel) → ChannelFacts m frozen c → ChannelFacts m true c
-freeze-facts m frozen c F = record { mark = F .mark; one = F .one; ranges = F .ranges; pool = F .pool; alive = λ f. true-not-false refl f }
+freeze-facts m frozen c F = record { mark = F .mark; one = F .one; ranges = F .ranges; stands = F .stands; pool = F .pool; alive = λ f. true-not-false refl f }
 
 pub thaw-facts : (m : ℕ) (frozen : Bool) (c : Channel) → ChannelFacts m frozen c → ChannelFacts m false (thawOf c)
 unfolding step

@@ -14,20 +14,21 @@ use Rattle.area.specs.Lists.{anyOf, allOf, countOf, isFound}
 use Rattle.area.proofs.Walks.{by-test, true-not-false, and-left, and-right, and-both, or-either, or-first, or-second, at-all, none-at}
 use Rattle.area.proofs.Marks.{unless, unless-so}
 use Rattle.area.proofs.Bools.{both, any-at, at-any, Somewhere}
+use Rattle.channel.specs.declared.Position.{Position}
 use Rattle.channel.specs.declared.Request.{Request}
 use Rattle.channel.specs.declared.Turn.{Turn}
 use Rattle.channel.specs.declared.Turn.the-variants.{Idle, Waiting, Displaced, Working}
 use Rattle.channel.specs.declared.Unit.{Unit}
 use Rattle.channel.specs.declared.Channel.{Channel}
 use Rattle.channel_outcomes.specs.Rules.{rowOf}
-use Rattle.channel.specs.Units.{size, idleUnit, unitAt, declaredAt, turnAt, freshWith, bitsFrom, freshOf, isIdle, isWorking, unitWorks}
+use Rattle.channel.specs.Units.{size, atStart, idleUnit, unitAt, declaredAt, turnAt, positionAt, freshWith, bitsFrom, freshOf, isIdle, isWorking, unitWorks}
 use Rattle.channel_turns.specs.Scans.{beginOf, workingIn, Scanned, finds, misses}
 use Rattle.channel_theorems.proofs.Theorems.Turning.{held, markAs, working-scan}
 use Rattle.channel_theorems.proofs.Theorems.Starts.{works-found}
 use Rattle.channel_theorems.proofs.Theorems.Sound.{Counted, OneWorks, HoldOk, InRanges}
 use Rattle.state.specs.Places.{noChannel}
 use Rattle.state_sound.specs.Requests.{requested, isNone, isWaiting}
-use Rattle.state_sound.specs.Soundness.{marksRight, unitWaits, worksRight, inLimit}
+use Rattle.state_sound.specs.Soundness.{positionInRange, noiseRight, positionRight, marksRight, unitWaits, worksRight, inLimit}
 use Rattle.state_sound.specs.Judged.{isCounted, turnRight, unitRight}
 use Rattle.state_sound.proofs.Everywhere.{by-place, all-places, place-inside, count-some, some-place, count-one-place, one-place-count}
 
@@ -38,6 +39,8 @@ pub record ChannelFacts (m : ℕ) (frozen : Bool) (c : Channel) : Type 0 where
   pub one : OneWorks c
   -- a unit that has a request is declared, and the request's counts are within their limits
   pub ranges : InRanges c
+  -- every unit's reel stands where it may
+  pub stands : (u : ℕ) → positionRight (unitAt c u) ≡ true
   -- units are declared in a pool with buffers
   pub pool : (u : ℕ) → declaredAt c u ≡ true → 0 < m
   -- where the pack is not frozen and a unit has a request, it works for one
@@ -49,12 +52,19 @@ counted : (q : Request) → isCounted q ≡ true → Counted q
 counted q h =
     let a = both {a = leb 1 (q .attempts)} h in
     let b = both {a = leb (q .attempts) (rowOf (q .op) .attempts)} (a .1) in
-    record { from = leb-true 1 (q .attempts) (a .0); limit = leb-true (q .attempts) (rowOf (q .op) .attempts) (b .0); words = leb-true (q .incomplete) (rowOf (q .op) .incomplete) (b .1) }
+    let n = both {a = leb (q .incomplete) (rowOf (q .op) .incomplete)} (b .1) in
+    record {
+      from = leb-true 1 (q .attempts) (a .0);
+      limit = leb-true (q .attempts) (rowOf (q .op) .attempts) (b .0);
+      words = leb-true (q .incomplete) (rowOf (q .op) .incomplete) (n .0);
+      noises = leb-true (q .noise) (rowOf (q .op) .noise) (n .1);
+    }
 
 is-counted : (q : Request) → Counted q → isCounted q ≡ true
 is-counted q k =
     and-both (leb 1 (q .attempts)) _ (le-leb 1 (q .attempts) (k .from))
-    (and-both (leb (q .attempts) (rowOf (q .op) .attempts)) _ (le-leb (q .attempts) (rowOf (q .op) .attempts) (k .limit)) (le-leb (q .incomplete) (rowOf (q .op) .incomplete) (k .words)))
+    (and-both (leb (q .attempts) (rowOf (q .op) .attempts)) _ (le-leb (q .attempts) (rowOf (q .op) .attempts) (k .limit))
+    (and-both (leb (q .incomplete) (rowOf (q .op) .incomplete)) _ (le-leb (q .incomplete) (rowOf (q .op) .incomplete) (k .words)) (le-leb (q .noise) (rowOf (q .op) .noise) (k .noises))))
 
 hold-ok : (d : Bool) (t : Turn) → (d || isNone (requested t)) ≡ true → turnRight t ≡ true → HoldOk d (held t)
 hold-ok d Idle h k = tt
@@ -94,7 +104,7 @@ module _ (m : ℕ) (frozen : Bool) (c : Channel) where
 
   module _ (units : allOf (unitRight m) (c .units) ≡ true) where
     at-unit : (u : ℕ) → unitRight m (unitAt c u) ≡ true
-    unfolding unitRight
+    unfolding unitRight positionRight
     at-unit = all-places (c .units) d (unitRight m) refl units
 
     ranges-of : InRanges c
@@ -102,7 +112,14 @@ module _ (m : ℕ) (frozen : Bool) (c : Channel) where
     ranges-of u =
         let h = both {a = not (declaredAt c u) || ltb 0 m} (at-unit u) in
         let k = both {a = declaredAt c u || isNone (requested (turnAt c u))} (h .1) in
-        hold-ok (declaredAt c u) (turnAt c u) (k .0) (k .1)
+        hold-ok (declaredAt c u) (turnAt c u) (k .0) (and-left (turnRight (turnAt c u)) _ (k .1))
+
+    stands-of : (u : ℕ) → positionRight (unitAt c u) ≡ true
+    unfolding unitRight
+    stands-of u =
+        let h = both {a = not (declaredAt c u) || ltb 0 m} (at-unit u) in
+        let k = both {a = declaredAt c u || isNone (requested (turnAt c u))} (h .1) in
+        and-right (turnRight (turnAt c u)) _ (k .1)
 
     pool-of : (u : ℕ) → declaredAt c u ≡ true → 0 < m
     unfolding unitRight
@@ -146,6 +163,7 @@ module _ (m : ℕ) (frozen : Bool) (c : Channel) where
     mark = marks-of a;
     one = one-of (leb-true (countOf unitWorks (c .units)) 1 (and-left (leb (countOf unitWorks (c .units)) 1) _ w));
     ranges = ranges-of b;
+    stands = stands-of b;
     pool = pool-of b;
     alive = alive-of w;
   }
@@ -162,7 +180,7 @@ module _ (m : ℕ) (frozen : Bool) (c : Channel) where
         at-all (unitRight m) d (c .units) (λ u l.
         let k = ok-held (declaredAt c u) (turnAt c u) (F .ranges u) in
         and-both (not (declaredAt c u) || ltb 0 m) _ (unless-so (declaredAt c u) _ (λ e. lt-ltb 0 m (F .pool u e)))
-        (and-both (declaredAt c u || isNone (requested (turnAt c u))) _ (k .0) (k .1)))
+        (and-both (declaredAt c u || isNone (requested (turnAt c u))) _ (k .0) (and-both (turnRight (turnAt c u)) _ (k .1) (F .stands u))))
 
     most-one : countOf unitWorks (c .units) ≤ 1
     most-one = one-place-count unitWorks d (c .units) (λ i j l k p q. F .one i j p q)
@@ -189,18 +207,36 @@ module _ (m : ℕ) (frozen : Bool) (c : Channel) where
 
 -- ---- a channel without requests
 
-pub idle-facts : (m : ℕ) (frozen : Bool) (c : Channel) → ((k : Bool) → markAs k c < size c) → ((u : ℕ) → turnAt c u ≡ Idle) → ((u : ℕ) → declaredAt c u ≡ true → 0 < m) → ChannelFacts m frozen c
-idle-facts m frozen c mark quiet pool = record {
+-- an idle unit at its start
+start-right : (d : Bool) → positionRight (record { declared = d; turn = Idle; position = atStart }) ≡ true
+unfolding positionRight
+start-right true = refl
+start-right false = refl
+
+pub idle-facts : (m : ℕ) (frozen : Bool) (c : Channel) → ((k : Bool) → markAs k c < size c) → ((u : ℕ) → turnAt c u ≡ Idle)
+    → ((u : ℕ) → positionAt c u ≡ atStart) → ((u : ℕ) → declaredAt c u ≡ true → 0 < m) → ChannelFacts m frozen c
+idle-facts m frozen c mark quiet start pool = record {
   mark = mark;
   one = λ x y p q. true-not-false p (ap isWorking (quiet x));
   ranges = λ u. rw (quiet u) tt;
+  stands = λ u. idle u;
   pool = pool;
   alive = λ f u i. true-not-false (ap isIdle (quiet u)) i;
 }
+  where
+    idle : (u : ℕ) → positionRight (unitAt c u) ≡ true
+    idle u =
+        ap (λ (t : Turn). positionRight (record { declared = declaredAt c u; turn = t; position = positionAt c u })) (quiet u)
+        ∙ ap (λ (p : Position). positionRight (record { declared = declaredAt c u; turn = Idle; position = p })) (start u)
+        ∙ start-right (declaredAt c u)
 
 pub fresh-idle : (bs : List Bool) (u : ℕ) → turnAt (freshWith bs) u ≡ Idle
 unfolding freshWith
 fresh-idle bs u = ap (λ (x : Unit). x .turn) (List·getD-map idleUnit bs u false)
+
+pub fresh-stands : (bs : List Bool) (u : ℕ) → positionAt (freshWith bs) u ≡ atStart
+unfolding freshWith
+fresh-stands bs u = ap (λ (x : Unit). x .position) (List·getD-map idleUnit bs u false)
 
 pub fresh-declared : (bs : List Bool) (u : ℕ) → declaredAt (freshWith bs) u ≡ getD bs u false
 unfolding freshWith
@@ -209,6 +245,10 @@ fresh-declared bs u = ap (λ (x : Unit). x .declared) (List·getD-map idleUnit b
 pub no-idle : (u : ℕ) → turnAt noChannel u ≡ Idle
 unfolding freshOf
 no-idle u = fresh-idle _ u
+
+pub no-stands : (u : ℕ) → positionAt noChannel u ≡ atStart
+unfolding freshOf
+no-stands u = fresh-stands _ u
 
 pub no-declared : (u : ℕ) → declaredAt noChannel u ≡ false
 unfolding freshOf bitsFrom anyOf
@@ -220,4 +260,4 @@ no-mark true = omega arith
 no-mark false = omega arith
 
 pub no-facts : (m : ℕ) (frozen : Bool) → ChannelFacts m frozen noChannel
-no-facts m frozen = idle-facts m frozen noChannel no-mark no-idle (λ u e. true-not-false e (no-declared u))
+no-facts m frozen = idle-facts m frozen noChannel no-mark no-idle no-stands (λ u e. true-not-false e (no-declared u))

@@ -35,7 +35,7 @@ use Rattle.state_sound.proofs.FileFacts as file
 use Rattle.state.specs.declared.State.{State}
 use Rattle.state.specs.Places.{noChannel, fileAt, channelIn, channelAt}
 use Rattle.state_sound.specs.Requests.{requested, isNone, isRead, isWrite, fitsOutput}
-use Rattle.state_sound.specs.Soundness.{ifOpen, channelOf, requestOf, fileInRange, turnInRange, unitInRange, marksRight, channelInRange, numbersInRange, buffersApart, noBufferHeldTwice, hasItsOwn, unitsApart, eachHasItsOwn, unitFits, channelFits, requestsFit, worksRight, channelsWork, takenByRead, readsAloneTake, writeHasBlock, writesHaveBlocks, fullBlocksRight, partBuffersRight, placesRight, inLimit, turnInLimit, channelInLimit, attemptsInLimit, freeMaskRight, sound}
+use Rattle.state_sound.specs.Soundness.{ifOpen, channelOf, requestOf, fileInRange, turnInRange, positionRight, unitInRange, marksRight, channelInRange, numbersInRange, buffersApart, noBufferHeldTwice, hasItsOwn, unitsApart, eachHasItsOwn, unitFits, channelFits, requestsFit, worksRight, channelsWork, takenByRead, readsAloneTake, writeHasBlock, writesHaveBlocks, fullBlocksRight, partBuffersRight, placesRight, inLimit, turnInLimit, channelInLimit, attemptsInLimit, freeMaskRight, sound}
 use Rattle.state_sound.specs.Judged.{fileReady, fileFits, turnRight, unitRight, unitServed, channelRight, judgedState}
 use Rattle.state_sound.proofs.Everywhere.{by-place, all-places, from-places, place-inside, pair-places}
 use Rattle.state_sound.proofs.Apart.{buffers-swap, units-swap, apart-swap, buffers-closed, units-closed, apart-closed}
@@ -125,12 +125,21 @@ unit-each d (Waiting q) h k = (and-both d _ (or-either d false h (λ e. e) (λ e
 unit-each d (Displaced q) h k = (and-both d _ (or-either d false h (λ e. e) (λ e. true-not-false e refl)) (and-left (leb 1 (q .attempts)) _ k), and-right (leb 1 (q .attempts)) _ k)
 unit-each d (Working q) h k = (and-both d _ (or-either d false h (λ e. e) (λ e. true-not-false e refl)) (and-left (leb 1 (q .attempts)) _ k), and-right (leb 1 (q .attempts)) _ k)
 
+-- all of them, of one unit
+abbrev unitClauses : ℕ → Unit → Bool
+unitClauses m x = (not (x .declared) || ltb 0 m) && ((x .declared || isNone (requested (x .turn))) && (turnRight (x .turn) && positionRight x))
+
 all-right : (m : ℕ) (us : List Unit) → allOf (unitInRange m) us ≡ true → allOf (λ (x : Unit). turnInLimit (x .turn)) us ≡ true → allOf (unitRight m) us ≡ true
 unfolding unitRight
 all-right m us a b = at-all (unitRight m) (idleUnit false) us (λ u l. one (getD us u (idleUnit false)) (all-at (unitInRange m) (idleUnit false) us a u l) (all-at (λ (x : Unit). turnInLimit (x .turn)) (idleUnit false) us b u l))
   where
-    one : (x : Unit) → unitInRange m x ≡ true → turnInLimit (x .turn) ≡ true → ((not (x .declared) || ltb 0 m) && ((x .declared || isNone (requested (x .turn))) && turnRight (x .turn))) ≡ true
-    one x p q = and-both (not (x .declared) || ltb 0 m) _ (and-left (not (x .declared) || ltb 0 m) _ p) (unit-both (x .declared) (x .turn) (and-right (not (x .declared) || ltb 0 m) _ p) q)
+    one : (x : Unit) → unitInRange m x ≡ true → turnInLimit (x .turn) ≡ true → unitClauses m x ≡ true
+    one x p q =
+        let a = both {a = not (x .declared) || ltb 0 m} p in
+        let b = both {a = turnInRange (x .declared) (x .turn)} (a .1) in
+        let k = both {a = x .declared || isNone (requested (x .turn))} (unit-both (x .declared) (x .turn) (b .0) q) in
+        and-both (not (x .declared) || ltb 0 m) _ (a .0)
+        (and-both (x .declared || isNone (requested (x .turn))) _ (k .0) (and-both (turnRight (x .turn)) _ (k .1) (b .1)))
 
 all-each : (m : ℕ) (us : List Unit) → allOf (unitRight m) us ≡ true → (allOf (unitInRange m) us ≡ true) × (allOf (λ (x : Unit). turnInLimit (x .turn)) us ≡ true)
 unfolding unitRight
@@ -139,15 +148,18 @@ all-each m us h = (
   at-all (λ (x : Unit). turnInLimit (x .turn)) (idleUnit false) us (λ u l. second (getD us u (idleUnit false)) (all-at (unitRight m) (idleUnit false) us h u l)),
 )
   where
-    first : (x : Unit) → ((not (x .declared) || ltb 0 m) && ((x .declared || isNone (requested (x .turn))) && turnRight (x .turn))) ≡ true → unitInRange m x ≡ true
+    first : (x : Unit) → unitClauses m x ≡ true → unitInRange m x ≡ true
     first x p =
-        let q = both {a = x .declared || isNone (requested (x .turn))} (and-right (not (x .declared) || ltb 0 m) _ p) in
-        and-both (not (x .declared) || ltb 0 m) _ (and-left (not (x .declared) || ltb 0 m) _ p) (unit-each (x .declared) (x .turn) (q .0) (q .1) .0)
+        let a = both {a = not (x .declared) || ltb 0 m} p in
+        let q = both {a = x .declared || isNone (requested (x .turn))} (a .1) in
+        let k = both {a = turnRight (x .turn)} (q .1) in
+        and-both (not (x .declared) || ltb 0 m) _ (a .0)
+        (and-both (turnInRange (x .declared) (x .turn)) _ (unit-each (x .declared) (x .turn) (q .0) (k .0) .0) (k .1))
 
-    second : (x : Unit) → ((not (x .declared) || ltb 0 m) && ((x .declared || isNone (requested (x .turn))) && turnRight (x .turn))) ≡ true → turnInLimit (x .turn) ≡ true
+    second : (x : Unit) → unitClauses m x ≡ true → turnInLimit (x .turn) ≡ true
     second x p =
         let q = both {a = x .declared || isNone (requested (x .turn))} (and-right (not (x .declared) || ltb 0 m) _ p) in
-        unit-each (x .declared) (x .turn) (q .0) (q .1) .1
+        unit-each (x .declared) (x .turn) (q .0) (and-left (turnRight (x .turn)) _ (q .1)) .1
 
 -- ---- from the walk of the code to the facts
 

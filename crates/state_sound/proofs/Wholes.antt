@@ -12,7 +12,7 @@ use Rattle.channel.specs.declared.Turn.{Turn}
 use Rattle.channel.specs.declared.Turn.the-variants.{Idle}
 use Rattle.channel.specs.declared.Channel.{Channel}
 use Rattle.channel.specs.declared.Work.{Work}
-use Rattle.channel.specs.Units.{size, declaredAt, turnAt, freshWith, bitsFrom, freshOf}
+use Rattle.channel.specs.Units.{size, atStart, declaredAt, turnAt, positionAt, freshWith, bitsFrom, freshOf}
 use Rattle.channel_turns.specs.Starts.{thawOf}
 use Rattle.channel_theorems.proofs.Theorems.Turning.{markAs}
 use Rattle.file.specs.declared.File.{File}
@@ -29,7 +29,7 @@ use Rattle.state_sound.specs.Judged.{fileReady}
 use Rattle.state.proofs.Lookups.{any-default}
 use Rattle.state_sound.proofs.Everywhere.{by-place}
 use Rattle.state_sound.proofs.Apart.{apart-closed}
-use Rattle.state_sound.proofs.ChannelFacts.{ChannelFacts, idle-facts, fresh-idle, no-idle, no-facts}
+use Rattle.state_sound.proofs.ChannelFacts.{ChannelFacts, idle-facts, fresh-idle, fresh-stands, no-idle, no-facts}
 use Rattle.state_sound.proofs.ChannelCalls.{freeze-facts, thaw-facts, thaw-alike}
 use Rattle.state_sound.proofs.Facts.{SoundFacts, facts-sound}
 
@@ -81,11 +81,15 @@ fresh-quiet : (mask u : ℕ) → turnAt (freshOf mask) u ≡ Idle
 unfolding freshOf
 fresh-quiet mask u = fresh-idle _ u
 
+fresh-start : (mask u : ℕ) → positionAt (freshOf mask) u ≡ atStart
+unfolding freshOf
+fresh-start mask u = fresh-stands _ u
+
 pub fresh-sound : (m w : ℕ) (masks : List ℕ) (n : ℕ) → poolSound m w ≡ true → 0 < m → sound (freshState m w masks n) ≡ true
 fresh-sound m w masks n pool some =
     facts-sound (freshState m w masks n)
     (blank-facts (freshState m w masks n) pool (closed-files n)
-    (λ c. subst (ChannelFacts m false) (sym (List·getD-map freshOf masks c 0)) (idle-facts m false (freshOf (getD masks c 0)) (fresh-mark (getD masks c 0)) (fresh-quiet (getD masks c 0)) (λ u e. some)))
+    (λ c. subst (ChannelFacts m false) (sym (List·getD-map freshOf masks c 0)) (idle-facts m false (freshOf (getD masks c 0)) (fresh-mark (getD masks c 0)) (fresh-quiet (getD masks c 0)) (fresh-start (getD masks c 0)) (λ u e. some)))
     (λ c u. ap (λ (x : Channel). turnAt x u) (List·getD-map freshOf masks c 0) ∙ fresh-quiet (getD masks c 0) u)
     (all-free m n))
 

@@ -22,7 +22,7 @@ use Rattle.pool.specs.Serving.{serves}
 use Rattle.state_sound.specs.Files.{takenCount, filesSound}
 use Rattle.state.specs.declared.State.{State}
 use Rattle.state_sound.specs.Requests.{requested, isNone, isRead, isWrite, fitsOutput}
-use Rattle.state_sound.specs.Soundness.{channelOf, requestOf, marksRight, worksRight, inLimit}
+use Rattle.state_sound.specs.Soundness.{channelOf, requestOf, positionRight, marksRight, worksRight, inLimit}
 
 -- ---- a file with its unit
 
@@ -45,7 +45,7 @@ turnRight (Displaced q) = isCounted q
 turnRight (Working q) = isCounted q
 
 unfoldable pub unitRight : ℕ → Unit → Bool
-unitRight m x = (not (x .declared) || ltb 0 m) && ((x .declared || isNone (requested (x .turn))) && turnRight (x .turn))
+unitRight m x = (not (x .declared) || ltb 0 m) && ((x .declared || isNone (requested (x .turn))) && (turnRight (x .turn) && positionRight x))
 
 -- a unit with a request has an open file
 unfoldable pub unitServed : List File → ℕ → ℕ → Unit → Bool

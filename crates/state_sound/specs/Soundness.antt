@@ -6,12 +6,14 @@ use mathlib.Core.List.{List}
 use lib.Dec.{leb, ltb, eqb}
 use Rattle.area.specs.Lists.{anyOf, allOf, allPairs, countOf, oneIf}
 use Rattle.area.specs.Numbered.{allFrom}
+use Rattle.channel.specs.declared.Position.{Position}
 use Rattle.channel.specs.declared.Request.{Request}
 use Rattle.channel.specs.declared.Turn.{Turn}
 use Rattle.channel.specs.declared.Turn.the-variants.{Idle, Waiting, Displaced, Working}
 use Rattle.channel.specs.declared.Unit.{Unit}
 use Rattle.channel.specs.declared.Channel.{Channel}
 use Rattle.channel.specs.declared.Work.{Work}
+use Rattle.channel_outcomes.specs.Positions.{mostPassed}
 use Rattle.channel_outcomes.specs.Rules.{rowOf}
 use Rattle.channel.specs.Units.{unitWorks, size, declaredAt, turnAt}
 use Rattle.file.specs.declared.File.{File}
@@ -50,9 +52,29 @@ turnInRange declared (Waiting q) = declared && leb 1 (q .attempts)
 turnInRange declared (Displaced q) = declared && leb 1 (q .attempts)
 turnInRange declared (Working q) = declared && leb 1 (q .attempts)
 
+-- a position (document 02, M-106): "each held at 32,767"; that of an undeclared unit has no meaning, so it is zero
+abbrev pub isAtStart : Position → Bool
+isAtStart p = eqb (p .marks) 0 && (eqb (p .records) 0 && not (p .noisy))
+
+abbrev pub positionInRange : Bool → Position → Bool
+positionInRange declared p = leb (p .marks) mostPassed && (leb (p .records) mostPassed && (declared || isAtStart p))
+
+-- a request has passed over noise records only on a unit that has met one
+abbrev pub noiseKnown : Request → Position → Bool
+noiseKnown q p = eqb (q .noise) 0 || p .noisy
+
+abbrev pub noiseRight : Turn → Position → Bool
+noiseRight Idle p = true
+noiseRight (Waiting q) p = noiseKnown q p
+noiseRight (Displaced q) p = noiseKnown q p
+noiseRight (Working q) p = noiseKnown q p
+
+unfoldable pub positionRight : Unit → Bool
+positionRight x = positionInRange (x .declared) (x .position) && noiseRight (x .turn) (x .position)
+
 -- before the first fresh start there are "no units": none is declared where m is 0
 abbrev pub unitInRange : ℕ → Unit → Bool
-unitInRange m x = (not (x .declared) || ltb 0 m) && turnInRange (x .declared) (x .turn)
+unitInRange m x = (not (x .declared) || ltb 0 m) && (turnInRange (x .declared) (x .turn) && positionRight x)
 
 -- the marks of both scans are units' numbers
 abbrev pub marksRight : Channel → Bool
@@ -138,10 +160,11 @@ partBuffersRight s = allOf (λ (f : File). ifOpen f (partRight f)) (s .files)
 unfoldable pub placesRight : State → Bool
 placesRight s = allOf (λ (f : File). ifOpen f (placeRight f)) (s .files)
 
--- ---- "no attempt past its limit", nor the incomplete words that an operation survives
+-- ---- "no attempt past its limit", nor the incomplete words that an operation survives and the noise records that it passes over
 
 abbrev pub inLimit : Request → Bool
-inLimit q = leb (q .attempts) (rowOf (q .op) .attempts) && leb (q .incomplete) (rowOf (q .op) .incomplete)
+inLimit q =
+    leb (q .attempts) (rowOf (q .op) .attempts) && (leb (q .incomplete) (rowOf (q .op) .incomplete) && leb (q .noise) (rowOf (q .op) .noise))
 
 abbrev pub turnInLimit : Turn → Bool
 turnInLimit Idle = true

@@ -2,6 +2,7 @@
 use crate::files::taken_count;
 use channel::Channel;
 use channel::Op;
+use channel::Position;
 use channel::Request;
 use channel::Turn;
 use channel::UNITS;
@@ -9,7 +10,9 @@ use channel::Unit;
 use channel::Work;
 use channel::is_declared;
 use channel::turn_of;
+use channel_outcomes::MOST_PASSED;
 use channel_outcomes::attempt_limit;
+use channel_outcomes::noise_limit;
 use file::File;
 use file_input::has_full;
 use pool::FILES;
@@ -21,7 +24,7 @@ ghost use mathlib.Core.Bool.{_&&_};
 ghost use Rattle.channel_outcomes.specs.Rules.{rowOf};
 ghost use Rattle.channel.specs.Units.{isWorking, unitWorks, unitCount};
 ghost use Rattle.state_sound.specs.Requests.{requested as requestedOf, isNone, isReadOp, isWriteOp, opFits, isRead, isWrite, fitsOutput, isWaiting, isRead as readOf};
-ghost use Rattle.state_sound.specs.Soundness.{inLimit, unitWaits, worksRight};
+ghost use Rattle.state_sound.specs.Soundness.{isAtStart, positionInRange, noiseKnown, noiseRight, positionRight, inLimit, unitWaits, worksRight};
 ghost use Rattle.state_sound.specs.Judged.{isCounted, turnRight, unitRight, fileReady, fileFits, unitServed, channelRight};
 ghost use Rattle.area.specs.Lists.{allOf, oneIf, anyOf, countOf};
 ghost use Prim.Native.Nat.{_≤_};
@@ -153,14 +156,15 @@ fn incomplete_limit(op: Op) -> u8
     }
 }
 
-// The request's attempt is 1 to its limit, and its incomplete words are within theirs.
+// The request's attempt is 1 to its limit, and its incomplete words and noise records are within theirs.
 fn is_counted(q: Request) -> bool
     ensures { λ r. ⌜ r ≡ isCounted q ⌝ }
 {
     let op = q.op;
     let most = attempt_limit(op);
     let words = incomplete_limit(op);
-    (1 <= q.attempts) & ((q.attempts <= most) & (q.incomplete <= words))
+    let noise = noise_limit(op);
+    (1 <= q.attempts) & ((q.attempts <= most) & ((q.incomplete <= words) & (q.noise <= noise)))
 }
 
 fn turn_right(t: Turn) -> bool
@@ -174,14 +178,59 @@ fn turn_right(t: Turn) -> bool
     }
 }
 
-// Units are declared in a pool with buffers only; one that is not declared is idle; a request's counts are right.
+// Nothing was passed or met.
+fn is_at_start(p: Position) -> bool
+    ensures { λ r. ⌜ r ≡ isAtStart p ⌝ }
+{
+    (p.marks == 0) & ((p.records == 0) & !p.noisy)
+}
+
+// A position's counts are held; that of a unit which is not declared is zero.
+fn position_in_range(declared: bool, p: Position) -> bool
+    ensures { λ r. ⌜ r ≡ positionInRange declared p ⌝ }
+{
+    let zero = is_at_start(p);
+    (p.marks <= MOST_PASSED) & ((p.records <= MOST_PASSED) & (declared | zero))
+}
+
+fn noise_known(q: Request, p: Position) -> bool
+    ensures { λ r. ⌜ r ≡ noiseKnown q p ⌝ }
+{
+    (q.noise == 0) | p.noisy
+}
+
+// A request has passed over noise records only on a unit that has met one.
+fn noise_right(t: Turn, p: Position) -> bool
+    ensures { λ r. ⌜ r ≡ noiseRight t p ⌝ }
+{
+    match t {
+        Turn::Idle => true,
+        Turn::Waiting(q) => noise_known(q, p),
+        Turn::Displaced(q) => noise_known(q, p),
+        Turn::Working(q) => noise_known(q, p),
+    }
+}
+
+// Whether the unit's reel stands where it may.
+fn position_right(x: Unit) -> bool
+    ensures { λ r. ⌜ r ≡ positionRight x ⌝ }
+{
+    let t = x.turn;
+    let p = x.position;
+    let inside = position_in_range(x.declared, p);
+    let noise = noise_right(t, p);
+    inside & noise
+}
+
+// Units are declared in a pool with buffers only; one that is not declared is idle; a request's counts and the unit's position are right.
 fn unit_right(m: u8, x: Unit) -> bool
     ensures { λ r. ⌜ r ≡ unitRight m x ⌝ }
 {
     let t = x.turn;
     let idle = is_none(requested(t));
     let counts = turn_right(t);
-    (!x.declared | (0 < m)) & ((x.declared | idle) & counts)
+    let stands = position_right(x);
+    (!x.declared | (0 < m)) & ((x.declared | idle) & (counts & stands))
 }
 
 // One if a read is requested, else 0.

@@ -10,9 +10,10 @@ use lib.ListN.{length, take, set, List·getD-eq-default}
 use lib.Seq.{set-out, take-suc-set, take-all}
 use Rattle.channel.specs.declared.Turn.{Turn}
 use Rattle.channel.specs.declared.Turn.the-variants.{Idle}
+use Rattle.channel.specs.declared.Position.{Position}
 use Rattle.channel.specs.declared.Unit.{Unit}
 use Rattle.channel.specs.declared.Channel.{Channel}
-use Rattle.channel.specs.Units.{size, idleUnit, unitAt, declaredAt, turnAt, withTurn, bitsFrom}
+use Rattle.channel.specs.Units.{size, atStart, idleUnit, unitAt, declaredAt, turnAt, positionAt, withUnit, bitsFrom}
 
 -- a number that is no unit's
 module _ (c : Channel) (u : ℕ) (beyond : size c ≤ u) where
@@ -25,9 +26,12 @@ module _ (c : Channel) (u : ℕ) (beyond : size c ≤ u) where
   pub turn-beyond : turnAt c u ≡ Idle
   turn-beyond = ap (λ (x : Unit). x .turn) unit-beyond
 
-  pub with-beyond : (t : Turn) → withTurn c u t ≡ c
-  unfolding withTurn
-  with-beyond t = ap (λ (us : List Unit). record { units = us; mark = c .mark; urgent = c .urgent }) (set-out (c .units) u (record { declared = declaredAt c u; turn = t }) beyond)
+  pub position-beyond : positionAt c u ≡ atStart
+  position-beyond = ap (λ (x : Unit). x .position) unit-beyond
+
+  pub with-beyond : (t : Turn) (p : Position) → withUnit c u t p ≡ c
+  unfolding withUnit
+  with-beyond t p = ap (λ (us : List Unit). record { units = us; mark = c .mark; urgent = c .urgent }) (set-out (c .units) u (record { declared = declaredAt c u; turn = t; position = p }) beyond)
 
 -- ---- a fresh start: the units before i are made, and the rest follow
 

@@ -4,10 +4,10 @@ use mathlib.Core.Bool.{Bool, true, false, cond, _&&_, _||_, or-true}
 use mathlib.Core.List.{List, [], _∷_}
 use Prim.Native.Nat.{ℕ, zero, suc, _≤_, _<_}
 use native.Mathlib.Omega.{arith}
-use lib.Dec.{leb, eqb, leb·zero}
+use lib.Dec.{leb, ltb, eqb, leb·zero}
 use lib.ListN.{getD}
-use borrow.Author.Tests.{leb-false, eq-eqb, ne-eqb}
-use Rattle.area.proofs.Walks.{or-left, or-right}
+use borrow.Author.Tests.{leb-false, ltb-true, eqb-true, eq-eqb, ne-eqb}
+use Rattle.area.proofs.Walks.{or-left, or-right, and-left, and-right}
 use Rattle.area.specs.Lists.{anyOf}
 use Rattle.channel.specs.declared.Op.{Op}
 use Rattle.channel.specs.declared.Op.the-variants.{Read, Write, Mark}
@@ -15,7 +15,7 @@ use Rattle.channel.specs.declared.Request.{Request}
 use Rattle.channel_outcomes.specs.declared.Ending.the-variants.{MediumEnd}
 use Rattle.channel_outcomes.specs.declared.Verdict.{Verdict}
 use Rattle.channel_outcomes.specs.declared.Verdict.the-variants.{Refused, Repeats, Ends}
-use Rattle.channel_outcomes.specs.Rules.{opNumber, incompleteWord, rowOf, isAllowed, isPermanent, nextAttempt, endingOf, verdictOf}
+use Rattle.channel_outcomes.specs.Rules.{opNumber, incompleteWord, rowOf, isAllowed, isPermanent, isNoise, pastNoise, nextAttempt, endingOf, tableVerdict, verdictOf}
 
 -- the table of the code
 abbrev pub rules : List (List ℕ)
@@ -54,22 +54,22 @@ limit-fits Read = below-five (λ k. limitAt Read k ≤ 255) (omega arith) (omega
 limit-fits Write = below-five (λ k. limitAt Write k ≤ 255) (omega arith) (omega arith) (omega arith) (omega arith) (omega arith)
 limit-fits Mark = below-five (λ k. limitAt Mark k ≤ 255) (omega arith) (omega arith) (omega arith) (omega arith) (omega arith)
 
-module _ (urgent : Bool) (a i : ℕ) where
+module _ (urgent : Bool) (a i n : ℕ) where
   abbrev ofOp : Op → Request
-  ofOp op = record { op = op; priority = urgent; attempts = a; incomplete = i }
+  ofOp op = record { op = op; priority = urgent; attempts = a; incomplete = i; noise = n }
 
   abbrev Judged : Op → ℕ → Type 0
-  Judged op outcome = verdictOf (ofOp op) outcome ≡ judgedBy (limitAt op outcome) (ofOp op) outcome
+  Judged op outcome = tableVerdict (ofOp op) outcome ≡ judgedBy (limitAt op outcome) (ofOp op) outcome
 
   judged : (op : Op) (outcome : ℕ) → outcome < 5 → Judged op outcome
-  unfolding verdictOf isAllowed isPermanent anyOf rowOf
+  unfolding tableVerdict isAllowed isPermanent anyOf rowOf
   judged Read = below-five (Judged Read) (rw (leb·zero a)) refl refl (rw (leb·zero a)) refl
   judged Write = below-five (Judged Write) (rw (leb·zero a)) refl (rw (leb·zero a, leb·zero i, or-true (leb 27 a))) refl (rw (leb·zero a))
   judged Mark = below-five (Judged Mark) (rw (leb·zero a)) refl refl refl (rw (leb·zero a))
 
 -- every request and outcome of the table
-pub verdict-by-table : (q : Request) (outcome : ℕ) → outcome < 5 → verdictOf q outcome ≡ judgedBy (limitAt (q .op) outcome) q outcome
-verdict-by-table q outcome = judged (q .priority) (q .attempts) (q .incomplete) (q .op) outcome
+pub verdict-by-table : (q : Request) (outcome : ℕ) → outcome < 5 → tableVerdict q outcome ≡ judgedBy (limitAt (q .op) outcome) q outcome
+verdict-by-table q outcome = judged (q .priority) (q .attempts) (q .incomplete) (q .noise) (q .op) outcome
 
 -- any other number is in no row
 in-no-row : (outcome : ℕ) → ((k : ℕ) → k < 5 → eqb outcome k ≡ false) → (op : Op) → anyOf (eqb outcome) (rowOf op .allowed) ≡ false
@@ -78,21 +78,21 @@ in-no-row outcome h Read = rw (h 0 (omega arith), h 1 (omega arith), h 2 (omega 
 in-no-row outcome h Write = rw (h 0 (omega arith), h 1 (omega arith), h 2 (omega arith), h 4 (omega arith))
 in-no-row outcome h Mark = rw (h 0 (omega arith), h 1 (omega arith), h 4 (omega arith))
 
-pub verdict-beyond : (q : Request) (outcome : ℕ) → 5 ≤ outcome → verdictOf q outcome ≡ Refused 12
-unfolding verdictOf isAllowed
+pub verdict-beyond : (q : Request) (outcome : ℕ) → 5 ≤ outcome → tableVerdict q outcome ≡ Refused 12
+unfolding tableVerdict isAllowed
 verdict-beyond q outcome h = rw (in-no-row outcome (λ k l. ne-eqb outcome k (omega arith)) (q .op))
 
 module _ (q : Request) (outcome k : ℕ) (below : outcome < 5) (entry : k ≡ limitAt (q .op) outcome) where
-  by-entry : verdictOf q outcome ≡ judgedBy k q outcome
+  by-entry : tableVerdict q outcome ≡ judgedBy k q outcome
   by-entry = verdict-by-table q outcome below ∙ ap (λ (n : ℕ). judgedBy n q outcome) (sym entry)
 
-  pub not-allowed : k ≡ 255 → verdictOf q outcome ≡ Refused 12
+  pub not-allowed : k ≡ 255 → tableVerdict q outcome ≡ Refused 12
   not-allowed e = by-entry ∙ rw (eq-eqb k 255 e)
 
-  pub has-ended : (k ≡ 255 → ⊥) → endsBy k q outcome ≡ true → verdictOf q outcome ≡ Ends (endingOf (q .op) (q .attempts) outcome)
+  pub has-ended : (k ≡ 255 → ⊥) → endsBy k q outcome ≡ true → tableVerdict q outcome ≡ Ends (endingOf (q .op) (q .attempts) outcome)
   has-ended n e = by-entry ∙ rw (ne-eqb k 255 n, e)
 
-  pub is-repeated : (k ≡ 255 → ⊥) → endsBy k q outcome ≡ false → verdictOf q outcome ≡ Repeats (nextAttempt q outcome)
+  pub is-repeated : (k ≡ 255 → ⊥) → endsBy k q outcome ≡ false → tableVerdict q outcome ≡ Repeats (nextAttempt q outcome)
   is-repeated n e = by-entry ∙ rw (ne-eqb k 255 n, e)
 
 -- an operation that is repeated has room for one attempt more, and for one incomplete word more if it met one
@@ -118,3 +118,42 @@ unfolding rowOf
 limit-redundancy Read = refl
 limit-redundancy Write = refl
 limit-redundancy Mark = refl
+
+-- ---- noise records
+
+noise-fits : (op : Op) → rowOf op .noise ≤ 255
+unfolding rowOf
+noise-fits Read = omega arith
+noise-fits Write = omega arith
+noise-fits Mark = omega arith
+
+module _ (q : Request) (outcome length : ℕ) (noise : Bool) (known : noise ≡ isNoise q outcome length) where
+  -- a request that passes over a noise record passed over fewer than its row allows: there is room to count it
+  pub noise-left : noise ≡ true → q .noise < rowOf (q .op) .noise
+  unfolding isNoise
+  noise-left e =
+      let h : (eqb outcome 1 && (ltb length 3 && ltb (q .noise) (rowOf (q .op) .noise))) ≡ true = sym known ∙ e in
+      ltb-true (q .noise) (rowOf (q .op) .noise) (and-right (ltb length 3) _ (and-right (eqb outcome 1) _ h))
+
+  pub noise-room : noise ≡ true → q .noise < 255
+  noise-room e = omega (arith, noise-left e, noise-fits (q .op))
+
+  pub noise-passed : noise ≡ true → verdictOf q outcome length ≡ Repeats (pastNoise q)
+  unfolding verdictOf
+  noise-passed e = rw (← known, e)
+
+  pub no-noise : noise ≡ false → verdictOf q outcome length ≡ tableVerdict q outcome
+  unfolding verdictOf
+  no-noise e = rw (← known, e)
+
+  -- it is a redundancy, which a read may have
+  pub noise-allowed : noise ≡ true → isAllowed (q .op) outcome ≡ true
+  unfolding isNoise isAllowed anyOf rowOf
+  noise-allowed e =
+      let h : (eqb outcome 1 && (ltb length 3 && ltb (q .noise) (rowOf (q .op) .noise))) ≡ true = sym known ∙ e in
+      ap (isAllowed (q .op)) (eqb-true outcome 1 (and-left (eqb outcome 1) _ h)) ∙ allowed (q .op)
+    where
+      allowed : (op : Op) → isAllowed op 1 ≡ true
+      allowed Read = refl
+      allowed Write = refl
+      allowed Mark = refl

@@ -8,11 +8,12 @@ use Prim.Native.Nat.{ℕ, _+_, _≤_, _<_}
 use native.Mathlib.Decide.{ℕ-discrete}
 use native.Mathlib.Omega.{arith}
 use lib.Dec.{eqb}
+use Rattle.channel.specs.declared.Position.{Position}
 use Rattle.channel.specs.declared.Request.{Request}
 use Rattle.channel.specs.declared.Turn.{Turn}
 use Rattle.channel.specs.declared.Turn.the-variants.{Idle, Waiting}
 use Rattle.channel.specs.declared.Channel.{Channel}
-use Rattle.channel.specs.Units.{size, turnAt, withTurn, isIdle}
+use Rattle.channel.specs.Units.{size, turnAt, positionAt, withUnit, withTurn, isIdle}
 use Rattle.channel_turns.specs.Starts.{startOf, newRequest}
 use Rattle.channel_theorems.specs.History.{Station, Event, Step, step, run, count, aRequestOf, anAnswerTo}
 use Rattle.area.specs.Lists.{oneIf}
@@ -43,12 +44,12 @@ holding-start c f u = go (startOf c f) (started c f)
     go d (isQuiet g) = refl
     go d (begins x t b) = at-set c x t (b .within) (λ y k. oneHeld (held (k .turn)) ≡ holding c y) (ap oneHeld (b .same)) (λ y ne. refl) u
 
-holding-here : (c : Channel) (x u : ℕ) (t : Turn) → x < size c → x ≡ u → holding (withTurn c x t) u ≡ oneHeld (held t)
-holding-here c x u t l e =
+holding-here : (c : Channel) (x u : ℕ) (t : Turn) (stood : Position) → x < size c → x ≡ u → holding (withUnit c x t stood) u ≡ oneHeld (held t)
+holding-here c x u t stood l e =
     at-set c x t l (λ y k. x ≡ y → oneHeld (held (k .turn)) ≡ oneHeld (held t)) (λ i. refl) (λ y ne i. absurd (ne (sym i))) u e
 
-holding-other : (c : Channel) (x u : ℕ) (t : Turn) → x < size c → x ≢ u → holding (withTurn c x t) u ≡ holding c u
-holding-other c x u t l n =
+holding-other : (c : Channel) (x u : ℕ) (t : Turn) (stood : Position) → x < size c → x ≢ u → holding (withUnit c x t stood) u ≡ holding c u
+holding-other c x u t stood l n =
     at-set c x t l (λ y k. x ≢ y → oneHeld (held (k .turn)) ≡ holding c y) (λ i. absurd (i refl)) (λ y ne i. refl) u n
 
 -- what a call does to u's balance
@@ -71,11 +72,11 @@ balanced u s e o (asks x op p d i) = go (ℕ-discrete x u)
 
     go : Dec (x ≡ u) → 0 + holding (startOf (withTurn c x t) (s .frozen)) u ≡ holding c u + oneIf (eqb x u && true)
     go (yes q) =
-        let a : holding (withTurn c x t) u ≡ 1 = holding-here c x u t l q in
+        let a : holding (withTurn c x t) u ≡ 1 = holding-here c x u t _ l q in
         let b : holding c u ≡ 0 = subst (λ (y : ℕ). holding c y ≡ 0) q (ap (λ (k : Turn). oneHeld (held k)) i) in
         rw (of-unit q) (omega (arith, holding-start (withTurn c x t) (s .frozen) u))
-    go (no n) = rw (of-other n) (omega (arith, holding-start (withTurn c x t) (s .frozen) u, holding-other c x u t l n))
-balanced u s e o (repeats x oc r q t i j m) = go (ℕ-discrete x u)
+    go (no n) = rw (of-other n) (omega (arith, holding-start (withTurn c x t) (s .frozen) u, holding-other c x u t (positionAt c x) l n))
+balanced u s e o (repeats x oc len r q t stood i j m stands) = go (ℕ-discrete x u)
   where
     c : Channel
     c = s .channel
@@ -83,13 +84,13 @@ balanced u s e o (repeats x oc r q t i j m) = go (ℕ-discrete x u)
     l : x < size c
     l = busy-inside c x (ap isIdle i)
 
-    go : Dec (x ≡ u) → oneIf (eqb x u && false) + holding (startOf (withTurn c x t) (s .frozen)) u ≡ holding c u + 0
+    go : Dec (x ≡ u) → oneIf (eqb x u && false) + holding (startOf (withUnit c x t stood) (s .frozen)) u ≡ holding c u + 0
     go (yes k) =
-        let a : holding (withTurn c x t) u ≡ 1 = holding-here c x u t l k ∙ ap oneHeld (incomplete-held q t m) in
+        let a : holding (withUnit c x t stood) u ≡ 1 = holding-here c x u t _ l k ∙ ap oneHeld (incomplete-held q t m) in
         let b : holding c u ≡ 1 = subst (λ (y : ℕ). holding c y ≡ 1) k (ap (λ (z : Turn). oneHeld (held z)) i) in
-        rw (and-false (eqb x u)) (omega (arith, holding-start (withTurn c x t) (s .frozen) u))
-    go (no n) = rw (and-false (eqb x u)) (omega (arith, holding-start (withTurn c x t) (s .frozen) u, holding-other c x u t l n))
-balanced u s e o (ends x oc r i) = go (ℕ-discrete x u)
+        rw (and-false (eqb x u)) (omega (arith, holding-start (withUnit c x t stood) (s .frozen) u))
+    go (no n) = rw (and-false (eqb x u)) (omega (arith, holding-start (withUnit c x t stood) (s .frozen) u, holding-other c x u t stood l n))
+balanced u s e o (ends x oc len r how stood i judged stands) = go (ℕ-discrete x u)
   where
     c : Channel
     c = s .channel
@@ -97,14 +98,14 @@ balanced u s e o (ends x oc r i) = go (ℕ-discrete x u)
     l : x < size c
     l = busy-inside c x (ap isIdle i)
 
-    go : Dec (x ≡ u) → oneIf (eqb x u && true) + holding (startOf (endedAt c x) (s .frozen)) u ≡ holding c u + 0
+    go : Dec (x ≡ u) → oneIf (eqb x u && true) + holding (startOf (endedAt c x stood) (s .frozen)) u ≡ holding c u + 0
     go (yes q) =
-        let a : holding (endedAt c x) u ≡ 0 = holding-here c x u Idle l q in
+        let a : holding (endedAt c x stood) u ≡ 0 = holding-here c x u Idle _ l q in
         let b : holding c u ≡ 1 = subst (λ (y : ℕ). holding c y ≡ 1) q (ap (λ (k : Turn). oneHeld (held k)) i) in
-        rw (of-unit q) (omega (arith, holding-start (endedAt c x) (s .frozen) u))
+        rw (of-unit q) (omega (arith, holding-start (endedAt c x stood) (s .frozen) u))
     go (no n) =
-        let a : holding (endedAt c x) u ≡ holding c u = holding-other c x u Idle l n in
-        rw (of-other n) (omega (arith, holding-start (endedAt c x) (s .frozen) u))
+        let a : holding (endedAt c x stood) u ≡ holding c u = holding-other c x u Idle _ l n in
+        rw (of-other n) (omega (arith, holding-start (endedAt c x stood) (s .frozen) u))
 balanced u s e o freezes = omega arith
 balanced u s e o thaws = omega (arith, holding-start (s .channel) false u)
 

@@ -14,13 +14,16 @@ use Rattle.area.specs.Lists.{isFound}
 use Rattle.area.proofs.Walks.{true-not-false}
 use Rattle.area.proofs.Marks.{cond-true, cond-false}
 use Rattle.channel.specs.declared.Op.{Op}
+use Rattle.channel.specs.declared.Position.{Position}
 use Rattle.channel.specs.declared.Request.{Request}
 use Rattle.channel.specs.declared.Turn.{Turn}
 use Rattle.channel.specs.declared.Turn.the-variants.{Idle, Waiting, Displaced, Working}
 use Rattle.channel.specs.declared.Unit.{Unit}
 use Rattle.channel.specs.declared.Channel.{Channel}
-use Rattle.channel.specs.Units.{size, turnAt, withTurn, isIdle, isWorking}
+use Rattle.channel.specs.Units.{size, turnAt, positionAt, operationAt, withUnit, withTurn, isIdle, isWorking}
 use Rattle.channel_turns.specs.Scans.{workingIn, priorityIn, ordinaryIn, nextTurn, orElse, beginOf, Before, Scanned, finds, misses}
+use Rattle.channel_outcomes.specs.declared.Ending.{Ending}
+use Rattle.channel_outcomes.specs.Positions.{positionAfter, notedBy}
 use Rattle.channel_turns.specs.Starts.{begunTurn, startOf, newRequest}
 use Rattle.channel_turns.specs.Turns.{incompleteTurn, goesOn, repeatOf, markMoved, endOf}
 use Rattle.channel_turns.proofs.Laws.Starts.{start-stays, start-begins}
@@ -42,9 +45,9 @@ held-start c f y = go (startOf c f) (started c f)
     go d (isQuiet g) = refl
     go d (begins x t b) = at-set c x t (b .within) (λ z k. held (k .turn) ≡ held (turnAt c z)) (b .same) (λ z ne. refl) y
 
-held-set : (c : Channel) (x : ℕ) (t : Turn) (y : ℕ) → x < size c
-    → held (turnAt (withTurn c x t) y) ≡ cond (eqb y x) (held t) (held (turnAt c y))
-held-set c x t y l =
+held-set : (c : Channel) (x : ℕ) (t : Turn) (stood : Position) (y : ℕ) → x < size c
+    → held (turnAt (withUnit c x t stood) y) ≡ cond (eqb y x) (held t) (held (turnAt c y))
+held-set c x t stood y l =
     at-set c x t l (λ z k. held (k .turn) ≡ cond (eqb z x) (held t) (held (turnAt c z)))
     (sym (cond-true (held t) (held (turnAt c x)) (eq-eqb x x refl)))
     (λ z ne. sym (cond-false (held t) (held (turnAt c z)) (ne-eqb z x ne))) y
@@ -57,7 +60,7 @@ mark-start k c f = go (startOf c f) (started c f)
     go d (isFrozen e) = refl
     go d (isBusy x e) = refl
     go d (isQuiet g) = refl
-    go d (begins x t b) = mark-with k c x t
+    go d (begins x t b) = mark-with k c x t _
 
 -- an accepted ask
 pub ask-held : (s : Station) (u : ℕ) (op : Op) (p : Bool) (o : Step) → Took s (ask u op p) o → o .answer ≡ accepted → (y : ℕ)
@@ -65,20 +68,27 @@ pub ask-held : (s : Station) (u : ℕ) (op : Op) (p : Bool) (o : Step) → Took 
 ask-held s u op p o refuses e y = absurd (let z : _≡_ {A = ℕ} 0 1 = cc in omega arith)
 ask-held s u op p o (asks x q b d i) e y =
     held-start (withTurn (s .channel) x (Waiting (newRequest q b))) (s .frozen) y
-    ∙ held-set (s .channel) x (Waiting (newRequest q b)) y (declared-inside (s .channel) x d)
+    ∙ held-set (s .channel) x (Waiting (newRequest q b)) _ y (declared-inside (s .channel) x d)
 
 pub ask-mark : (k : Bool) (s : Station) (u : ℕ) (op : Op) (p : Bool) (o : Step) → Took s (ask u op p) o → markAs k (o .after .channel) ≡ markAs k (s .channel)
 ask-mark k s u op p o refuses = refl
 ask-mark k s u op p o (asks x q b d i) =
-    mark-start k (withTurn (s .channel) x (Waiting (newRequest q b))) (s .frozen) ∙ mark-with k (s .channel) x (Waiting (newRequest q b))
+    mark-start k (withTurn (s .channel) x (Waiting (newRequest q b))) (s .frozen) ∙ mark-with k (s .channel) x (Waiting (newRequest q b)) _
 
 -- an operation that is repeated, and one that has ended
 module _ (c : Channel) (u : ℕ) (l : u < size c) (frozen : Bool) where
+  -- where the reel stands then
+  abbrev going : Request → Position
+  going q = notedBy (positionAt c u) q
+
+  abbrev ending : Ending → Position
+  ending e = positionAfter (operationAt c u) e (positionAt c u)
+
   pub repeat-held : (q : Request) (y : ℕ) → held (turnAt (repeatOf c u q frozen) y) ≡ cond (eqb y u) (some q) (held (turnAt c y))
   unfolding repeatOf
   repeat-held q y =
-      held-start (withTurn c u (incompleteTurn (goesOn c (q .priority) frozen) q)) frozen y
-      ∙ held-set c u (incompleteTurn (goesOn c (q .priority) frozen) q) y l
+      held-start (withUnit c u (incompleteTurn (goesOn c (q .priority) frozen) q) (going q)) frozen y
+      ∙ held-set c u (incompleteTurn (goesOn c (q .priority) frozen) q) _ y l
       ∙ ap (λ (h : Option Request). cond (eqb y u) h (held (turnAt c y))) (either (goesOn c (q .priority) frozen))
     where
       either : (b : Bool) → held (incompleteTurn b q) ≡ some q
@@ -88,17 +98,17 @@ module _ (c : Channel) (u : ℕ) (l : u < size c) (frozen : Bool) where
   pub repeat-mark : (k : Bool) (q : Request) → markAs k (repeatOf c u q frozen) ≡ markAs k c
   unfolding repeatOf
   repeat-mark k q =
-      mark-start k (withTurn c u (incompleteTurn (goesOn c (q .priority) frozen) q)) frozen
-      ∙ mark-with k c u (incompleteTurn (goesOn c (q .priority) frozen) q)
+      mark-start k (withUnit c u (incompleteTurn (goesOn c (q .priority) frozen) q) (going q)) frozen
+      ∙ mark-with k c u (incompleteTurn (goesOn c (q .priority) frozen) q) _
 
-  pub end-held : (y : ℕ) → held (turnAt (endOf c u frozen) y) ≡ cond (eqb y u) none (held (turnAt c y))
+  pub end-held : (e : Ending) (y : ℕ) → held (turnAt (endOf c u e frozen) y) ≡ cond (eqb y u) none (held (turnAt c y))
   unfolding endOf
-  end-held y = held-start (endedAt c u) frozen y ∙ held-set c u Idle y l
+  end-held e y = held-start (endedAt c u (ending e)) frozen y ∙ held-set c u Idle _ y l
 
   -- each end moves the mark of its own kind
-  pub end-mark : (k : Bool) → markAs k (endOf c u frozen) ≡ markMoved (heldAs k (turnAt c u)) (size c) u (markAs k c)
+  pub end-mark : (k : Bool) (e : Ending) → markAs k (endOf c u e frozen) ≡ markMoved (heldAs k (turnAt c u)) (size c) u (markAs k c)
   unfolding endOf
-  end-mark k = mark-start k (endedAt c u) frozen ∙ ended-mark k c u
+  end-mark k e = mark-start k (endedAt c u (ending e)) frozen ∙ ended-mark k c u (ending e)
 
 -- ---- which unit a start begins
 
@@ -197,24 +207,29 @@ start-frozen c = start-stays c true (isFound (workingIn c)) refl refl
 -- ---- an operation that is repeated: it goes on, or is set aside
 
 -- the channel is quiet once its one working unit stops
-pub quiet-set : (c : Channel) (u : ℕ) (t : Turn) → OneWorks c → isWorking (turnAt c u) ≡ true → isWorking t ≡ false → u < size c → Quiet (withTurn c u t)
-quiet-set c u t one w stops l = at-set c u t l (λ y k. isWorking (k .turn) ≡ false) stops (λ y ne. other y ne (isWorking (turnAt c y)) refl)
+pub quiet-set : (c : Channel) (u : ℕ) (t : Turn) (stood : Position) → OneWorks c → isWorking (turnAt c u) ≡ true → isWorking t ≡ false → u < size c
+    → Quiet (withUnit c u t stood)
+quiet-set c u t stood one w stops l = at-set c u t l (λ y k. isWorking (k .turn) ≡ false) stops (λ y ne. other y ne (isWorking (turnAt c y)) refl)
   where
     other : (y : ℕ) → y ≢ u → (b : Bool) → isWorking (turnAt c y) ≡ b → b ≡ false
     other y ne true e = absurd (ne (one y u e w))
     other y ne false e = refl
 
 module _ (c : Channel) (u : ℕ) (r q : Request) (at : turnAt c u ≡ Working r) where
+  -- where the reel stands while q is repeated
+  abbrev stands : Position
+  stands = notedBy (positionAt c u) q
+
   inside-u : u < size c
   inside-u = busy-inside c u (ap isIdle at)
 
   onward-by : goesOn c (q .priority) false ≡ true → isWorking (turnAt (repeatOf c u q false) u) ≡ true
   unfolding repeatOf
   onward-by g =
-      ap (λ (b : Bool). isWorking (turnAt (startOf (withTurn c u (incompleteTurn b q)) false) u)) g
-      ∙ ap (λ (d : Channel). isWorking (turnAt d u)) (start-busy (withTurn c u (Working q)) false u here) ∙ here
+      ap (λ (b : Bool). isWorking (turnAt (startOf (withUnit c u (incompleteTurn b q) stands) false) u)) g
+      ∙ ap (λ (d : Channel). isWorking (turnAt d u)) (start-busy (withUnit c u (Working q) stands) false u here) ∙ here
     where
-      here : isWorking (turnAt (withTurn c u (Working q)) u) ≡ true
+      here : isWorking (turnAt (withUnit c u (Working q) stands) u) ≡ true
       here = at-set c u (Working q) inside-u (λ y k. y ≡ u → isWorking (k .turn) ≡ true) (λ e. refl) (λ y ne e. absurd (ne e)) u refl
 
   -- "a priority operation is not displaced"
@@ -240,11 +255,11 @@ module _ (c : Channel) (u : ℕ) (r q : Request) (at : turnAt c u ≡ Working r)
 
   -- "a waiting priority request starts, displacing an incomplete ordinary one"
   pub set-aside : q .priority ≡ false → (y : ℕ) → wantsPriority (turnAt c y) ≡ true
-      → repeatOf c u q false ≡ startOf (withTurn c u (Displaced q)) false
+      → repeatOf c u q false ≡ startOf (withUnit c u (Displaced q) stands) false
   unfolding repeatOf goesOn
   set-aside p y w =
-      ap (λ (b : Bool). startOf (withTurn c u (incompleteTurn (b || not (isFound (priorityIn c))) q)) false) p
-      ∙ ap (λ (b : Bool). startOf (withTurn c u (incompleteTurn (not b) q)) false) (urgent-found c y w)
+      ap (λ (b : Bool). startOf (withUnit c u (incompleteTurn (b || not (isFound (priorityIn c))) q) stands) false) p
+      ∙ ap (λ (b : Bool). startOf (withUnit c u (incompleteTurn (not b) q) stands) false) (urgent-found c y w)
 
 -- ---- who works
 

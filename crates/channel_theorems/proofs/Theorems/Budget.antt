@@ -1,4 +1,4 @@
--- The attempts that can still be made before a waiting request is answered. Assumes nothing.
+-- The reports that can still be made before a waiting request is answered. Assumes nothing.
 use mathlib.Core.Path.{_≡_, refl, sym}
 use mathlib.Core.Logic.{_≢_}
 use mathlib.Core.Bool.{Bool, true, false, not, cond}
@@ -7,25 +7,26 @@ use Prim.Native.Nat.{ℕ, _+_, _-_, _*_, _≤_, _<_}
 use native.Mathlib.Omega.{arith}
 use Rattle.area.proofs.Walks.{true-not-false}
 use Rattle.channel.specs.declared.Op.{Op}
+use Rattle.channel.specs.declared.Position.{Position}
 use Rattle.channel.specs.declared.Request.{Request}
 use Rattle.channel.specs.declared.Turn.{Turn}
 use Rattle.channel.specs.declared.Turn.the-variants.{Idle, Waiting, Displaced, Working}
 use Rattle.channel.specs.declared.Channel.{Channel}
 use Rattle.channel_outcomes.specs.Rules.{mostReports}
-use Rattle.channel.specs.Units.{size, declaredAt, turnAt, withTurn}
+use Rattle.channel.specs.Units.{size, declaredAt, turnAt, positionAt, withUnit}
 use Rattle.channel_turns.specs.Turns.{holdsPriority}
 use Rattle.channel_turns.specs.Starts.{newRequest}
 use Rattle.area.specs.Lists.{oneIf}
 use Rattle.channel_theorems.proofs.Laws.Sums.{sum, sum-at, sum-le, sum-mul, sum-times, sum-term}
 use Rattle.channel_theorems.proofs.Theorems.Turning.{heldAs, held, at-set, busy-inside}
 use Rattle.channel_theorems.proofs.Theorems.Starts.{turn-busy, Started, isFrozen, isBusy, isQuiet, begins}
-use Rattle.channel_theorems.proofs.Theorems.Sound.{Counted, limit-most, Again, HoldOk, InRanges}
+use Rattle.channel_theorems.proofs.Theorems.Sound.{Counted, reports-most, Again, HoldOk, InRanges}
 use Rattle.channel_theorems.proofs.Theorems.Race.{Race}
 
--- ---- the budget: the attempts that can still be made before u is answered
+-- ---- the budget: the reports that can still be made before u is answered, one for each attempt and one for each noise record
 
 abbrev pub left : Request → ℕ
-left q = mostReports + 1 - q .attempts
+left q = mostReports + 1 - (q .attempts + q .noise)
 
 -- by its own turn among those of the kind: what is left of its request of the kind, or all of one to come
 abbrev pub own : Bool → Option Request → ℕ
@@ -46,14 +47,14 @@ unfoldable pub budget : Bool → ℕ → (ℕ → Bool) → Channel → ℕ
 budget k n D c = sum n (λ x. weight k (D x) (declaredAt c x) (held (turnAt c x)))
 
 -- a change at one unit
-pub budget-at : (k : Bool) (n : ℕ) (D E : ℕ → Bool) (c : Channel) (x : ℕ) (t : Turn) (a b : ℕ) → size c ≡ n → x < size c → ((y : ℕ) → y ≢ x → E y ≡ D y)
+pub budget-at : (k : Bool) (n : ℕ) (D E : ℕ → Bool) (c : Channel) (x : ℕ) (t : Turn) (stood : Position) (a b : ℕ) → size c ≡ n → x < size c → ((y : ℕ) → y ≢ x → E y ≡ D y)
     → weight k (E x) (declaredAt c x) (held t) + a ≤ weight k (D x) (declaredAt c x) (held (turnAt c x)) + b
-    → budget k n E (withTurn c x t) + a ≤ budget k n D c + b
+    → budget k n E (withUnit c x t stood) + a ≤ budget k n D c + b
 unfolding budget
-budget-at k n D E c x t a b long l f e = sum-at n F G x a b (omega arith) others here
+budget-at k n D E c x t stood a b long l f e = sum-at n F G x a b (omega arith) others here
   where
     F : ℕ → ℕ
-    F y = weight k (E y) (declaredAt (withTurn c x t) y) (held (turnAt (withTurn c x t) y))
+    F y = weight k (E y) (declaredAt (withUnit c x t stood) y) (held (turnAt (withUnit c x t stood) y))
 
     G : ℕ → ℕ
     G y = weight k (D y) (declaredAt c y) (held (turnAt c y))
@@ -71,7 +72,7 @@ budget-start k n D c f d long (isFrozen e) = omega arith
 budget-start k n D c f d long (isBusy x e) = omega arith
 budget-start k n D c f d long (isQuiet g) = omega arith
 budget-start k n D c f d long (begins x t b) =
-    let i = budget-at k n D D c x t 0 0 long (b .within) (λ y ne. refl) (rw (b .same) (omega arith)) in
+    let i = budget-at k n D D c x t (positionAt c x) 0 0 long (b .within) (λ y ne. refl) (rw (b .same) (omega arith)) in
     omega arith
 
 -- ---- what a call does to the weight of its unit, before an ordinary request
@@ -88,7 +89,7 @@ weight-asked d t g op p i j = rw (i, j) (go d p)
     go false false = omega arith
 
 -- a priority operation ends
-pub weight-urgent : (d t : Bool) (g : Option Request) (r : Request) → t ≡ true → g ≡ some r → r .priority ≡ true → r .attempts ≤ mostReports
+pub weight-urgent : (d t : Bool) (g : Option Request) (r : Request) → t ≡ true → g ≡ some r → r .priority ≡ true → r .attempts + r .noise ≤ mostReports
     → weight false d t none + 1 ≤ weight false d t g + 0
 unfolding weight
 weight-urgent d t g r i j e l = rw (i, j, e) (go d)
@@ -98,13 +99,13 @@ weight-urgent d t g r i j e l = rw (i, j, e) (go d)
     go false = omega arith
 
 -- an ordinary one ends, and its unit joins D
-pub weight-ended : (d t : Bool) (g : Option Request) (r : Request) → t ≡ true → g ≡ some r → r .priority ≡ false → r .attempts ≤ mostReports → d ≡ false
+pub weight-ended : (d t : Bool) (g : Option Request) (r : Request) → t ≡ true → g ≡ some r → r .priority ≡ false → r .attempts + r .noise ≤ mostReports → d ≡ false
     → weight false true t none + 1 ≤ weight false d t g + 0
 unfolding weight
 weight-ended d t g r i j e l k = rw (i, j, k, e) (omega arith)
 
 -- an operation is repeated
-pub weight-again : (d t : Bool) (g : Option Request) (r q : Request) → t ≡ true → g ≡ some r → Again r q → q .attempts ≤ mostReports
+pub weight-again : (d t : Bool) (g : Option Request) (r q : Request) → t ≡ true → g ≡ some r → Again r q → q .attempts + q .noise ≤ mostReports
     → (r .priority ≡ false → d ≡ false) → weight false d t (some q) + 1 ≤ weight false d t g + 0
 unfolding weight
 weight-again d t g r q i j a l f = rw (i, j) (go d (r .priority) refl f)
@@ -127,12 +128,12 @@ urgent-asked d t g op p j = rw j (go d t p)
     go false true true = omega arith
     go false true false = omega arith
 
-pub urgent-again : (d t : Bool) (g : Option Request) (r q : Request) → t ≡ true → g ≡ some r → Again r q → q .attempts ≤ mostReports → r .priority ≡ true
+pub urgent-again : (d t : Bool) (g : Option Request) (r q : Request) → t ≡ true → g ≡ some r → Again r q → q .attempts + q .noise ≤ mostReports → r .priority ≡ true
     → d ≡ false → weight true d t (some q) + 1 ≤ weight true d t g + 0
 unfolding weight
 urgent-again d t g r q i j a l e f = rw (i, j, f, a .alike, e) (omega (arith, a .more))
 
-pub urgent-ended : (d t : Bool) (g : Option Request) (r : Request) → t ≡ true → g ≡ some r → r .priority ≡ true → r .attempts ≤ mostReports → d ≡ false
+pub urgent-ended : (d t : Bool) (g : Option Request) (r : Request) → t ≡ true → g ≡ some r → r .priority ≡ true → r .attempts + r .noise ≤ mostReports → d ≡ false
     → weight true true t none + 1 ≤ weight true d t g + 0
 unfolding weight
 urgent-ended d t g r i j e l f = rw (i, j, f, e) (omega arith)
@@ -200,11 +201,11 @@ not-false false e = refl
 
 least-ordinary : (d : Bool) (q : Request) → not (q .priority) ≡ true → HoldOk d (some q) → 1 ≤ weight false false d (some q)
 unfolding weight
-least-ordinary d q h o = rw (o .0, not-false (q .priority) h) (omega (arith, o .1 .limit, limit-most (q .op)))
+least-ordinary d q h o = rw (o .0, not-false (q .priority) h) (omega (arith, reports-most q (o .1)))
 
 least-urgent : (d : Bool) (q : Request) → q .priority ≡ true → HoldOk d (some q) → 1 ≤ weight true false d (some q)
 unfolding weight
-least-urgent d q h o = rw (o .0, h) (omega (arith, o .1 .limit, limit-most (q .op)))
+least-urgent d q h o = rw (o .0, h) (omega (arith, reports-most q (o .1)))
 
 weight-least : (k d : Bool) (t : Turn) → heldAs k t ≡ true → HoldOk d (held t) → 1 ≤ weight k false d (held t)
 weight-least true d Idle h o = true-not-false h refl

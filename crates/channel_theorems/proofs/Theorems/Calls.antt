@@ -7,14 +7,17 @@ use borrow.Author.Tests.{eq-eqb, ne-eqb}
 use Rattle.area.proofs.Walks.{true-not-false}
 use mathlib.Core.Option.{some}
 use Rattle.channel.specs.declared.Op.{Op}
+use Rattle.channel.specs.declared.Position.{Position}
 use Rattle.channel.specs.declared.Request.{Request}
 use Rattle.channel.specs.declared.Turn.{Turn}
 use Rattle.channel.specs.declared.Turn.the-variants.{Idle, Waiting, Displaced, Working}
 use Rattle.channel.specs.declared.Channel.{Channel}
+use Rattle.channel_outcomes.specs.declared.Ending.{Ending}
 use Rattle.channel_outcomes.specs.declared.Verdict.{Verdict}
 use Rattle.channel_outcomes.specs.declared.Verdict.the-variants.{Refused, Repeats, Ends}
+use Rattle.channel_outcomes.specs.Positions.{positionAfter, notedBy}
 use Rattle.channel_outcomes.specs.Rules.{verdictOf}
-use Rattle.channel.specs.Units.{size, declaredAt, turnAt, withTurn, withMarks, isIdle, acceptsAt}
+use Rattle.channel.specs.Units.{size, declaredAt, turnAt, positionAt, operationAt, withUnit, withTurn, withMarks, isIdle, acceptsAt}
 use Rattle.channel_turns.specs.Turns.{judgeTurn, judgeOf, goesOn, incompleteTurn, repeatOf, markMoved, markAfter, urgentAfter, endOf, bookOf, reportOf}
 use Rattle.channel_turns.specs.Starts.{startOf, thawOf, newRequest, askOf}
 use Rattle.channel_theorems.specs.History.{Station, station, Event, ask, report, freeze, thaw, refused, accepted, repeated, answered, Step, stepTo, askStep, reportAnswer, step, aReportOf, aRequestOf, anAnswerTo}
@@ -25,24 +28,26 @@ pub data Incomplete (c : Channel) (frozen : Bool) (q : Request) : Turn → Type 
   onward : goesOn c (q .priority) frozen ≡ true → Incomplete c frozen q (Working q)
   aside : goesOn c (q .priority) frozen ≡ false → Incomplete c frozen q (Displaced q)
 
--- the channel with unit u's operation ended, before a start
-abbrev pub endedAt : Channel → ℕ → Channel
-endedAt c u = withMarks (withTurn c u Idle) (markAfter c u) (urgentAfter c u)
+-- the channel with unit u's operation ended, before a start; its reel stands there
+abbrev pub endedAt : Channel → ℕ → Position → Channel
+endedAt c u stood = withMarks (withUnit c u Idle stood) (markAfter c u) (urgentAfter c u)
 
 -- each end moves the mark of its own kind, and no other
-pub ended-mark : (k : Bool) (c : Channel) (u : ℕ) → markAs k (endedAt c u) ≡ markMoved (heldAs k (turnAt c u)) (size c) u (markAs k c)
-unfolding markAfter urgentAfter withTurn
-ended-mark true c u = refl
-ended-mark false c u = refl
+pub ended-mark : (k : Bool) (c : Channel) (u : ℕ) (stood : Position) → markAs k (endedAt c u stood) ≡ markMoved (heldAs k (turnAt c u)) (size c) u (markAs k c)
+unfolding markAfter urgentAfter withUnit
+ended-mark true c u stood = refl
+ended-mark false c u stood = refl
 
 pub data Took (s : Station) : Event → Step → Type 0 where
   refuses : {e : Event} → Took s e (stepTo refused s)
   asks : (u : ℕ) (op : Op) (p : Bool) → declaredAt (s .channel) u ≡ true → turnAt (s .channel) u ≡ Idle
       → Took s (ask u op p) (stepTo accepted (station (startOf (withTurn (s .channel) u (Waiting (newRequest op p))) (s .frozen)) (s .frozen)))
-  repeats : (u o : ℕ) (r q : Request) (t : Turn) → turnAt (s .channel) u ≡ Working r → verdictOf r o ≡ Repeats q → Incomplete (s .channel) (s .frozen) q t
-      → Took s (report u o) (stepTo repeated (station (startOf (withTurn (s .channel) u t) (s .frozen)) (s .frozen)))
-  ends : (u o : ℕ) (r : Request) → turnAt (s .channel) u ≡ Working r
-      → Took s (report u o) (stepTo answered (station (startOf (endedAt (s .channel) u) (s .frozen)) (s .frozen)))
+  repeats : (u o l : ℕ) (r q : Request) (t : Turn) (stood : Position) → turnAt (s .channel) u ≡ Working r → verdictOf r o l ≡ Repeats q
+      → Incomplete (s .channel) (s .frozen) q t → stood ≡ notedBy (positionAt (s .channel) u) q
+      → Took s (report u o l) (stepTo repeated (station (startOf (withUnit (s .channel) u t stood) (s .frozen)) (s .frozen)))
+  ends : (u o l : ℕ) (r : Request) (e : Ending) (stood : Position) → turnAt (s .channel) u ≡ Working r → verdictOf r o l ≡ Ends e
+      → stood ≡ positionAfter (operationAt (s .channel) u) e (positionAt (s .channel) u)
+      → Took s (report u o l) (stepTo answered (station (startOf (endedAt (s .channel) u stood) (s .frozen)) (s .frozen)))
   freezes : Took s freeze (stepTo accepted (station (s .channel) true))
   thaws : Took s thaw (stepTo accepted (station (startOf (s .channel) false) false))
 
@@ -64,7 +69,7 @@ took s (ask u op p) = go (declaredAt c u) (turnAt c u) refl refl
     go true (Waiting q) i j = refuses
     go true (Displaced q) i j = refuses
     go true (Working q) i j = refuses
-took s (report u o) = go (turnAt c u) refl
+took s (report u o l) = go (turnAt c u) refl
   where
     c : Channel
     c = s .channel
@@ -73,18 +78,18 @@ took s (report u o) = go (turnAt c u) refl
     on q true i = onward i
     on q false i = aside i
 
-    booked : (r : Request) (v : Verdict) → turnAt c u ≡ Working r → verdictOf r o ≡ v
-        → Took s (report u o) (stepTo (reportAnswer v) (station (bookOf c u v (s .frozen)) (s .frozen)))
+    booked : (r : Request) (v : Verdict) → turnAt c u ≡ Working r → verdictOf r o l ≡ v
+        → Took s (report u o l) (stepTo (reportAnswer v) (station (bookOf c u v (s .frozen)) (s .frozen)))
     booked r (Refused n) i j = refuses
-    booked r (Repeats q) i j = repeats u o r q _ i j (on q (goesOn c (q .priority) (s .frozen)) refl)
-    booked r (Ends e) i j = ends u o r i
+    booked r (Repeats q) i j = repeats u o l r q _ _ i j (on q (goesOn c (q .priority) (s .frozen)) refl) refl
+    booked r (Ends e) i j = ends u o l r e _ i j refl
 
     go : (t : Turn) → turnAt c u ≡ t
-        → Took s (report u o) (stepTo (reportAnswer (judgeTurn t o)) (station (bookOf c u (judgeTurn t o) (s .frozen)) (s .frozen)))
+        → Took s (report u o l) (stepTo (reportAnswer (judgeTurn t o l)) (station (bookOf c u (judgeTurn t o l) (s .frozen)) (s .frozen)))
     go Idle i = refuses
     go (Waiting q) i = refuses
     go (Displaced q) i = refuses
-    go (Working r) i = booked r (verdictOf r o) i refl
+    go (Working r) i = booked r (verdictOf r o l) i refl
 took s freeze = freezes
 took s thaw = thaws
 
@@ -96,19 +101,19 @@ incomplete-held q t (aside g) = refl
 
 pub no-report : (u : ℕ) (e : Event) → aReportOf u e refused ≡ false
 no-report u (ask x op p) = refl
-no-report u (report x o) = and-false (eqb x u)
+no-report u (report x o l) = and-false (eqb x u)
 no-report u freeze = refl
 no-report u thaw = refl
 
 pub no-answer : (u : ℕ) (e : Event) → anAnswerTo u e refused ≡ false
 no-answer u (ask x op p) = refl
-no-answer u (report x o) = and-false (eqb x u)
+no-answer u (report x o l) = and-false (eqb x u)
 no-answer u freeze = refl
 no-answer u thaw = refl
 
 pub no-request : (u : ℕ) (e : Event) → aRequestOf u e refused ≡ false
 no-request u (ask x op p) = and-false (eqb x u)
-no-request u (report x o) = refl
+no-request u (report x o l) = refl
 no-request u freeze = refl
 no-request u thaw = refl
 

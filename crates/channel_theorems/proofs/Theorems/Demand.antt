@@ -65,7 +65,7 @@ enters k s u op o (asks x q b d i) e =
 
     first : Race b (size (s .channel)) x (λ y. false) new
     first = record {
-      long = size-with (s .channel) x (Waiting (newRequest q b));
+      long = size-with (s .channel) x (Waiting (newRequest q b)) _;
       self = refl;
       mine =
           at-set (s .channel) x (Waiting (newRequest q b)) (declared-inside (s .channel) x d) (λ y j. y ≡ x → heldAs b (j .turn) ≡ true)

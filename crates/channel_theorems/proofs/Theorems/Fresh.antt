@@ -5,11 +5,12 @@ use mathlib.Core.List.{List, [], _∷_}
 use Prim.Native.Nat.{ℕ, _<_}
 use lib.ListN.{length, getD, length-map, List·getD-map}
 use Rattle.area.proofs.Walks.{true-not-false}
+use Rattle.channel.specs.declared.Position.{Position}
 use Rattle.channel.specs.declared.Turn.{Turn}
 use Rattle.channel.specs.declared.Turn.the-variants.{Idle}
 use Rattle.channel.specs.declared.Unit.{Unit}
 use Rattle.channel.specs.declared.Channel.{Channel}
-use Rattle.channel.specs.Units.{size, idleUnit, unitAt, declaredAt, withTurn, isIdle, freshWith, isWorking}
+use Rattle.channel.specs.Units.{size, idleUnit, unitAt, declaredAt, withUnit, isIdle, freshWith, isWorking}
 use Rattle.channel_turns.specs.Starts.{startOf}
 use Rattle.channel_theorems.specs.History.{Station, Event, Step, step, fresh, run}
 use Rattle.channel_theorems.proofs.Theorems.Turning.{held, size-with, at-set, busy-inside, declared-inside}
@@ -50,8 +51,8 @@ units-refl c = record { long = refl; known = λ x. refl }
 pub units-trans : {a b c : Channel} → SameUnits a b → SameUnits b c → SameUnits a c
 units-trans p q = record { long = q .long ∙ p .long; known = λ x. q .known x ∙ p .known x }
 
-units-set : (c : Channel) (x : ℕ) (t : Turn) → x < size c → SameUnits c (withTurn c x t)
-units-set c x t l = record { long = size-with c x t; known = at-set c x t l (λ y k. k .declared ≡ declaredAt c y) refl (λ y ne. refl) }
+units-set : (c : Channel) (x : ℕ) (t : Turn) (stood : Position) → x < size c → SameUnits c (withUnit c x t stood)
+units-set c x t stood l = record { long = size-with c x t _; known = at-set c x t l (λ y k. k .declared ≡ declaredAt c y) refl (λ y ne. refl) }
 
 units-start : (c : Channel) (f : Bool) → SameUnits c (startOf c f)
 units-start c f = go (startOf c f) (started c f)
@@ -60,16 +61,16 @@ units-start c f = go (startOf c f) (started c f)
     go d (isFrozen e) = units-refl c
     go d (isBusy x e) = units-refl c
     go d (isQuiet g) = units-refl c
-    go d (begins x t b) = units-set c x t (b .within)
+    go d (begins x t b) = units-set c x t _ (b .within)
 
 pub units-step : (s : Station) (e : Event) (o : Step) → Took s e o → SameUnits (s .channel) (o .after .channel)
 units-step s e o refuses = units-refl (s .channel)
-units-step s e o (asks x op p d i) = units-trans (units-set (s .channel) x _ (declared-inside (s .channel) x d)) (units-start _ (s .frozen))
-units-step s e o (repeats x oc r q t i j m) = units-trans (units-set (s .channel) x t (busy-inside (s .channel) x (ap isIdle i))) (units-start _ (s .frozen))
-units-step s e o (ends x oc r i) =
-    let k = units-set (s .channel) x Idle (busy-inside (s .channel) x (ap isIdle i)) in
-    let m : SameUnits (s .channel) (endedAt (s .channel) x) = record { long = k .long; known = k .known } in
-    units-trans m (units-start (endedAt (s .channel) x) (s .frozen))
+units-step s e o (asks x op p d i) = units-trans (units-set (s .channel) x _ _ (declared-inside (s .channel) x d)) (units-start _ (s .frozen))
+units-step s e o (repeats x oc len r q t stood i j m stands) = units-trans (units-set (s .channel) x t _ (busy-inside (s .channel) x (ap isIdle i))) (units-start _ (s .frozen))
+units-step s e o (ends x oc len r how stood i judged stands) =
+    let k = units-set (s .channel) x Idle stood (busy-inside (s .channel) x (ap isIdle i)) in
+    let m : SameUnits (s .channel) (endedAt (s .channel) x stood) = record { long = k .long; known = k .known } in
+    units-trans m (units-start (endedAt (s .channel) x stood) (s .frozen))
 units-step s e o freezes = units-refl (s .channel)
 units-step s e o thaws = units-start (s .channel) false
 

@@ -1,4 +1,4 @@
--- From acceptance to its answer an operation takes at most as many reports as its row of the table has attempts, at most 101,
+-- From acceptance to its answer an operation takes at most as many reports as its row of the table has attempts and noise records, at most 201,
 -- however often it is displaced; and demand 3's bound holds at the answer itself. Assumes nothing.
 use mathlib.Core.Path.{_≡_}
 use mathlib.Core.Bool.{Bool, true, false}
@@ -6,19 +6,19 @@ use mathlib.Core.List.{List, [], _∷_, _++_}
 use Prim.Native.Nat.{ℕ, _+_, _≤_, _<_}
 use native.Mathlib.Omega.{arith}
 use Rattle.channel.specs.declared.Op.{Op}
-use Rattle.channel_outcomes.specs.Rules.{mostAttempts, rowOf}
+use Rattle.channel_outcomes.specs.Rules.{mostReports, rowOf}
 use Rattle.channel_theorems.specs.History.{Station, Event, ask, Answer, accepted, step, fresh, run, count, aReport, aReportOf, anAnswerTo, KeptWithin}
 use Rattle.area.specs.Lists.{oneIf}
-use Rattle.channel_theorems.proofs.Theorems.Sound.{Sound, limit-most, sound-step, sound-run}
+use Rattle.channel_theorems.proofs.Theorems.Sound.{Sound, limit-most, noise-most, sound-step, sound-run}
 use Rattle.channel_theorems.proofs.Theorems.Calls.{took}
 use Rattle.channel_theorems.proofs.Theorems.Attempts.{tried-first, tried-run, tried-left}
 use Rattle.channel_theorems.proofs.Theorems.Fresh.{sound-fresh}
 
--- while it has no answer, fewer reports of its unit have been accepted than its row has attempts
+-- while it has no answer, fewer reports of its unit have been accepted than its row has attempts and noise records
 pub within-limit : (declared : List Bool) (before : List Event) (u : ℕ) (op : Op) (priority : Bool) (later : List Event)
     → step (run (fresh declared) before) (ask u op priority) .answer ≡ accepted
     → count (anAnswerTo u) (step (run (fresh declared) before) (ask u op priority) .after) later ≡ 0
-    → count (aReportOf u) (step (run (fresh declared) before) (ask u op priority) .after) later < rowOf op .attempts
+    → count (aReportOf u) (step (run (fresh declared) before) (ask u op priority) .after) later < rowOf op .attempts + rowOf op .noise
 unfolding fresh
 within-limit declared before u op priority later e z =
     let first = tried-first s u op priority (step s (ask u op priority)) (took s (ask u op priority)) e in
@@ -44,16 +44,16 @@ unfolding count
 count-snoc kind s [] e = omega (arith, one-most (kind e (step s e .answer)))
 count-snoc kind s (f ∷ h) e = omega (arith, count-snoc kind (step s f .after) h e)
 
--- so the report that answers it is at most the last of them, the 101st of a read and the 27th of a write or mark
+-- so the report that answers it is at most the last of them, the 201st of a read and the 27th of a write or mark
 pub limit-at-answer : (declared : List Bool) (before : List Event) (u : ℕ) (op : Op) (priority : Bool) (later : List Event) (e : Event)
     → step (run (fresh declared) before) (ask u op priority) .answer ≡ accepted
     → count (anAnswerTo u) (step (run (fresh declared) before) (ask u op priority) .after) later ≡ 0
-    → (count (aReportOf u) (step (run (fresh declared) before) (ask u op priority) .after) (later ++ (e ∷ [])) ≤ rowOf op .attempts)
-    × (rowOf op .attempts ≤ mostAttempts)
+    → (count (aReportOf u) (step (run (fresh declared) before) (ask u op priority) .after) (later ++ (e ∷ [])) ≤ rowOf op .attempts + rowOf op .noise)
+    × (rowOf op .attempts + rowOf op .noise ≤ mostReports)
 limit-at-answer declared before u op priority later e a z =
     let l = within-limit declared before u op priority later a z in
     let s = count-snoc (aReportOf u) (step (run (fresh declared) before) (ask u op priority) .after) later e in
-    (omega arith, limit-most op)
+    (omega arith, omega (arith, limit-most op, noise-most op))
 
 -- the same of demand 3 and of M-112: the call e that answers is among the first accepted reports, as many as the bound says
 pub answered-by : {most u : ℕ} {d : Station} {later : List Event} → KeptWithin most u d later → (e : Event) → count (anAnswerTo u) d later ≡ 0

@@ -24,8 +24,8 @@ Awake s = (u : ℕ) → isIdle (turnAt (s .channel) u) ≡ false → isAlive s �
 pub awake-accepted : (s : Station) (e : Event) (o : Step) → Took s e o → (o .answer ≡ refused → ⊥) → Awake (o .after)
 awake-accepted s e o refuses n = absurd (n refl)
 awake-accepted s e o (asks x op p d i) n = λ u. start-alive _ _ _ u (started _ _)
-awake-accepted s e o (repeats x oc r q t i j m) n = λ u. start-alive _ _ _ u (started _ _)
-awake-accepted s e o (ends x oc r i) n = λ u. start-alive _ _ _ u (started _ _)
+awake-accepted s e o (repeats x oc len r q t stood i j m stands) n = λ u. start-alive _ _ _ u (started _ _)
+awake-accepted s e o (ends x oc len r how stood i judged stands) n = λ u. start-alive _ _ _ u (started _ _)
 awake-accepted s e o freezes n = λ u i. refl
 awake-accepted s e o thaws n = λ u. start-alive _ _ _ u (started _ _)
 
@@ -33,8 +33,8 @@ awake-accepted s e o thaws n = λ u. start-alive _ _ _ u (started _ _)
 pub awake-kept : (s : Station) (e : Event) (o : Step) → Awake s → Took s e o → Awake (o .after)
 awake-kept s e o a refuses = a
 awake-kept s e o a (asks x op p d i) = λ u. start-alive _ _ _ u (started _ _)
-awake-kept s e o a (repeats x oc r q t i j m) = λ u. start-alive _ _ _ u (started _ _)
-awake-kept s e o a (ends x oc r i) = λ u. start-alive _ _ _ u (started _ _)
+awake-kept s e o a (repeats x oc len r q t stood i j m stands) = λ u. start-alive _ _ _ u (started _ _)
+awake-kept s e o a (ends x oc len r how stood i judged stands) = λ u. start-alive _ _ _ u (started _ _)
 awake-kept s e o a freezes = λ u i. refl
 awake-kept s e o a thaws = λ u. start-alive _ _ _ u (started _ _)
 
@@ -55,7 +55,7 @@ busy-stays c frozen w q at = go (startOf c frozen) (started c frozen)
 
 -- "A priority request never breaks into an activity": no call but a report of its own unit ends or stops what is at work
 pub never-breaks-in : (s : Station) (e : Event) (o : Step) (w : ℕ) (q : Request) → OneWorks (s .channel) → turnAt (s .channel) w ≡ Working q
-    → ((outcome : ℕ) → e ≡ report w outcome → ⊥) → Took s e o → turnAt (o .after .channel) w ≡ Working q
+    → ((outcome length : ℕ) → e ≡ report w outcome length → ⊥) → Took s e o → turnAt (o .after .channel) w ≡ Working q
 never-breaks-in s e o w q one at not-mine refuses = at
 never-breaks-in s e o w q one at not-mine (asks x op p d i) = busy-stays _ (s .frozen) w q other
   where
@@ -66,7 +66,7 @@ never-breaks-in s e o w q one at not-mine (asks x op p d i) = busy-stays _ (s .f
       where
         idle-works : x ≡ w → ⊥
         idle-works h = let k : Idle ≡ Working q = sym i ∙ rw h at in let z : _≡_ {A = ℕ} 0 1 = cc in omega arith
-never-breaks-in s e o w q one at not-mine (repeats x oc r n t i j m) = absurd (not-mine oc (ap (λ (y : ℕ). report y oc) (one x w (ap isWorking i) (ap isWorking at))))
-never-breaks-in s e o w q one at not-mine (ends x oc r i) = absurd (not-mine oc (ap (λ (y : ℕ). report y oc) (one x w (ap isWorking i) (ap isWorking at))))
+never-breaks-in s e o w q one at not-mine (repeats x oc len r n t stood i j m stands) = absurd (not-mine oc len (ap (λ (y : ℕ). report y oc len) (one x w (ap isWorking i) (ap isWorking at))))
+never-breaks-in s e o w q one at not-mine (ends x oc len r how stood i judged stands) = absurd (not-mine oc len (ap (λ (y : ℕ). report y oc len) (one x w (ap isWorking i) (ap isWorking at))))
 never-breaks-in s e o w q one at not-mine freezes = at
 never-breaks-in s e o w q one at not-mine thaws = busy-stays (s .channel) false w q at

@@ -6,10 +6,11 @@ use Prim.Native.Nat.{ℕ, _<_}
 use native.Mathlib.Decide.{ℕ-discrete}
 use native.Mathlib.Omega.{arith}
 use Rattle.area.proofs.Walks.{true-not-false}
+use Rattle.channel.specs.declared.Position.{Position}
 use Rattle.channel.specs.declared.Turn.{Turn}
 use Rattle.channel.specs.declared.Turn.the-variants.{Idle}
 use Rattle.channel.specs.declared.Channel.{Channel}
-use Rattle.channel.specs.Units.{size, turnAt, withTurn, withMarks}
+use Rattle.channel.specs.Units.{size, turnAt, withUnit, withTurn, withMarks}
 use Rattle.channel_turns.specs.Scans.{nextUnit, beginOf, Before}
 use Rattle.channel_turns.proofs.Laws.Scans.{next-below, begin-here}
 use Rattle.channel_theorems.proofs.Theorems.Order.{next-is, before-not-last, before-trans}
@@ -36,10 +37,10 @@ race-start k n u D c f d h (isFrozen e) = h
 race-start k n u D c f d h (isBusy x e) = h
 race-start k n u D c f d h (isQuiet g) = h
 race-start k n u D c f d h (begins x t b) = record {
-  long = size-with c x t ∙ h .long;
+  long = size-with c x t _ ∙ h .long;
   self = h .self;
   mine = held-on u refl;
-  ahead = subst (λ (m : ℕ). (y : ℕ) → Before (beginOf n m) u y → D y ≡ false) (sym (mark-with k c x t)) (h .ahead);
+  ahead = subst (λ (m : ℕ). (y : ℕ) → Before (beginOf n m) u y → D y ≡ false) (sym (mark-with k c x t _)) (h .ahead);
   work = at-set c x t (b .within) (λ y i. worksAs k (i .turn) ≡ true → y ≢ u → Fair y) begun-fair (λ y ne i m. h .work y i m);
 }
   where
@@ -59,13 +60,13 @@ race-start k n u D c f d h (begins x t b) = record {
         (h .ahead x a, λ y j. h .ahead y (before-trans (race-inside h) (next-is n x) a j))
 
 -- a change at one unit by which no operation of the kind begins and u's request stays
-pub race-set : (k : Bool) (n u : ℕ) (D : ℕ → Bool) (c : Channel) (x : ℕ) (t : Turn) → Race k n u D c → x < size c → (x ≡ u → heldAs k t ≡ true)
-    → (worksAs k t ≡ true → worksAs k (turnAt c x) ≡ true) → Race k n u D (withTurn c x t)
-race-set k n u D c x t h l m w = record {
-  long = size-with c x t ∙ h .long;
+pub race-set : (k : Bool) (n u : ℕ) (D : ℕ → Bool) (c : Channel) (x : ℕ) (t : Turn) (stood : Position) → Race k n u D c → x < size c
+    → (x ≡ u → heldAs k t ≡ true) → (worksAs k t ≡ true → worksAs k (turnAt c x) ≡ true) → Race k n u D (withUnit c x t stood)
+race-set k n u D c x t stood h l m w = record {
+  long = size-with c x t _ ∙ h .long;
   self = h .self;
   mine = at-set c x t l (λ y i. y ≡ u → heldAs k (i .turn) ≡ true) m (λ y ne e. rw e (h .mine)) u refl;
-  ahead = subst (λ (j : ℕ). (y : ℕ) → Before (beginOf n j) u y → D y ≡ false) (sym (mark-with k c x t)) (h .ahead);
+  ahead = subst (λ (j : ℕ). (y : ℕ) → Before (beginOf n j) u y → D y ≡ false) (sym (mark-with k c x t _)) (h .ahead);
   work =
       at-set c x t l (λ y i. worksAs k (i .turn) ≡ true → y ≢ u → (D y ≡ false) × ((z : ℕ) → Before (nextUnit n y) u z → D z ≡ false))
       (λ i j. h .work x (w i) j)
@@ -114,11 +115,11 @@ idle-not true e = true-not-false e refl
 idle-not false e = true-not-false e refl
 
 -- the operation of x, not u, ends, and is of the kind: the scan begins above x
-pub race-ended : (k : Bool) (n u : ℕ) (D : ℕ → Bool) (c : Channel) (x m p : ℕ) → Sound c → Race k n u D c → x < size c → x ≢ u
-    → worksAs k (turnAt c x) ≡ true → markAs k (withMarks (withTurn c x Idle) m p) ≡ nextUnit n x
-    → Race k n u (also x D) (withMarks (withTurn c x Idle) m p)
-race-ended k n u D c x m p s h l ne t moved = record {
-  long = size-with c x Idle ∙ h .long;
+pub race-ended : (k : Bool) (n u : ℕ) (D : ℕ → Bool) (c : Channel) (x m p : ℕ) (stood : Position) → Sound c → Race k n u D c → x < size c → x ≢ u
+    → worksAs k (turnAt c x) ≡ true → markAs k (withMarks (withUnit c x Idle stood) m p) ≡ nextUnit n x
+    → Race k n u (also x D) (withMarks (withUnit c x Idle stood) m p)
+race-ended k n u D c x m p stood s h l ne t moved = record {
+  long = size-with c x Idle _ ∙ h .long;
   self = also-other x D u (λ e. ne (sym e)) ∙ h .self;
   mine = at-set c x Idle l (λ y i. y ≡ u → heldAs k (i .turn) ≡ true) (λ e. absurd (ne e)) (λ y i e. rw e (h .mine)) u refl;
   ahead =

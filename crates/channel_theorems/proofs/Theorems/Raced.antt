@@ -7,12 +7,13 @@ use Prim.Native.Nat.{ℕ, _+_, _*_, _≤_}
 use native.Mathlib.Decide.{ℕ-discrete}
 use native.Mathlib.Omega.{arith}
 use Rattle.area.proofs.Walks.{true-not-false}
+use Rattle.channel.specs.declared.Position.{Position}
 use Rattle.channel.specs.declared.Request.{Request}
 use Rattle.channel.specs.declared.Turn.{Turn}
 use Rattle.channel.specs.declared.Turn.the-variants.{Idle, Waiting, Displaced, Working}
 use Rattle.channel.specs.declared.Channel.{Channel}
 use Rattle.channel_outcomes.specs.Rules.{mostReports}
-use Rattle.channel.specs.Units.{size, declaredAt, turnAt, withTurn, withMarks}
+use Rattle.channel.specs.Units.{size, declaredAt, turnAt, withUnit, withTurn, withMarks}
 use Rattle.channel_turns.specs.Scans.{nextUnit}
 use Rattle.channel_turns.specs.Turns.{isOrdinary, markAfter, urgentAfter}
 use Rattle.channel_turns.specs.Starts.{startOf, newRequest}
@@ -21,7 +22,7 @@ use Rattle.area.specs.Lists.{oneIf}
 use Rattle.channel_theorems.proofs.Theorems.Turning.{worksTurn, held, declared-inside}
 use Rattle.channel_theorems.proofs.Theorems.Starts.{started}
 use Rattle.channel_theorems.proofs.Theorems.Calls.{endedAt, Incomplete, onward, aside, Took, refuses, asks, repeats, ends, freezes, thaws, not-here}
-use Rattle.channel_theorems.proofs.Theorems.Sound.{limit-most, Again, verdict-again, Works, works, Sound}
+use Rattle.channel_theorems.proofs.Theorems.Sound.{reports-most, Again, verdict-again, Works, works, Sound}
 use Rattle.channel_theorems.proofs.Theorems.Race.{Race, race-start, race-set, race-marks, race-ended, also, also-same, also-other}
 use Rattle.channel_theorems.proofs.Theorems.Budget.{budget, budget-at, budget-start, weight-asked, weight-urgent, weight-ended, weight-again}
 
@@ -49,9 +50,9 @@ mark-ordinary : (c : Channel) (x n : ℕ) (r : Request) → size c ≡ n → tur
 unfolding markAfter
 mark-ordinary c x n r long i p = rw (i, p, long)
 
-mark-priority : (c : Channel) (x : ℕ) (r : Request) → turnAt c x ≡ Working r → r .priority ≡ true → markAfter c x ≡ withTurn c x Idle .mark
-unfolding markAfter withTurn
-mark-priority c x r i p = rw (i, p)
+mark-priority : (c : Channel) (x : ℕ) (stood : Position) (r : Request) → turnAt c x ≡ Working r → r .priority ≡ true → markAfter c x ≡ withUnit c x Idle stood .mark
+unfolding markAfter withUnit
+mark-priority c x stood r i p = rw (i, p)
 
 pub raced : (n u : ℕ) (D : ℕ → Bool) (s : Station) (e : Event) (o : Step) → Sound (s .channel) → Race false n u D (s .channel) → Took s e o
     → anAnswerTo u e (o .answer) ≡ false → Raced n u D (s .channel) e o
@@ -60,11 +61,11 @@ raced n u D s e o k h (asks x op p d i) a =
     let c = s .channel in
     let l = declared-inside c x d in
     then-start n u D D c (withTurn c x (Waiting (newRequest op p))) (s .frozen) (ask x op p) accepted
-    (race-set false n u D c x (Waiting (newRequest op p)) h l (λ q. true-not-false (h .mine) (rw (← q) (ap isOrdinary i))) (λ t. true-not-false t refl))
+    (race-set false n u D c x (Waiting (newRequest op p)) _ h l (λ q. true-not-false (h .mine) (rw (← q) (ap isOrdinary i))) (λ t. true-not-false t refl))
     (rw (and-true p)
-    (budget-at false n D D c x (Waiting (newRequest op p)) 0 (mostReports * oneIf p) (h .long) l (λ y ne. refl)
+    (budget-at false n D D c x (Waiting (newRequest op p)) _ 0 (mostReports * oneIf p) (h .long) l (λ y ne. refl)
     (weight-asked (D x) (declaredAt c x) (held (turnAt c x)) op p d (ap held i))))
-raced n u D s e o k h (repeats x oc r q t i j m) a = go t m
+raced n u D s e o k h (repeats x oc len r q t stood i j m stands) a = go t m
   where
     c : Channel
     c = s .channel
@@ -73,34 +74,34 @@ raced n u D s e o k h (repeats x oc r q t i j m) a = go t m
     w = works c x r (k .ok) i
 
     g : Again r q
-    g = verdict-again r oc q j
+    g = verdict-again r oc len q j
 
-    tried : q .attempts ≤ mostReports
-    tried = omega (arith, g .left, limit-most (q .op))
+    tried : q .attempts + q .noise ≤ mostReports
+    tried = reports-most q (g .keeps (w .counted))
 
     not-ended : r .priority ≡ false → Dec (x ≡ u) → D x ≡ false
     not-ended p (yes y) = rw y (h .self)
     not-ended p (no y) = h .work x (ap worksTurn i ∙ ap not p) y .0
 
-    pay : (t : Turn) → held t ≡ some q → budget false n D (withTurn c x t) + 1 ≤ budget false n D c + 0
+    pay : (t : Turn) → held t ≡ some q → budget false n D (withUnit c x t stood) + 1 ≤ budget false n D c + 0
     pay t y =
-        budget-at false n D D c x t 1 0 (h .long) (w .within) (λ z ne. refl)
+        budget-at false n D D c x t _ 1 0 (h .long) (w .within) (λ z ne. refl)
         (rw y
         (weight-again (D x) (declaredAt c x) (held (turnAt c x)) r q (w .known) (ap held i) g tried (λ b. not-ended b (ℕ-discrete x u))))
 
     still : x ≡ u → not (q .priority) ≡ true
     still y = ap not (g .alike) ∙ (sym (ap isOrdinary i) ∙ (rw y (h .mine)))
 
-    go : (t : Turn) → Incomplete c (s .frozen) q t → Raced n u D c (report x oc) (stepTo repeated (station (startOf (withTurn c x t) (s .frozen)) (s .frozen)))
+    go : (t : Turn) → Incomplete c (s .frozen) q t → Raced n u D c (report x oc len) (stepTo repeated (station (startOf (withUnit c x t stood) (s .frozen)) (s .frozen)))
     go t (onward on) =
-        then-start n u D D c (withTurn c x (Working q)) (s .frozen) (report x oc) repeated
-        (race-set false n u D c x (Working q) h (w .within) still (λ z. ap worksTurn i ∙ (sym (ap not (g .alike)) ∙ z)))
+        then-start n u D D c (withUnit c x (Working q) stood) (s .frozen) (report x oc len) repeated
+        (race-set false n u D c x (Working q) _ h (w .within) still (λ z. ap worksTurn i ∙ (sym (ap not (g .alike)) ∙ z)))
         (pay (Working q) refl)
     go t (aside off) =
-        then-start n u D D c (withTurn c x (Displaced q)) (s .frozen) (report x oc) repeated
-        (race-set false n u D c x (Displaced q) h (w .within) still (λ z. true-not-false z refl))
+        then-start n u D D c (withUnit c x (Displaced q) stood) (s .frozen) (report x oc len) repeated
+        (race-set false n u D c x (Displaced q) _ h (w .within) still (λ z. true-not-false z refl))
         (pay (Displaced q) refl)
-raced n u D s e o k h (ends x oc r i) a = go (r .priority) refl
+raced n u D s e o k h (ends x oc len r how stood i judged stands) a = go (r .priority) refl
   where
     c : Channel
     c = s .channel
@@ -111,23 +112,23 @@ raced n u D s e o k h (ends x oc r i) a = go (r .priority) refl
     other : x ≢ u
     other = not-here {x = x} {u = u} a
 
-    tried : r .attempts ≤ mostReports
-    tried = omega (arith, w .counted .limit, limit-most (r .op))
+    tried : r .attempts + r .noise ≤ mostReports
+    tried = reports-most r (w .counted)
 
-    go : (b : Bool) → r .priority ≡ b → Raced n u D c (report x oc) (stepTo answered (station (startOf (endedAt c x) (s .frozen)) (s .frozen)))
+    go : (b : Bool) → r .priority ≡ b → Raced n u D c (report x oc len) (stepTo answered (station (startOf (endedAt c x stood) (s .frozen)) (s .frozen)))
     go true p =
-        then-start n u D D c (endedAt c x) (s .frozen) (report x oc) answered
-        (race-marks false n u D (withTurn c x Idle) (markAfter c x) (urgentAfter c x) (mark-priority c x r i p)
-        (race-set false n u D c x Idle h (w .within) (λ y. absurd (other y)) (λ t. true-not-false t refl)))
-        (rw (budget-marks false n D (withTurn c x Idle) (markAfter c x) (urgentAfter c x))
-        (budget-at false n D D c x Idle 1 0 (h .long) (w .within) (λ y ne. refl)
+        then-start n u D D c (endedAt c x stood) (s .frozen) (report x oc len) answered
+        (race-marks false n u D (withUnit c x Idle stood) (markAfter c x) (urgentAfter c x) (mark-priority c x _ r i p)
+        (race-set false n u D c x Idle _ h (w .within) (λ y. absurd (other y)) (λ t. true-not-false t refl)))
+        (rw (budget-marks false n D (withUnit c x Idle stood) (markAfter c x) (urgentAfter c x))
+        (budget-at false n D D c x Idle _ 1 0 (h .long) (w .within) (λ y ne. refl)
         (weight-urgent (D x) (declaredAt c x) (held (turnAt c x)) r (w .known) (ap held i) p tried)))
     go false p =
         let t : worksTurn (turnAt c x) ≡ true = ap worksTurn i ∙ ap not p in
-        then-start n u D (also x D) c (endedAt c x) (s .frozen) (report x oc) answered
-        (race-ended false n u D c x (markAfter c x) (urgentAfter c x) k h (w .within) other t (mark-ordinary c x n r (h .long) i p))
-        (rw (budget-marks false n (also x D) (withTurn c x Idle) (markAfter c x) (urgentAfter c x))
-        (budget-at false n D (also x D) c x Idle 1 0 (h .long) (w .within) (λ y ne. also-other x D y ne)
+        then-start n u D (also x D) c (endedAt c x stood) (s .frozen) (report x oc len) answered
+        (race-ended false n u D c x (markAfter c x) (urgentAfter c x) _ k h (w .within) other t (mark-ordinary c x n r (h .long) i p))
+        (rw (budget-marks false n (also x D) (withUnit c x Idle stood) (markAfter c x) (urgentAfter c x))
+        (budget-at false n D (also x D) c x Idle _ 1 0 (h .long) (w .within) (λ y ne. also-other x D y ne)
         (rw (also-same x D)
         (weight-ended (D x) (declaredAt c x) (held (turnAt c x)) r (w .known) (ap held i) p tried (h .work x t other .0)))))
 raced n u D s e o k h freezes a = record { served = D; race = h; pays = omega arith }

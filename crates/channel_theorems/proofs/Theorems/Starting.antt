@@ -6,11 +6,14 @@ use Prim.Native.Nat.{ℕ, _<_}
 use native.Mathlib.Omega.{arith}
 use Rattle.area.proofs.Walks.{true-not-false}
 use Rattle.channel.specs.declared.Op.{Op}
+use Rattle.channel.specs.declared.Position.{Position}
 use Rattle.channel.specs.declared.Request.{Request}
 use Rattle.channel.specs.declared.Turn.{Turn}
 use Rattle.channel.specs.declared.Turn.the-variants.{Idle, Waiting, Displaced, Working}
 use Rattle.channel.specs.declared.Channel.{Channel}
-use Rattle.channel.specs.Units.{size, turnAt, withTurn, isIdle, isWorking}
+use Rattle.channel.specs.Units.{size, turnAt, positionAt, operationAt, withUnit, withTurn, isIdle, isWorking}
+use Rattle.channel_outcomes.specs.declared.Ending.{Ending}
+use Rattle.channel_outcomes.specs.Positions.{positionAfter, notedBy}
 use Rattle.channel_turns.specs.Starts.{startOf, newRequest}
 use Rattle.channel_turns.specs.Turns.{goesOn, repeatOf, endOf}
 use Rattle.channel_theorems.specs.History.{Station, Event, ask, accepted, Step}
@@ -43,23 +46,30 @@ module _ (c : Channel) (one : OneWorks c) (u : ℕ) (r : Request) (at : turnAt c
   inside-u : u < size c
   inside-u = busy-inside c u (ap isIdle at)
 
-  stopped : (t : Turn) → isWorking t ≡ false → Quiet (withTurn c u t)
-  stopped t w = quiet-set c u t one (ap isWorking at) w inside-u
+  stopped : (t : Turn) (stood : Position) → isWorking t ≡ false → Quiet (withUnit c u t stood)
+  stopped t stood w = quiet-set c u t _ one (ap isWorking at) w inside-u
+
+  -- where the reel stands after the end of an operation, and while it is repeated
+  abbrev ending : Ending → Position
+  ending e = positionAfter (operationAt c u) e (positionAt c u)
+
+  abbrev going : Request → Position
+  going q = notedBy (positionAt c u) q
 
   -- the end of an operation
-  pub end-starts : StartedFrom (endOf c u false)
+  pub end-starts : (e : Ending) → StartedFrom (endOf c u e false)
   unfolding endOf
-  end-starts = record { quietly = endedAt c u; quiet = stopped Idle refl; is = refl }
+  end-starts e = record { quietly = endedAt c u (ending e); quiet = stopped Idle _ refl; is = refl }
 
-  pub end-halts : Quiet (endOf c u true)
+  pub end-halts : (e : Ending) → Quiet (endOf c u e true)
   unfolding endOf
-  end-halts y = ap (λ (d : Channel). isWorking (turnAt d y)) (start-frozen (endedAt c u)) ∙ stopped Idle refl y
+  end-halts e y = ap (λ (d : Channel). isWorking (turnAt d y)) (start-frozen (endedAt c u (ending e))) ∙ stopped Idle _ refl y
 
   -- an operation that is repeated while a priority request of another unit waits
   pub aside-starts : (q : Request) → q .priority ≡ false → (y : ℕ) → y ≢ u → urgentHeld (held (turnAt c y)) ≡ true → StartedFrom (repeatOf c u q false)
   aside-starts q p y ne w = record {
-    quietly = withTurn c u (Displaced q);
-    quiet = stopped (Displaced q) refl;
+    quietly = withUnit c u (Displaced q) (going q);
+    quiet = stopped (Displaced q) _ refl;
     is = sym (set-aside c u r q at p y (wants-priority (turnAt c y) (rests (isWorking (turnAt c y)) refl) ∙ w));
   }
     where
@@ -70,7 +80,7 @@ module _ (c : Channel) (one : OneWorks c) (u : ℕ) (r : Request) (at : turnAt c
   -- "an incomplete operation then waits like a displaced one"
   pub repeat-halts : (q : Request) → Quiet (repeatOf c u q true)
   unfolding repeatOf goesOn
-  repeat-halts q y = ap (λ (d : Channel). isWorking (turnAt d y)) (start-frozen (withTurn c u (Displaced q))) ∙ stopped (Displaced q) refl y
+  repeat-halts q y = ap (λ (d : Channel). isWorking (turnAt d y)) (start-frozen (withUnit c u (Displaced q) (going q))) ∙ stopped (Displaced q) _ refl y
 
 -- ---- "Freeze stops starts": whoever works after a call in a freeze worked before it
 
@@ -82,14 +92,14 @@ no-start s e o (asks x op p d i) f u w =
     (λ y k. isWorking (k .turn) ≡ true → isWorking (turnAt (s .channel) y) ≡ true) (λ h. true-not-false h refl) (λ y ne h. h) u
     (sym (ap (λ (c : Channel). isWorking (turnAt c u))
     (ap (startOf (withTurn (s .channel) x (Waiting (newRequest op p)))) f ∙ start-frozen (withTurn (s .channel) x (Waiting (newRequest op p))))) ∙ w)
-no-start s e o (repeats x oc r q t i j m) f u w =
+no-start s e o (repeats x oc len r q t stood i j m stands) f u w =
     at-set (s .channel) x t (busy-inside (s .channel) x (ap isIdle i))
     (λ y k. isWorking (k .turn) ≡ true → isWorking (turnAt (s .channel) y) ≡ true) (λ h. ap isWorking i) (λ y ne h. h) u
-    (sym (ap (λ (c : Channel). isWorking (turnAt c u)) (ap (startOf (withTurn (s .channel) x t)) f ∙ start-frozen (withTurn (s .channel) x t))) ∙ w)
-no-start s e o (ends x oc r i) f u w =
+    (sym (ap (λ (c : Channel). isWorking (turnAt c u)) (ap (startOf (withUnit (s .channel) x t stood)) f ∙ start-frozen (withUnit (s .channel) x t stood))) ∙ w)
+no-start s e o (ends x oc len r how stood i judged stands) f u w =
     at-set (s .channel) x Idle (busy-inside (s .channel) x (ap isIdle i))
     (λ y k. isWorking (k .turn) ≡ true → isWorking (turnAt (s .channel) y) ≡ true) (λ h. ap isWorking i) (λ y ne h. h) u
-    (sym (ap (λ (c : Channel). isWorking (turnAt c u)) (ap (startOf (endedAt (s .channel) x)) f ∙ start-frozen (endedAt (s .channel) x))) ∙ w)
+    (sym (ap (λ (c : Channel). isWorking (turnAt c u)) (ap (startOf (endedAt (s .channel) x stood)) f ∙ start-frozen (endedAt (s .channel) x stood))) ∙ w)
 no-start s e o freezes f u w = w
 no-start s e o thaws f u w = true-not-false f refl
 

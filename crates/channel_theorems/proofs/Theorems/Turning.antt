@@ -10,12 +10,13 @@ use lib.Dec.{eqb}
 use lib.ListN.{getD, set, length-set}
 use lib.Seq.{getD-set-same, getD-set-other}
 use Rattle.area.proofs.Walks.{true-not-false}
+use Rattle.channel.specs.declared.Position.{Position}
 use Rattle.channel.specs.declared.Request.{Request}
 use Rattle.channel.specs.declared.Turn.{Turn}
 use Rattle.channel.specs.declared.Turn.the-variants.{Idle, Waiting, Displaced, Working}
 use Rattle.channel.specs.declared.Unit.{Unit}
 use Rattle.channel.specs.declared.Channel.{Channel}
-use Rattle.channel.specs.Units.{isWorking, size, idleUnit, unitAt, declaredAt, turnAt, withTurn, isIdle}
+use Rattle.channel.specs.Units.{isWorking, size, idleUnit, unitAt, declaredAt, turnAt, withUnit, isIdle}
 use Rattle.channel_turns.specs.Scans.{waitingAs, standingOf, working, priority, ordinary, beginOf, workingIn, priorityIn, ordinaryIn, Scanned}
 use Rattle.channel_turns.specs.Turns.{isOrdinary, holdsPriority}
 use Rattle.channel.proofs.Laws.Units.{unit-beyond}
@@ -124,27 +125,27 @@ pub ordinary-scan : (c : Channel) → Scanned (λ x. wantsTurn (turnAt c x)) (si
 unfolding ordinaryIn
 ordinary-scan c = scanned-as (λ x. stands-ordinary (turnAt c x)) (scan-is c ordinary (c .mark))
 
--- ---- another turn at a unit
+-- ---- another turn at a unit, wherever its reel then stands
 
-pub size-with : (c : Channel) (x : ℕ) (t : Turn) → size (withTurn c x t) ≡ size c
-unfolding withTurn
-size-with c x t = length-set (c .units) x (record { declared = declaredAt c x; turn = t })
+pub size-with : (c : Channel) (x : ℕ) (t : Turn) (stood : Position) → size (withUnit c x t stood) ≡ size c
+unfolding withUnit
+size-with c x t stood = length-set (c .units) x (record { declared = declaredAt c x; turn = t; position = stood })
 
 -- it leaves both marks
-pub mark-with : (k : Bool) (c : Channel) (x : ℕ) (t : Turn) → markAs k (withTurn c x t) ≡ markAs k c
-unfolding withTurn
-mark-with true c x t = refl
-mark-with false c x t = refl
+pub mark-with : (k : Bool) (c : Channel) (x : ℕ) (t : Turn) (stood : Position) → markAs k (withUnit c x t stood) ≡ markAs k c
+unfolding withUnit
+mark-with true c x t stood = refl
+mark-with false c x t stood = refl
 
 -- what holds of the changed unit, and of the others as they were, holds of each
-pub at-set : (c : Channel) (x : ℕ) (t : Turn) → x < size c → (P : ℕ → Unit → Type 0)
-    → P x (record { declared = declaredAt c x; turn = t }) → ((y : ℕ) → y ≢ x → P y (unitAt c y))
-    → (y : ℕ) → P y (unitAt (withTurn c x t) y)
-unfolding withTurn
-at-set c x t l P here others y = go (ℕ-discrete y x)
+pub at-set : (c : Channel) (x : ℕ) (t : Turn) {stood : Position} → x < size c → (P : ℕ → Unit → Type 0)
+    → P x (record { declared = declaredAt c x; turn = t; position = stood }) → ((y : ℕ) → y ≢ x → P y (unitAt c y))
+    → (y : ℕ) → P y (unitAt (withUnit c x t stood) y)
+unfolding withUnit
+at-set c x t {stood} l P here others y = go (ℕ-discrete y x)
   where
     new : Unit
-    new = record { declared = declaredAt c x; turn = t }
+    new = record { declared = declaredAt c x; turn = t; position = stood }
 
     go : Dec (y ≡ x) → P y (getD (set (c .units) x new) y (idleUnit false))
     go (yes e) = rw (e, getD-set-same (c .units) x new (idleUnit false) l) here

@@ -1,4 +1,4 @@
--- M-112 over one channel: a priority request is answered by the time 101 × U + 1 reports have been accepted, for every number of units and
+-- M-112 over one channel: a priority request is answered by the time 201 × U + 1 reports have been accepted, for every number of units and
 -- every history from a fresh start. Assumes nothing.
 use mathlib.Core.Path.{_≡_, refl}
 use mathlib.Core.Bool.{Bool, true, false}

@@ -4,20 +4,20 @@ use mathlib.Core.Bool.{Bool, true, false, cond}
 use mathlib.Core.List.{List}
 use Prim.Native.Nat.{ℕ, _+_, _-_, _*_, _/_, _%_, _≤_, _<_}
 use native.Mathlib.Omega.{arith}
-use borrow.Author.Tests.{ltb-false, leb-true, le-leb, eqb-true, eq-eqb}
+use borrow.Author.Tests.{ltb-false, leb-true, le-leb, eqb-true, eq-eqb, ne-eqb}
 use lib.Dec.{ltb, leb, eqb}
 use lib.ListN.{length}
 use Rattle.area.specs.Lists.{allOf}
 use Rattle.area.proofs.Walks.{by-test, and-left, and-right, and-both}
 use Rattle.session_frame.specs.Digits.{isDigit, bytesOf, byteDigits, isByte, concatMap}
-use Rattle.session_frame.specs.Fields.{byteAt}
+use Rattle.session_frame.specs.Fields.{byteAt, sizeAt}
 use Rattle.session_frame.proofs.Laws.Writes.{length-byte, length-concat}
 use Rattle.session_frame.proofs.Laws.Trips.{bytes-back, digits-are}
 use Rattle.session_frame.specs.declared.Frame.{Frame}
 use Rattle.session_frame.specs.declared.Frame.the-variants.{Malformed, Close, Report, Get, Put, Seal, Skip, Freeze, Thaw}
-use Rattle.session_frame.specs.Frames.{longest, isText, sized, worded, wordCount, freshFrom, openFrom, askFrom, reportFrom, putFrom, kindBy, kindOf, frameOf}
-use Rattle.session_frame.specs.Formed.{Kind, fresh, opens, close, ask, report, get, put, seal, skip, freeze, thaw, WellFormed, Accepted}
-use Rattle.session_frame.proofs.Laws.Sizes.{worded-yes, text-long, frame-text, frame-other}
+use Rattle.session_frame.specs.Frames.{longest, isText, sized, worded, wordCount, freshFrom, openFrom, askFrom, reportHead, lengthHead, noLength, redundancy, showsLength, reportWith, reportFrom, putFrom, kindBy, kindOf, frameOf}
+use Rattle.session_frame.specs.Formed.{Kind, fresh, opens, close, ask, report, measured, get, put, seal, skip, freeze, thaw, WellFormed, Accepted}
+use Rattle.session_frame.proofs.Laws.Sizes.{worded-yes, report-plain, report-measured, text-long, frame-text, frame-other}
 
 -- the frame is not Malformed
 abbrev Decoded : Frame → Type 0
@@ -44,17 +44,25 @@ worded-exact n head f h =
     (λ z b. let whole : (n - head) % 5 ≡ 0 = eqb-true ((n - head) % 5) 0 z in omega arith) (λ b. absurd (b refl)) a)
     refl h
 
-kind-at : {k l n m : ℕ} → k ≡ l → n ≡ m → Kind l m → Kind k n
-kind-at {k} {l} {n} {m} p q x = subst (λ (j : ℕ). Kind j n) (sym p) (subst (λ (j : ℕ). Kind l j) (sym q) x)
+kind-at : {o k l n m : ℕ} → k ≡ l → n ≡ m → Kind o l m → Kind o k n
+kind-at {o} {k} {l} {n} {m} p q x = subst (λ (j : ℕ). Kind o j n) (sym p) (subst (λ (j : ℕ). Kind o l j) (sym q) x)
 
-kind-exact : (k n : ℕ) (b : List ℕ) → Decoded (kindBy k n b) → Kind k n
-unfolding kindBy freshFrom openFrom askFrom reportFrom putFrom
+report-exact : (k n : ℕ) (b : List ℕ) → k ≡ 4 → Decoded (reportFrom n b) → Kind (byteAt b 3) k n
+unfolding reportFrom reportWith
+report-exact k n b e =
+    either (showsLength n) (cond (eqb (byteAt b 3) redundancy) (reportWith lengthHead (sizeAt b 4) n b) Malformed) (reportWith reportHead noLength n b)
+    (λ s. either (eqb (byteAt b 3) redundancy) (reportWith lengthHead (sizeAt b 4) n b) Malformed
+    (λ r a. kind-at e (worded-exact n lengthHead _ a) (measured (wordCount n lengthHead) (eqb-true (byteAt b 3) redundancy r))) (λ a. absurd (a refl)))
+    (λ a. kind-at e (worded-exact n reportHead _ a) (report (wordCount n reportHead)))
+
+kind-exact : (k n : ℕ) (b : List ℕ) → Decoded (kindBy k n b) → Kind (byteAt b 3) k n
+unfolding kindBy freshFrom openFrom askFrom putFrom
 kind-exact k n b =
     either (eqb k 0) (freshFrom n b) _ (λ e a. kind-at (eqb-true k 0 e) (sized-exact n 14 _ a) fresh)
     (either (eqb k 1) (openFrom n b) _ (λ e a. kind-at (eqb-true k 1 e) (sized-exact n 9 _ a) opens)
     (either (eqb k 2) (sized n 2 (Close (byteAt b 1))) _ (λ e a. kind-at (eqb-true k 2 e) (sized-exact n 2 _ a) close)
     (either (eqb k 3) (askFrom n b) _ (λ e a. kind-at (eqb-true k 3 e) (sized-exact n 4 _ a) ask)
-    (either (eqb k 4) (reportFrom n b) _ (λ e a. kind-at (eqb-true k 4 e) (worded-exact n 4 _ a) (report (wordCount n 4)))
+    (either (eqb k 4) (reportFrom n b) _ (λ e a. report-exact k n b (eqb-true k 4 e) a)
     (either (eqb k 5) (sized n 2 (Get (byteAt b 1))) _ (λ e a. kind-at (eqb-true k 5 e) (sized-exact n 2 _ a) get)
     (either (eqb k 6) (putFrom n b) _ (λ e a. kind-at (eqb-true k 6 e) (worded-exact n 2 _ a) (put (wordCount n 2)))
     (either (eqb k 7) (sized n 2 (Seal (byteAt b 1))) _ (λ e a. kind-at (eqb-true k 7 e) (sized-exact n 2 _ a) seal)
@@ -68,14 +76,36 @@ module _ (n head words : ℕ) (f : Frame) (e : n ≡ head + 5 * words) where
   worded-whole : worded n head f ≡ f
   worded-whole = worded-yes n head f (omega arith) (omega arith)
 
-kind-accepted : (k n : ℕ) (b : List ℕ) → Kind k n → Decoded (kindBy k n b)
-unfolding kindBy freshFrom openFrom askFrom reportFrom putFrom sized
+-- a report of so many words, without a length and with one
+module _ (words : ℕ) (b : List ℕ) where
+  frame-with : ℕ → ℕ → ℕ → Frame
+  frame-with head len n = Report (record { channel = byteAt b 1; unit = byteAt b 2; outcome = byteAt b 3; length = len; words = wordCount n head })
+
+  report-whole : reportFrom (reportHead + 5 * words) b ≡ frame-with reportHead noLength (reportHead + 5 * words)
+  unfolding showsLength reportWith frame-with
+  report-whole =
+      let none : (reportHead + 5 * words - reportHead) % 5 ≡ 2 → ⊥ = λ e. omega arith in
+      report-plain (reportHead + 5 * words) b (ne-eqb ((reportHead + 5 * words - reportHead) % 5) 2 none)
+      ∙ worded-whole (reportHead + 5 * words) reportHead words _ refl
+
+  measured-whole : byteAt b 3 ≡ redundancy → reportFrom (lengthHead + 5 * words) b ≡ frame-with lengthHead (sizeAt b 4) (lengthHead + 5 * words)
+  unfolding showsLength reportWith frame-with
+  measured-whole o =
+      let two : (lengthHead + 5 * words - reportHead) % 5 ≡ 2 = omega arith in
+      report-measured (lengthHead + 5 * words) b (eq-eqb ((lengthHead + 5 * words - reportHead) % 5) 2 two) o
+      ∙ worded-whole (lengthHead + 5 * words) lengthHead words _ refl
+
+kind-accepted : (k n : ℕ) (b : List ℕ) → Kind (byteAt b 3) k n → Decoded (kindBy k n b)
+unfolding kindBy freshFrom openFrom askFrom putFrom sized frame-with
 kind-accepted k n b fresh e = let z : _≡_ {A = ℕ} 0 1 = cc in omega arith
 kind-accepted k n b opens e = let z : _≡_ {A = ℕ} 0 1 = cc in omega arith
 kind-accepted k n b close e = let z : _≡_ {A = ℕ} 0 1 = cc in omega arith
 kind-accepted k n b ask e = let z : _≡_ {A = ℕ} 0 1 = cc in omega arith
 kind-accepted k n b (report words) e =
-    let g = sym (worded-whole (4 + 5 * words) 4 words (Report (record { channel = byteAt b 1; unit = byteAt b 2; outcome = byteAt b 3; words = wordCount (4 + 5 * words) 4 })) refl) ∙ e in
+    let g = sym (report-whole words b) ∙ e in
+    let z : _≡_ {A = ℕ} 0 1 = cc in omega arith
+kind-accepted k n b (measured words o) e =
+    let g = sym (measured-whole words b o) ∙ e in
     let z : _≡_ {A = ℕ} 0 1 = cc in omega arith
 kind-accepted k n b get e = let z : _≡_ {A = ℕ} 0 1 = cc in omega arith
 kind-accepted k n b (put words) e =
@@ -118,7 +148,7 @@ formed-accepted line w e =
 pub accepted-exactly : (line : List ℕ) → (Accepted line → WellFormed line) × (WellFormed line → Accepted line)
 accepted-exactly line = (accepted-formed line, formed-accepted line)
 
--- "Over 10,248 digits is malformed."
+-- "Lines then run to 10,252 digits."
 pub frame-long : (line : List ℕ) → longest < length line → frameOf line ≡ Malformed
 frame-long line h = frame-other line (text-long line h)
 

@@ -1,12 +1,17 @@
 -- Laws of the bytes and words of a line. Assumes nothing.
 use mathlib.Core.Path.{_≡_, refl}
+use mathlib.Core.Bool.{true, false}
 use mathlib.Core.List.{List, [], _∷_}
 use Prim.Native.Nat.{ℕ, zero, suc, _+_, _*_, _/_, _≤_, _<_}
 use native.Mathlib.Omega.{arith}
+use borrow.Author.Tests.{leb-true, leb-false}
+use lib.Dec.{leb}
 use lib.ListN.{length, getD, drop, List·getD-eq-default}
 use lib.Seq.{drop-cons}
+use Rattle.area.proofs.Walks.{by-test}
 use Rattle.session_frame.specs.Digits.{valueOf, bytesOf}
 use Rattle.session_frame.specs.Fields.{byteAt, sizeAt, wordAt, wordsOf}
+use Rattle.session_frame.proofs.Laws.Values.{value-small}
 
 -- half as many bytes as characters
 pub length-bytes : (line : List ℕ) → length (bytesOf line) ≡ length line / 2
@@ -35,6 +40,18 @@ pub byte-past : (line : List ℕ) (k : ℕ) → length line / 2 ≤ k → byteAt
 byte-past line k h =
     let g : length (bytesOf line) ≤ k = omega (arith, length-bytes line) in
     List·getD-eq-default (bytesOf line) 0 g
+
+-- a byte is below 2^8, and a size below 2^16
+pub byte-small : (line : List ℕ) (k : ℕ) → byteAt (bytesOf line) k < 256
+byte-small line k =
+    by-test (λ t. leb (length line / 2) k ≡ t → byteAt (bytesOf line) k < 256) (leb (length line / 2) k)
+    (λ t e. omega (arith, byte-past line k (leb-true (length line / 2) k e)))
+    (λ t e.
+    omega (arith, byte-digits line k (leb-false (length line / 2) k e), value-small (getD line (2 * k) 0), value-small (getD line (2 * k + 1) 0)))
+    refl
+
+pub size-small : (line : List ℕ) (k : ℕ) → sizeAt (bytesOf line) k < 65536
+size-small line k = omega (arith, byte-small line k, byte-small line (k + 1))
 
 pub size-past : (line : List ℕ) (k : ℕ) → length line / 2 ≤ k → sizeAt (bytesOf line) k ≡ 0
 size-past line k h =

@@ -9,11 +9,12 @@ use lib.Dec.{eqb}
 use lib.ListN.{length}
 use Rattle.area.specs.Lists.{allOf}
 use Rattle.session_frame.specs.Digits.{isDigit, bytesOf}
-use Rattle.session_frame.specs.Fields.{byteAt}
+use Rattle.session_frame.specs.Fields.{byteAt, sizeAt}
 use Rattle.session_frame.proofs.Laws.Bytes.{length-bytes}
+use Rattle.session_frame.specs.declared.ReportFrame.{ReportFrame}
 use Rattle.session_frame.specs.declared.Frame.{Frame}
 use Rattle.session_frame.specs.declared.Frame.the-variants.{Malformed}
-use Rattle.session_frame.specs.Frames.{longest, isText, sized, worded, wordCount, kindBy, kindOf, frameOf}
+use Rattle.session_frame.specs.Frames.{longest, isText, sized, worded, wordCount, reportHead, lengthHead, noLength, redundancy, showsLength, reportWith, reportFrom, wordsAt, kindBy, kindOf, frameOf}
 
 module _ (n size : ℕ) (f : Frame) where
   pub sized-yes : n ≡ size → sized n size f ≡ f
@@ -39,6 +40,34 @@ module _ (n size : ℕ) (f : Frame) where
 pub words-none : (n head : ℕ) → n < head → wordCount n head ≡ 0
 unfolding wordCount
 words-none n head h = let e : n - head ≡ 0 = omega arith in rw e
+
+-- ---- the length of a report
+
+pub shows-short : (n : ℕ) → n < reportHead → showsLength n ≡ false
+unfolding showsLength
+shows-short n h = let e : n - reportHead ≡ 0 = omega arith in rw e
+
+module _ (n : ℕ) (b : List ℕ) where
+  pub report-plain : showsLength n ≡ false → reportFrom n b ≡ reportWith reportHead noLength n b
+  unfolding reportFrom
+  report-plain h = rw h
+
+  pub report-other : showsLength n ≡ true → (byteAt b 3 ≡ redundancy → ⊥) → reportFrom n b ≡ Malformed
+  unfolding reportFrom
+  report-other h k = rw (h, ne-eqb (byteAt b 3) redundancy k)
+
+  pub report-measured : showsLength n ≡ true → byteAt b 3 ≡ redundancy → reportFrom n b ≡ reportWith lengthHead (sizeAt b 4) n b
+  unfolding reportFrom
+  report-measured h k = rw (h, eq-eqb (byteAt b 3) redundancy k)
+
+module _ (q : ReportFrame) where
+  pub words-plain : q .length ≡ noLength → wordsAt q ≡ reportHead
+  unfolding wordsAt
+  words-plain h = rw (eq-eqb (q .length) noLength h)
+
+  pub words-measured : (q .length ≡ noLength → ⊥) → wordsAt q ≡ lengthHead
+  unfolding wordsAt
+  words-measured h = rw (ne-eqb (q .length) noLength h)
 
 -- a line that is too long is no text
 pub text-long : (line : List ℕ) → longest < length line → isText line ≡ false

@@ -1,10 +1,11 @@
 -- Laws of a digit and its value. Assumes nothing.
-use mathlib.Core.Path.{_≡_}
+use mathlib.Core.Path.{_≡_, refl}
 use mathlib.Core.Bool.{true, false}
 use Prim.Native.Nat.{ℕ, _+_, _-_, _≤_, _<_}
+use native.Mathlib.Omega.{arith}
 use borrow.Author.Tests.{lt-ltb, le-ltb, leb-true}
 use lib.Dec.{leb}
-use Rattle.area.proofs.Walks.{and-left, and-right}
+use Rattle.area.proofs.Walks.{by-test, and-left, and-right}
 use Rattle.session_frame.specs.Digits.{isDecimal, isLetter, valueOf, digitOf}
 
 -- ---- the cases of a value
@@ -26,6 +27,12 @@ decimal-range c e = (leb-true 48 c (and-left _ _ e), leb-true c 57 (and-right (l
 
 pub letter-range : (c : ℕ) → isLetter c ≡ true → (65 ≤ c) × (c ≤ 70)
 letter-range c e = (leb-true 65 c (and-left _ _ e), leb-true c 70 (and-right (leb 65 c) _ e))
+
+pub value-small : (c : ℕ) → valueOf c < 16
+value-small c =
+    by-test (λ t. isDecimal c ≡ t → valueOf c < 16) (isDecimal c) (λ t e. omega (arith, value-decimal c e, decimal-range c e))
+    (λ t e. by-test (λ u. isLetter c ≡ u → valueOf c < 16) (isLetter c) (λ u l. omega (arith, value-letter c e l, letter-range c l))
+    (λ u l. omega (arith, value-other c e l)) refl) refl
 
 -- ---- the digit of a number
 

@@ -41,7 +41,7 @@ same-length c = search needs
 returns : tie.Need-returns
 returns c =
     let a = c .before .before .before .before .before .before .before .before .before .before .before .before .before .before .args in
-    let S : Seen (a .f) (a .c) (a .unit) (a .outcome) (a .w) (a .area .now) (a .words .now) _ _ _ _ _ _ _ _ =
+    let S : Seen (a .f) (a .c) (a .unit) (a .outcome) (a .length) (a .w) (a .area .now) (a .words .now) _ _ _ _ _ _ _ _ =
     record {
       work = c .before .before .before .before .before .before .before .before .before .before .operation-of .ensures;
       verdict = c .before .before .before .before .before .before .before .before .before .before .before .judge .ensures;
@@ -64,7 +64,7 @@ delivery-of-requires c κs = search needs
 reported-file-requires : tie.Need-reported-file-requires
 reported-file-requires c κs =
     let a = c .before .before .before .before .before .before .before .before .before .before .before .before .before .before .before .before .before .before .before .args in
-    let S : Seen (a .f) (a .c) (a .unit) (a .outcome) (a .w) (a .area .now) (a .words .now) _ _ _ _ _ _ _ _ =
+    let S : Seen (a .f) (a .c) (a .unit) (a .outcome) (a .length) (a .w) (a .area .now) (a .words .now) _ _ _ _ _ _ _ _ =
     record {
       work = c .before .before .before .before .before .before .before .before .before .before .before .before .before .before .before .operation-of .ensures;
       verdict = c .before .before .before .before .before .before .before .before .before .before .before .before .before .before .before .before .judge .ensures;
@@ -83,6 +83,9 @@ book-requires c κs = search needs
 working-number-requires : tie.Need-working-number-requires
 working-number-requires c κs = search needs
 
+position-of-requires : tie.Need-position-of-requires
+position-of-requires c κs = search needs
+
 result-number-requires : tie.Need-result-number-requires
 result-number-requires c κs = search needs
 
@@ -91,21 +94,21 @@ same-length-2 c = search needs
 
 returns-2 : tie.Need-returns-2
 returns-2 c =
-    let a = c .before .before .before .before .before .before .before .before .before .before .before .before .before .before .before .before .before .before .before .before .before .before .before .args in
-    let S : Seen (a .f) (a .c) (a .unit) (a .outcome) (a .w) (a .area .now) (a .words .now) _ _ _ _ _ _ _ _ =
+    let a = c .before .before .before .before .before .before .before .before .before .before .before .before .before .before .before .before .before .before .before .before .before .before .before .before .args in
+    let S : Seen (a .f) (a .c) (a .unit) (a .outcome) (a .length) (a .w) (a .area .now) (a .words .now) _ _ _ _ _ _ _ _ =
     record {
-      work = c .before .before .before .before .before .before .before .before .before .before .before .before .before .before .before .before .before .before .before .operation-of .ensures;
-      verdict = c .before .before .before .before .before .before .before .before .before .before .before .before .before .before .before .before .before .before .before .before .judge .ensures;
-      effect = c .before .before .before .before .before .before .before .before .before .before .before .before .before .before .before .before .before .before .effect-of .ensures;
-      given = c .before .before .before .before .before .before .before .before .before .before .before .before .before .before .before .before .before .look .ensures .0;
-      from = c .before .before .before .before .before .before .before .before .before .before .before .before .before .before .before .before .shown-start .ensures .0;
-      many = c .before .before .before .before .before .before .before .before .before .before .before .before .before .before .before .shown-count .ensures .0;
-      handed = c .before .before .before .before .before .before .before .before .before .before .before .before .before .part-are-words .ensures;
-      space = c .before .before .before .before .before .before .before .before .before .before .before .before .block-fits .ensures;
+      work = c .before .before .before .before .before .before .before .before .before .before .before .before .before .before .before .before .before .before .before .before .operation-of .ensures;
+      verdict = c .before .before .before .before .before .before .before .before .before .before .before .before .before .before .before .before .before .before .before .before .before .judge .ensures;
+      effect = c .before .before .before .before .before .before .before .before .before .before .before .before .before .before .before .before .before .before .before .effect-of .ensures;
+      given = c .before .before .before .before .before .before .before .before .before .before .before .before .before .before .before .before .before .before .look .ensures .0;
+      from = c .before .before .before .before .before .before .before .before .before .before .before .before .before .before .before .before .before .shown-start .ensures .0;
+      many = c .before .before .before .before .before .before .before .before .before .before .before .before .before .before .before .before .shown-count .ensures .0;
+      handed = c .before .before .before .before .before .before .before .before .before .before .before .before .before .before .part-are-words .ensures;
+      space = c .before .before .before .before .before .before .before .before .before .before .before .before .before .block-fits .ensures;
     } in
-    let found = c .before .before .before .before .before .before .before .before .before .before .before .report-refusal .ensures ∙ refusal-found (a .wrong) (a .frozen) S in (
-      report-booked (a .wrong) (a .frozen) S _ found (c .before .before .before .before .before .before .before .before .before .before .if1 .left) _ _ _ _ _ _ (c .before .before .before .before .before .before .before .before .before .before .before .before .before .before .before .before .before .look .ensures .1) (c .before .before .before .before .delivery-of .ensures) (c .result-number .ensures) (c .before .before .before .reported-file .ensures) (c .before .before .book .ensures) (c .before .working-number .ensures),
-      c .before .before .before .before .before .before .before .before .put-words .ensures ∙ booked-area (a .wrong) (a .frozen) S _ found (c .before .before .before .before .before .before .before .before .before .before .if1 .left),
+    let found = c .before .before .before .before .before .before .before .before .before .before .before .before .report-refusal .ensures ∙ refusal-found (a .wrong) (a .frozen) S in (
+      report-booked (a .wrong) (a .frozen) S _ found (c .before .before .before .before .before .before .before .before .before .before .before .if1 .left) _ _ _ _ _ _ _ (c .before .before .before .before .before .before .before .before .before .before .before .before .before .before .before .before .before .before .look .ensures .1) (c .before .before .before .before .before .delivery-of .ensures) (c .before .position-of .ensures) (c .result-number .ensures) (c .before .before .before .before .reported-file .ensures) (c .before .before .before .book .ensures) (c .before .before .working-number .ensures),
+      c .before .before .before .before .before .before .before .before .before .put-words .ensures ∙ booked-area (a .wrong) (a .frozen) S _ found (c .before .before .before .before .before .before .before .before .before .before .before .if1 .left),
     )
 
 pub report-on-spec : {M : Type 1} → statement M
@@ -129,6 +132,7 @@ report-on-spec =
     reported-file-requires
     book-requires
     working-number-requires
+    position-of-requires
     result-number-requires
     same-length-2
     returns-2)

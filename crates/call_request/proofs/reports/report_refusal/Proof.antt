@@ -4,6 +4,9 @@ use borrow.Author.Needs.{needs}
 use Rattle.call_request.proofs.reports.report_refusal.Statement.{statement}
 use Rattle.call_request.proofs.reports.report_refusal.Tie as tie
 
+length-wrong-requires : tie.Need-length-wrong-requires
+length-wrong-requires c κs = search needs
+
 takes-no-words-requires : tie.Need-takes-no-words-requires
 takes-no-words-requires c κs = search needs
 
@@ -30,12 +33,13 @@ row-requires-5 c κs = search needs
 
 returns : tie.Need-returns
 unfolding lowest
-returns c = simp (c .row5 .ensures, c .before .row4 .ensures, c .before .before .row3 .ensures, c .before .before .before .row2 .ensures, c .before .before .before .before .row .ensures, c .before .before .before .before .before .before .before .takes-no-words .ensures, c .before .before .before .before .before .before .refusal-number .ensures, c .before .before .before .before .before .is-delivery .ensures)
+returns c = simp (c .row5 .ensures, c .before .row4 .ensures, c .before .before .row3 .ensures, c .before .before .before .row2 .ensures, c .before .before .before .before .row .ensures, c .before .before .before .before .before .before .before .before .length-wrong .ensures, c .before .before .before .before .before .before .before .takes-no-words .ensures, c .before .before .before .before .before .before .refusal-number .ensures, c .before .before .before .before .before .is-delivery .ensures)
 
 pub report-refusal-spec : {M : Type 1} → statement M
 report-refusal-spec =
     tie.close
     (tie.spec
+    length-wrong-requires
     takes-no-words-requires
     refusal-number-requires
     is-delivery-requires

@@ -1,35 +1,17 @@
--- `with_turn` meets its contract: one store into the array; past the last unit a store changes nothing.
+-- `with_turn` meets its contract: its definition, of what its two callees ensure.
 -- Assumes nothing.
-use mathlib.Core.Path.{refl, sym, _∙_}
-use lib.ListN.{length-map}
-use native.Mathlib.Omega.{arith}
-use Rattle.channel.specs.Units.{withTurn}
-use Rattle.channel.proofs.Laws.Units.{with-beyond}
 use borrow.Author.Needs.{needs}
 use Rattle.channel.proofs.units.with_turn.Statement.{statement}
 use Rattle.channel.proofs.units.with_turn.Tie as tie
 
+position-of-requires : tie.Need-position-of-requires
+position-of-requires c κs = search needs
+
+with-unit-requires : tie.Need-with-unit-requires
+with-unit-requires c κs = search needs
+
 returns : tie.Need-returns
-returns c =
-    let long = sym (length-map (c .before .args .t1 .units) _) ∙ c .before .good .0 .1 .1 .0 .1 .0 .1 in
-    sym (with-beyond (c .before .args .t1) (c .before .args .unit) (omega arith) (c .before .args .turn))
-
-mul-u : tie.Need-mul-u
-mul-u c = search needs
-
-element-copy-out-u : tie.Need-element-copy-out-u
-element-copy-out-u c = search needs
-
-mul-v : tie.Need-mul-v
-mul-v c = search needs
-
-element-set-from-v : tie.Need-element-set-from-v
-element-set-from-v c = search needs
-
-returns-2 : tie.Need-returns-2
-unfolding withTurn
-returns-2 c = refl
+returns c = rw (c .with-unit .ensures, c .before .position-of .ensures)
 
 pub with-turn-spec : {M : Type 1} → statement M
-with-turn-spec =
-    tie.close (tie.spec returns mul-u element-copy-out-u mul-v element-set-from-v returns-2)
+with-turn-spec = tie.close (tie.spec position-of-requires with-unit-requires returns)

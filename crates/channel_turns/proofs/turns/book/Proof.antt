@@ -14,8 +14,8 @@ enum-known-verdict c = search needs
 repeat-requires : tie.Need-repeat-requires
 repeat-requires c κs = search needs
 
-enum-told-2 : tie.Need-enum-told-2
-enum-told-2 c = search needs
+enum-known-verdict-2 : tie.Need-enum-known-verdict-2
+enum-known-verdict-2 c = search needs
 
 end-requires : tie.Need-end-requires
 end-requires c κs = search needs
@@ -30,7 +30,7 @@ returns-2 c = rw (c .before .before .verdict .given .1) (c .repeat .ensures)
 
 returns-3 : tie.Need-returns-3
 unfolding bookOf
-returns-3 c = rw (c .before .enum-told2 .given .1) (c .end .ensures)
+returns-3 c = rw (c .before .before .verdict2 .given .1) (c .end .ensures)
 
 pub book-spec : {M : Type 1} → statement M
 book-spec =
@@ -39,7 +39,7 @@ book-spec =
     enum-told
     enum-known-verdict
     repeat-requires
-    enum-told-2
+    enum-known-verdict-2
     end-requires
     returns
     returns-2

@@ -32,8 +32,8 @@ same-length c = search needs
 returns : tie.Need-returns
 returns c =
     let a = c .before .before .before .before .before .before .before .before .before .before .before .before .before .before .before .args in (
-      report-whole (a .s) (a .area .now) (a .channel) (a .unit) (a .outcome) (a .words .now) _ _ _ _ _ (c .before .before .before .before .before .before .before .before .before .file-of .ensures) (c .before .before .before .before .before .before .before .before .file-at .ensures) (c .before .before .before .before .before .before .before .channel-at .ensures) (c .before .before .before .before .before .before .before .before .before .before .before .is-sound .ensures) (c .before .before .before .before .before .before .before .before .before .before .before .before .area-short .ensures) _ _ (c .before .before .before .before .before .report-on .ensures .0) (c .changed-state .ensures),
-      c .before .before .before .before .before .report-on .ensures .1 ∙ report-area (a .s) (a .area .now) (a .channel) (a .unit) (a .outcome) (a .words .now) _ _ _ _ _ (c .before .before .before .before .before .before .before .before .before .file-of .ensures) (c .before .before .before .before .before .before .before .before .file-at .ensures) (c .before .before .before .before .before .before .before .channel-at .ensures) (c .before .before .before .before .before .before .before .before .before .before .before .is-sound .ensures) (c .before .before .before .before .before .before .before .before .before .before .before .before .area-short .ensures),
+      report-whole (a .s) (a .area .now) (a .channel) (a .unit) (a .outcome) (a .length) (a .words .now) _ _ _ _ _ (c .before .before .before .before .before .before .before .before .before .file-of .ensures) (c .before .before .before .before .before .before .before .before .file-at .ensures) (c .before .before .before .before .before .before .before .channel-at .ensures) (c .before .before .before .before .before .before .before .before .before .before .before .is-sound .ensures) (c .before .before .before .before .before .before .before .before .before .before .before .before .area-short .ensures) _ _ (c .before .before .before .before .before .report-on .ensures .0) (c .changed-state .ensures),
+      c .before .before .before .before .before .report-on .ensures .1 ∙ report-area (a .s) (a .area .now) (a .channel) (a .unit) (a .outcome) (a .length) (a .words .now) _ _ _ _ _ (c .before .before .before .before .before .before .before .before .before .file-of .ensures) (c .before .before .before .before .before .before .before .before .file-at .ensures) (c .before .before .before .before .before .before .before .channel-at .ensures) (c .before .before .before .before .before .before .before .before .before .before .before .is-sound .ensures) (c .before .before .before .before .before .before .before .before .before .before .before .before .area-short .ensures),
     )
 
 pub report-spec : {M : Type 1} → statement M

@@ -1,6 +1,10 @@
 -- `session::play::given` meets its contract, a case each. Assumes nothing.
-use mathlib.Core.Path.{sym}
+use mathlib.Core.Path.{sym, ap, _∙_}
+use Prim.Native.Nat.{ℕ}
+use lib.ListN.{length}
+use Rattle.area.specs.Parts.{paste}
 use Rattle.area.proofs.Pastes.{paste-nothing}
+use Rattle.session_frame.specs.Frames.{wordsFrom}
 use Rattle.session.specs.Rooms.{givenIn}
 use borrow.Author.Needs.{needs}
 use Rattle.session.proofs.play.given.Statement.{statement}
@@ -21,20 +25,26 @@ enum-told-4 c = search needs
 enum-told-5 : tie.Need-enum-told-5
 enum-told-5 c = search needs
 
-enum-told-6 : tie.Need-enum-told-6
-enum-told-6 c = search needs
+enum-known-f : tie.Need-enum-known-f
+enum-known-f c = search needs
+
+words-at-requires : tie.Need-words-at-requires
+words-at-requires c κs = search needs
 
 words-into-requires : tie.Need-words-into-requires
 words-into-requires c κs = search needs
 
+enum-told-6 : tie.Need-enum-told-6
+enum-told-6 c = search needs
+
 enum-told-7 : tie.Need-enum-told-7
 enum-told-7 c = search needs
 
-enum-told-8 : tie.Need-enum-told-8
-enum-told-8 c = search needs
-
 words-into-requires-2 : tie.Need-words-into-requires-2
 words-into-requires-2 c κs = search needs
+
+enum-told-8 : tie.Need-enum-told-8
+enum-told-8 c = search needs
 
 enum-told-9 : tie.Need-enum-told-9
 enum-told-9 c = search needs
@@ -44,9 +54,6 @@ enum-told-10 c = search needs
 
 enum-told-11 : tie.Need-enum-told-11
 enum-told-11 c = search needs
-
-enum-told-12 : tie.Need-enum-told-12
-enum-told-12 c = search needs
 
 returns : tie.Need-returns
 unfolding givenIn
@@ -73,34 +80,38 @@ same-length c = search needs
 
 returns-6 : tie.Need-returns-6
 unfolding givenIn
-returns-6 c = (rw (c .before .before .before .before .enum-told6 .given .1) (c .before .before .words-into .ensures .0), rw (c .before .before .before .before .enum-told6 .given .1) (c .before .before .words-into .ensures .1))
+returns-6 c =
+    let a = c .before .before .before .before .before .before .before .before .before .before .args in
+    let start = c .before .before .before .before .words-at .ensures in
+    let words = c .before .before .words-into .ensures in
+    (rw (c .before .before .before .before .before .before .f .given .1) (words .0 ∙ ap (λ (k : ℕ). length (wordsFrom (a .line .now) k (length (a .room .now)))) start), rw (c .before .before .before .before .before .before .f .given .1) (words .1 ∙ ap (λ (k : ℕ). paste 0 (wordsFrom (a .line .now) k (length (a .room .now))) (a .room .now)) start))
 
 returns-7 : tie.Need-returns-7
 unfolding givenIn
-returns-7 c = (rw (c .enum-told7 .given .1), rw (c .enum-told7 .given .1) (sym (paste-nothing 0 (c .before .before .before .before .args .room .now))))
+returns-7 c = (rw (c .enum-told6 .given .1), rw (c .enum-told6 .given .1) (sym (paste-nothing 0 (c .before .before .before .before .args .room .now))))
 
 same-length-2 : tie.Need-same-length-2
 same-length-2 c = search needs
 
 returns-8 : tie.Need-returns-8
 unfolding givenIn
-returns-8 c = (rw (c .before .before .before .before .enum-told8 .given .1) (c .before .before .words-into2 .ensures .0), rw (c .before .before .before .before .enum-told8 .given .1) (c .before .before .words-into2 .ensures .1))
+returns-8 c = (rw (c .before .before .before .before .enum-told7 .given .1) (c .before .before .words-into2 .ensures .0), rw (c .before .before .before .before .enum-told7 .given .1) (c .before .before .words-into2 .ensures .1))
 
 returns-9 : tie.Need-returns-9
 unfolding givenIn
-returns-9 c = (rw (c .enum-told9 .given .1), rw (c .enum-told9 .given .1) (sym (paste-nothing 0 (c .before .before .before .before .args .room .now))))
+returns-9 c = (rw (c .enum-told8 .given .1), rw (c .enum-told8 .given .1) (sym (paste-nothing 0 (c .before .before .before .before .args .room .now))))
 
 returns-10 : tie.Need-returns-10
 unfolding givenIn
-returns-10 c = (rw (c .enum-told10 .given .1), rw (c .enum-told10 .given .1) (sym (paste-nothing 0 (c .before .before .before .before .args .room .now))))
+returns-10 c = (rw (c .enum-told9 .given .1), rw (c .enum-told9 .given .1) (sym (paste-nothing 0 (c .before .before .before .before .args .room .now))))
 
 returns-11 : tie.Need-returns-11
 unfolding givenIn
-returns-11 c = (rw (c .enum-told11 .given .1), rw (c .enum-told11 .given .1) (sym (paste-nothing 0 (c .before .before .before .before .args .room .now))))
+returns-11 c = (rw (c .enum-told10 .given .1), rw (c .enum-told10 .given .1) (sym (paste-nothing 0 (c .before .before .before .before .args .room .now))))
 
 returns-12 : tie.Need-returns-12
 unfolding givenIn
-returns-12 c = (rw (c .enum-told12 .given .1), rw (c .enum-told12 .given .1) (sym (paste-nothing 0 (c .before .before .before .before .args .room .now))))
+returns-12 c = (rw (c .enum-told11 .given .1), rw (c .enum-told11 .given .1) (sym (paste-nothing 0 (c .before .before .before .before .args .room .now))))
 
 pub given-spec : {M : Type 1} → statement M
 given-spec =
@@ -111,15 +122,16 @@ given-spec =
     enum-told-3
     enum-told-4
     enum-told-5
-    enum-told-6
+    enum-known-f
+    words-at-requires
     words-into-requires
+    enum-told-6
     enum-told-7
-    enum-told-8
     words-into-requires-2
+    enum-told-8
     enum-told-9
     enum-told-10
     enum-told-11
-    enum-told-12
     returns
     returns-2
     returns-3
