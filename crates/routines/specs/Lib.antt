@@ -1,0 +1,4 @@
+pub mod Ranks
+pub mod Right
+pub mod Schedule
+pub mod Waits
