@@ -1,3 +1,4 @@
+pub mod Order
 pub mod Ranks
 pub mod Right
 pub mod Schedule

@@ -3,13 +3,18 @@
 use Prim.Native.Nat.{ℕ, _+_}
 use mathlib.Core.Bool.{Bool}
 use mathlib.Core.List.{List, [], _∷_}
-use lib.ListN.{getD, set}
+use lib.Dec.{ltb}
+use lib.ListN.{length, getD, set}
 use Rattle.routines.specs.declared.Due.{Due}
 use Rattle.routines.specs.declared.Program.{Program}
 use Rattle.routines.specs.Ranks.{mainProgram, nothingDue, isDue, waitingAt, higher}
 
 abbrev pub Waits : Type 0
 Waits = List (List Due)
+
+-- the numbers are those of a unit
+abbrev pub isUnit : Waits → ℕ → ℕ → Bool
+isUnit w c u = ltb u (length (getD w c []))
 
 -- what is due at a unit; nothing at a number that is no unit's
 abbrev pub dueAt : Waits → ℕ → ℕ → Due
