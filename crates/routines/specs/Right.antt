@@ -9,8 +9,7 @@ use Rattle.area.specs.Lists.{allOf}
 use Rattle.routines.specs.declared.Due.{Due}
 use Rattle.routines.specs.declared.Program.{Program}
 use Rattle.routines.specs.declared.Programs.{Programs}
-use Rattle.routines.specs.Ranks.{depth, topRank, isMain, isDue, listOf}
-use Rattle.routines.specs.Waits.{Waits}
+use Rattle.routines.specs.Ranks.{depth, topRank, isMain, listOf}
 
 -- levels in range, and zero where nothing is meant
 abbrev pub dueRight : Due → Bool
@@ -33,10 +32,6 @@ programsRight p =
 -- if nothing is frozen, no waiting routine is above what runs unless the list is full
 unfoldable pub isSettled : Programs → Bool → Program → Bool
 isSettled p frozen best = frozen || (leb depth (p .count) || leb (best .rank) (p .running .rank))
-
--- what is due at every unit is as it may be
-unfoldable pub waitsRight : Waits → Bool
-waitsRight w = allOf (allOf dueRight) w
 
 -- ---- the units of routines, where `declared` tells which are declared
 

@@ -6,8 +6,8 @@ use mathlib.Core.Logic.{_⊎_, inl, inr}
 use Prim.Native.Nat.{ℕ, zero, suc, _+_, _≤_, _<_}
 use native.Mathlib.Nat.{le-of-suc-le-suc, not-suc-le-zero}
 use native.Mathlib.Omega.{arith}
-use borrow.Author.Tests.{ltb-true, ltb-false, lt-ltb, eqb-true, eqb-false}
-use lib.Dec.{ltb, eqb}
+use borrow.Author.Tests.{ltb-true, ltb-false, lt-ltb, leb-true, le-leb, eqb-true, eqb-false}
+use lib.Dec.{ltb, leb, eqb}
 use lib.ListN.{length, getD, set, List·getD-eq-default, length-set}
 use lib.Seq.{getD-set-same, getD-set-other, set-out, set-getD}
 use Rattle.area.proofs.Walks.{by-test}
@@ -188,3 +188,25 @@ module _ (w : Waits) (c u : ℕ) (d : Due) where
 pub with-own : (w : Waits) (c u : ℕ) → withDue w c u (dueAt w c u) ≡ w
 unfolding withDue
 with-own w c u = rw (set-getD (getD w c []) u nothingDue, set-getD w c [])
+
+-- what holds of all that is due, and of what becomes due, holds of all afterwards
+pub with-each : (test : Due → Bool) (w : Waits) (c u : ℕ) (d : Due) → ((k v : ℕ) → test (dueAt w k v) ≡ true) → test d ≡ true → (k v : ℕ) → test (dueAt (withDue w c u d) k v) ≡ true
+with-each test w c u d all own k v = each (eqb k c) refl (eqb v u) refl (isUnit w c u) refl
+  where
+    each : (a : Bool) → eqb k c ≡ a → (b : Bool) → eqb v u ≡ b → (e : Bool) → isUnit w c u ≡ e → test (dueAt (withDue w c u d) k v) ≡ true
+    each false p b q e r = ap test (with-other w c u d k v (λ x. λ y. eqb-false k c p x)) ∙ all k v
+    each true p false q e r = ap test (with-other w c u d k v (λ x. λ y. eqb-false v u q y)) ∙ all k v
+    each true p true q true r =
+        let x : k ≡ c = eqb-true k c p in
+        let y : v ≡ u = eqb-true v u q in
+        rw (x, y, with-same w c u d r) own
+    each true p true q false r =
+        let x : k ≡ c = eqb-true k c p in
+        let y : v ≡ u = eqb-true v u q in
+        rw (x, y, due-beyond (withDue w c u d) c u (with-units w c u d c u ∙ r)) (sym (ap test (due-beyond w c u r)) ∙ all c u)
+
+-- what is entered waits no longer, and what is then the highest is no higher
+pub cleared-lower : (w : Waits) (c u : ℕ) → highest (withDue w c u nothingDue) .rank ≤ highest w .rank
+cleared-lower w c u =
+    highest-keeps (λ p. p .rank ≤ highest w .rank) (withDue w c u nothingDue) (omega arith)
+    (λ k v i j. leb-true _ _ (with-each (λ d. leb (d .rank) (highest w .rank)) w c u nothingDue (λ x y. le-leb _ _ (highest-rank w x y)) (le-leb 0 (highest w .rank) (omega arith)) k v))

@@ -15,7 +15,7 @@ use Rattle.area.proofs.Walks.{by-test, and-left, and-right, and-both, or-first,
 use Rattle.area.proofs.Marks.{all-set}
 use Rattle.routines.specs.declared.Program.{Program}
 use Rattle.routines.specs.declared.Programs.{Programs}
-use Rattle.routines.specs.Ranks.{depth, mainProgram, isMain, under, listOf, mainAlone}
+use Rattle.routines.specs.Ranks.{depth, topRank, mainProgram, isMain, under, listOf, mainAlone}
 use Rattle.routines.specs.Schedule.{enters, interruptedBy, lookOf, lastPushed, entersOnReturn, replacedBy, resumedOf, givenBack, noneRuns}
 use Rattle.routines.specs.Right.{programRight, descends, programsRight, isSettled, unitKnown, unitsKnown}
 use Rattle.routines.proofs.Laws.Lists.{under-set, under-last}
@@ -66,11 +66,15 @@ all-more : (xs : List Program) → allOf isMain xs ≡ true → allOf isMain (ma
 unfolding allOf
 all-more xs e = e
 
+-- a routine is right by its rank alone
+ranked : (x : Program) → x .rank ≤ topRank → 0 < x .rank → programRight x ≡ true
+ranked x low high = and-both (leb (x .rank) topRank) _ (le-leb _ _ low) (or-first (ltb 0 (x .rank)) _ (lt-ltb 0 (x .rank) high))
+
 -- ---- a look
 
 module _ (p : Programs) (long : length (p .pushed) ≡ depth) (right : programsRight p ≡ true) where
   -- a program that is entered above what runs
-  interrupted-right : (best : Program) → programRight best ≡ true → p .running .rank < best .rank → p .count < depth → programsRight (interruptedBy p best) ≡ true
+  interrupted-right : (best : Program) → best .rank ≤ topRank → p .running .rank < best .rank → p .count < depth → programsRight (interruptedBy p best) ≡ true
   unfolding interruptedBy descends
   interrupted-right best b above room =
       let c = clauses p right in
@@ -80,13 +84,13 @@ module _ (p : Programs) (long : length (p .pushed) ≡ depth) (right : programsR
       from-clauses (interruptedBy p best)
       (record {
         few = omega arith;
-        own = b;
+        own = ranked best b (omega arith);
         all = all-set programRight (p .pushed) (p .count) (p .running) (c .all) (c .own);
         none = ap (allOf isMain) same ∙ past;
         falls = ap (descends best) (list-interrupted p best in-list) ∙ and-both (ltb (p .running .rank) (best .rank)) _ (lt-ltb _ _ above) (c .falls);
       })
 
-  pub look-right : (frozen : Bool) (best : Program) → programRight best ≡ true → programsRight (lookOf p frozen best .programs) ≡ true
+  pub look-right : (frozen : Bool) (best : Program) → best .rank ≤ topRank → programsRight (lookOf p frozen best .programs) ≡ true
   look-right frozen best b =
       by-look p frozen best (λ r. programsRight (r .programs) ≡ true)
       (λ e. interrupted-right best b (enters-above p frozen best e) (enters-room p frozen best e))
@@ -113,14 +117,14 @@ module _ (p : Programs) (long : length (p .pushed) ≡ depth) (right : programsR
     last-right : programRight (lastPushed p) ≡ true
     last-right = all-at programRight mainProgram (p .pushed) (clauses p right .all) (p .count - 1) in-list
 
-    replaced-right : (best : Program) → programRight best ≡ true → lastPushed p .rank < best .rank → programsRight (replacedBy p best) ≡ true
+    replaced-right : (best : Program) → best .rank ≤ topRank → lastPushed p .rank < best .rank → programsRight (replacedBy p best) ≡ true
     unfolding descends
     replaced-right best b above =
         let c = clauses p right in
         from-clauses (replacedBy p best)
         (record {
           few = c .few;
-          own = b;
+          own = ranked best b (omega arith);
           all = c .all;
           none = c .none;
           falls = ap (descends best) (under-last (p .pushed) (p .count) (routine-over n)) ∙ and-both (ltb (lastPushed p .rank) (best .rank)) _ (lt-ltb _ _ above) last-falls;
@@ -145,7 +149,7 @@ module _ (p : Programs) (long : length (p .pushed) ≡ depth) (right : programsR
           falls = ap (descends (lastPushed p)) (under-set (p .pushed) (p .count - 1) mainProgram (p .count - 1) (le-refl _)) ∙ last-falls;
         })
 
-    pub back-right : (frozen : Bool) (best : Program) → programRight best ≡ true → programsRight (givenBack p frozen best .programs) ≡ true
+    pub back-right : (frozen : Bool) (best : Program) → best .rank ≤ topRank → programsRight (givenBack p frozen best .programs) ≡ true
     back-right frozen best b =
         by-back p frozen best (λ r. programsRight (r .programs) ≡ true)
         (λ e. replaced-right best b (back-above p frozen best e))

@@ -1,0 +1,3 @@
+pub mod Example
+pub mod History
+pub mod Machine
