@@ -14,13 +14,14 @@ pub fn look(p: Programs, frozen: bool, best: Program) -> Scheduled
 {
     let n = p.count as usize;
     let old = p.running;
-    if !frozen & ((old.rank < best.rank) & (n < DEPTH)) {
+    let enters = !frozen & ((old.rank < best.rank) & (n < DEPTH));
+    if enters {
         let mut t = p;
         t.pushed[n] = old;
         t.running = best;
         t.count = p.count + 1;
         return Scheduled {
-            entered: true,
+            entered: enters,
             programs: t,
         };
     }

@@ -36,6 +36,12 @@ full-stays p frozen best h = go (not frozen) (ltb (p .running .rank) (best .rank
     go true false = refl
     go true true = le-ltb (p .count) depth h
 
+-- where nothing is left to enter, a further look enters nothing
+pub settled-stays : (p : Programs) (frozen : Bool) (best : Program) → isSettled p frozen best ≡ true → enters p frozen best ≡ false
+unfolding isSettled
+settled-stays p true best e = frozen-enters p best
+settled-stays p false best e = or-either (leb depth (p .count)) _ e (λ f. full-stays p false best (leb-true _ _ f)) (λ f. low-stays p false best (leb-true _ _ f))
+
 module _ (p : Programs) (w : Waits) (c u : ℕ) (d : Due) (unit : isUnit w c u ≡ true) where
   -- where nothing that waits is above what runs
   module _ (low : highest w .rank ≤ p .running .rank) where
