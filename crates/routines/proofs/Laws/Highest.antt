@@ -1,15 +1,16 @@
 -- Laws of `highest`: it is the main program or a routine that waits; none that waits comes before it; and it is the only one so. Assumes nothing.
 use mathlib.Core.Path.{_≡_, refl, sym, ap, _∙_}
 use mathlib.Core.Bool.{Bool, true, false}
-use mathlib.Core.List.{List, [], _∷_}
+use mathlib.Core.List.{List, [], _∷_, map}
 use mathlib.Core.Logic.{_⊎_, inl, inr}
 use Prim.Native.Nat.{ℕ, zero, suc, _+_, _≤_, _<_}
 use native.Mathlib.Nat.{le-of-suc-le-suc, not-suc-le-zero}
 use native.Mathlib.Omega.{arith}
+use native.Mathlib.Numerals.{add-one}
 use borrow.Author.Tests.{ltb-true, ltb-false, lt-ltb, leb-true, le-leb, eqb-true, eqb-false}
 use lib.Dec.{ltb, leb, eqb}
-use lib.ListN.{length, getD, set, List·getD-eq-default, length-set}
-use lib.Seq.{getD-set-same, getD-set-other, set-out, set-getD}
+use lib.ListN.{length, getD, set, drop, List·getD-eq-default, length-set, drop-of-length-le}
+use lib.Seq.{getD-set-same, getD-set-other, set-out, set-getD, drop-cons}
 use Rattle.area.proofs.Walks.{by-test}
 use Rattle.routines.specs.declared.Due.{Due}
 use Rattle.routines.specs.declared.Program.{Program}
@@ -210,3 +211,27 @@ pub cleared-lower : (w : Waits) (c u : ℕ) → highest (withDue w c u nothingDu
 cleared-lower w c u =
     highest-keeps (λ p. p .rank ≤ highest w .rank) (withDue w c u nothingDue) (omega arith)
     (λ k v i j. leb-true _ _ (with-each (λ d. leb (d .rank) (highest w .rank)) w c u nothingDue (λ x y. le-leb _ _ (highest-rank w x y)) (le-leb 0 (highest w .rank) (omega arith)) k v))
+
+-- ---- a walk over units that hold what is due: the answer e₀ of the whole is that of what is left from unit i on, with the best so far
+
+one-off : {A : Type 0} (xs : List A) (i : ℕ) (d : A) → i < length xs → drop i xs ≡ getD xs i d ∷ drop (i + 1) xs
+one-off xs i d h = drop-cons xs i d h ∙ ap (λ (k : ℕ). getD xs i d ∷ drop k xs) (sym (add-one i))
+
+module _ {A : Type 0} (due : A → Due) (d : A) (xs : List A) (c : ℕ) (e₀ : Program) where
+  pub on-turn : (i : ℕ) (best : Program) → i < length xs → e₀ ≡ highestOn c i (map due (drop i xs)) best → e₀ ≡ highestOn c (i + 1) (map due (drop (i + 1) xs)) (higher best (waitingAt c i (due (getD xs i d))))
+  unfolding highestOn
+  on-turn i best h inv = inv ∙ rw (one-off xs i d h)
+
+  pub on-done : (i : ℕ) (best : Program) → length xs ≤ i → e₀ ≡ highestOn c i (map due (drop i xs)) best → best ≡ e₀
+  unfolding highestOn
+  on-done i best h inv = sym (inv ∙ rw (drop-of-length-le xs h))
+
+-- the same over channels that hold units
+module _ {A : Type 0} (dues : A → List Due) (d : A) (xs : List A) (e₀ : Program) where
+  pub from-turn : (j : ℕ) (best : Program) → j < length xs → e₀ ≡ highestFrom j (map dues (drop j xs)) best → e₀ ≡ highestFrom (j + 1) (map dues (drop (j + 1) xs)) (highestOn j 0 (dues (getD xs j d)) best)
+  unfolding highestFrom
+  from-turn j best h inv = inv ∙ rw (one-off xs j d h)
+
+  pub from-done : (j : ℕ) (best : Program) → length xs ≤ j → e₀ ≡ highestFrom j (map dues (drop j xs)) best → best ≡ e₀
+  unfolding highestFrom
+  from-done j best h inv = sym (inv ∙ rw (drop-of-length-le xs h))
