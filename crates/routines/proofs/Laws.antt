@@ -1,0 +1,6 @@
+pub mod Lists
+pub mod Order
+pub mod Highest
+pub mod Schedule
+pub mod Kept
+pub mod Own

@@ -1,0 +1,5 @@
+pub mod Order
+pub mod Ranks
+pub mod Right
+pub mod Schedule
+pub mod Waits

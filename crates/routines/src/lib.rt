@@ -1,0 +1,56 @@
+// Special routines by priority: which program runs, which were interrupted, and what the program scheduler makes of them at a look and at a return.
+// What waits stands with the units: a caller passes the highest of it, and is told whether it was entered. Every function answers for any value.
+// The crate knows nothing of requests, files or words, and a unit is a number to it.
+mod ranks;
+mod right;
+mod schedule;
+
+pub use ranks::due_named;
+pub use ranks::higher;
+pub use ranks::is_due;
+pub use ranks::is_main;
+pub use ranks::main_alone;
+pub use ranks::main_program;
+pub use ranks::nothing_due;
+pub use ranks::waiting;
+pub use right::due_right;
+pub use right::is_settled;
+pub use right::programs_right;
+pub use schedule::give_back;
+pub use schedule::look;
+
+// How many interrupted programs the push-down list holds.
+pub const DEPTH: usize = 4;
+
+// The highest priority of a routine.
+pub const HIGHEST: u8 = 4;
+
+// The rank of a routine of the highest priority: a rank is one above the priority, and 0 where there is none.
+const TOP: u8 = HIGHEST + 1;
+
+// A routine that is due at a unit, or that a request names: its rank, 0 for no routine, and its number.
+pub struct Due {
+    pub rank: u8,
+    pub routine: u8,
+}
+
+// A program: its rank, 0 for the main program, which has no priority; for a routine, the channel and the unit at which it became due, and its number.
+pub struct Program {
+    pub rank: u8,
+    pub channel: u8,
+    pub unit: u8,
+    pub routine: u8,
+}
+
+// The program that runs, and the push-down list of those that were interrupted: `count` of them, the last one pushed at place `count` - 1.
+pub struct Programs {
+    pub running: Program,
+    pub pushed: [Program; DEPTH],
+    pub count: u8,
+}
+
+// What the scheduler did: whether it entered the waiting routine, which then waits no longer, and the programs after it.
+pub struct Scheduled {
+    pub entered: bool,
+    pub programs: Programs,
+}
