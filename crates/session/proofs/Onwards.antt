@@ -4,12 +4,13 @@ use mathlib.Core.Bool.{Bool, true, false, not, cond}
 use mathlib.Core.List.{List, _++_}
 use Prim.Native.Nat.{ℕ, _+_, _-_, _≤_, _<_}
 use native.Mathlib.Omega.{arith}
-use borrow.Author.Tests.{ltb-false}
-use lib.Dec.{ltb}
+use borrow.Author.Tests.{ltb-false, eq-eqb, ne-eqb}
+use lib.Dec.{ltb, eqb}
 use lib.ListN.{length, getD, set, take, drop, length-append, length-drop}
 use lib.Seq.{length-take-le}
 use Rattle.area.specs.Parts.{partOf, paste, pastedIn}
 use Rattle.area.proofs.Walks.{by-test}
+use Rattle.area.proofs.Marks.{cond-true, cond-false}
 use Rattle.session_frame.specs.declared.Answer.{Answer}
 use Rattle.session_frame.specs.declared.Answer.the-variants as answer
 use Rattle.session_frame.specs.Answers.{answerText}
@@ -25,13 +26,12 @@ use Rattle.file.specs.declared.File.{File}
 use Rattle.pool.specs.Free.{fileCount}
 use Rattle.pool.specs.Masks.{freeAfter}
 use Rattle.state.specs.declared.State.{State}
-use Rattle.state.specs.declared.Called.{Called}
 use Rattle.state.specs.Places.{channelCount}
 use Rattle.session_reply.specs.declared.Told.{Told}
 use Rattle.session_reply.specs.declared.Change.{Change}
 use Rattle.session_reply.specs.Replies.{answerOr}
 use Rattle.session_reply.specs.Places.{groupOf, namedFile, fileNumber, placeOf, fileOr, channelOr, channelFor}
-use Rattle.session_reply.specs.Turns.{wholeOf, recordArea, requestArea, recordAt, bindingAt, requestAt, Turned, turnedIs, wholeTurn, turnedOn, areaOn}
+use Rattle.session_reply.specs.Turns.{wholeRefusal, wholeState, recordArea, requestArea, recordAt, bindingAt, requestAt, Turned, turnedIs, wholeTurn, turnedOn, areaOn}
 use Rattle.session_reply.proofs.Stores.{Counts, record-turned, record-moved, binding-turned, request-turned, request-moved}
 use Rattle.session_reply.proofs.Kept.{turned-counts}
 use Rattle.session_reply.proofs.Groups.{as-request, as-whole, as-binding, as-record}
@@ -111,13 +111,21 @@ module _ (unsound : Bool) (bytes : List ℕ) (x : Player) (s : State) (area : Li
         (request-moved unsound s area (take n given) f counts i k d₁ old number place read l d₂ was place₂ read₂ after em ∙ sym (h .1)) end' out' w
 
     module _ (n1 : g ≡ 1 → ⊥) where
-      pub onward-whole : g ≡ 3 → (y : Called) → y ≡ wholeOf unsound s (length area) f → (a : Answer) → a ≡ answerOr (y .refusal) answer.Done
-          → (end' : ℕ) (out' : List ℕ) → Wrote a 0 0 area end' out' → Onward unsound bytes x (then (y .state) area out' end')
-      unfolding wholeTurn
-      onward-whole e y ey a ea end' out' w =
-          let h = as-whole unsound s area f (take n given) g is n1 e in
-          onward-by (turnedIs a 0 0 (y .state))
-          (ap (λ (b : Answer). turnedIs b 0 0 (y .state)) ea ∙ ap (λ (z : Called). turnedIs (answerOr (z .refusal) answer.Done) 0 0 (z .state)) ey ∙ sym (h .0)) area (sym (h .1)) end' out' w
+      module _ (e : g ≡ 3) (r : ℕ) (en : r ≡ wholeRefusal unsound (length area) f) (a : Answer) (ea : a ≡ answerOr r answer.Done)
+          (end' : ℕ) (out' : List ℕ) (w : Wrote a 0 0 area end' out') where
+        whole-by : (t : State) → t ≡ cond (eqb r 0) (wholeState s f) s → Onward unsound bytes x (then t area out' end')
+        unfolding wholeTurn
+        whole-by t et =
+            let h = as-whole unsound s area f (take n given) g is n1 e in
+            onward-by (turnedIs a 0 0 t)
+            (ap (λ (b : Answer). turnedIs b 0 0 t) ea ∙ ap (turnedIs (answerOr r answer.Done) 0 0) et
+            ∙ ap (λ (k : ℕ). turnedIs (answerOr k answer.Done) 0 0 (cond (eqb k 0) (wholeState s f) s)) en ∙ sym (h .0)) area (sym (h .1)) end' out' w
+
+        pub onward-whole : r ≡ 0 → (t : State) → t ≡ wholeState s f → Onward unsound bytes x (then t area out' end')
+        onward-whole z t et = whole-by t (et ∙ sym (cond-true (wholeState s f) s (eq-eqb r 0 z)))
+
+        pub onward-refused : (r ≡ 0 → ⊥) → Onward unsound bytes x (then s area out' end')
+        onward-refused h = whole-by s (sym (cond-false (wholeState s f) s (ne-eqb r 0 h)))
 
       module _ (n3 : g ≡ 3 → ⊥) (i k : ℕ) (d₁ old : File) (number : i ≡ namedFile f) (place : k ≡ placeOf i fileCount) (read : old ≡ getD (s .files) k d₁) where
         abbrev stored : File → ℕ → State

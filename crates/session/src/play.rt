@@ -29,7 +29,8 @@ use session_reply::index_in;
 use session_reply::named_file;
 use session_reply::record_on;
 use session_reply::request_on;
-use session_reply::whole;
+use session_reply::whole_refusal;
+use session_reply::whole_state;
 use state::State;
 use state_sound::is_sound;
 ghost use mathlib.Core.Path.{_≡_};
@@ -186,10 +187,12 @@ pub fn play_part(
             continue;
         }
         if group == WHOLE {
-            let x = whole(unsound, t, area.len(), frame);
-            t = x.state;
-            let a = answer_or(x.refusal, Answer::Done);
+            let no = whole_refusal(unsound, area.len(), frame);
+            let a = answer_or(no, Answer::Done);
             end = answer_at(a, 0, 0, &area[..], out, end);
+            if no == 0 {
+                t = whole_state(t, frame);
+            }
             continue;
         }
         let i = named_file(frame) as usize;

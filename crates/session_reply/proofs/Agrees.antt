@@ -60,7 +60,7 @@ use Rattle.pack_record.specs.Seals.{sealChange, sealBy, sealByArea}
 use Rattle.file_input.specs.Histories.{shown}
 use Rattle.session_reply.specs.Replies.{answerOr, quietly, masksOf, gotAnswer, givenWords, replyTo, answerTo, reportAnswer}
 use Rattle.session_reply.specs.Changes.{openTold, closeTold, askChangeOn, skipTold, reportChangeOn, reportAreaOn, getTold, putTold, putAreaOn, sealTold, sealAreaOn}
-use Rattle.session_reply.specs.Turns.{judged, wholeOf, recordOf, recordArea, bindingOf, requestOf, requestArea, recordTurn, bindingTurn, requestTurn, wholeTurn, turnedOn, requestAreaOn, areaOn, replyOn, answerOn}
+use Rattle.session_reply.specs.Turns.{wholeRefusal, wholeState, recordOf, recordArea, bindingOf, requestOf, requestArea, recordTurn, bindingTurn, requestTurn, wholeTurn, turnedOn, requestAreaOn, areaOn, replyOn, answerOn}
 
 -- ---- what is stored where nothing changed
 
@@ -138,12 +138,6 @@ report-alone wrong f c u outcome w frozen area words h =
     }) (refusedReport (reportRefusal wrong f c u outcome w area words) f c) refl h in
     (ap (λ (x : ReportChange). x .file) e, ap (λ (x : ReportChange). x .channel) e)
 
--- ---- the calls that judge the state alone
-
-judged-quietly : (b : Bool) (s t : State) (area : List ℕ) → quietly (judged b s t .refusal) (judged b s t .state) area ≡ quietly (cond b 1 0) (cond (eqb (cond b 1 0) 0) t s) area
-judged-quietly true s t area = refl
-judged-quietly false s t area = refl
-
 -- ---- every frame
 
 module _ (s : State) (area words : List ℕ) where
@@ -151,15 +145,15 @@ module _ (s : State) (area words : List ℕ) where
   Right frame = replyOn (not (sound s)) s area words frame ≡ replyTo s area words frame
 
   malformed-right : Right Malformed
-  unfolding Right replyOn turnedOn areaOn requestTurn requestAreaOn wholeTurn bindingTurn recordTurn wholeOf recordOf recordArea bindingOf requestOf requestArea replyTo
+  unfolding Right replyOn turnedOn areaOn requestTurn requestAreaOn wholeTurn bindingTurn recordTurn wholeRefusal wholeState recordOf recordArea bindingOf requestOf requestArea replyTo
   malformed-right = ap (λ (u : State). quietly 1 u area) (same-file s fileCount)
 
   fresh-right : (q : FreshFrame) → Right (Fresh q)
-  unfolding Right replyOn turnedOn areaOn requestTurn requestAreaOn wholeTurn bindingTurn recordTurn wholeOf recordOf recordArea bindingOf requestOf requestArea replyTo freshBy
+  unfolding Right replyOn turnedOn areaOn requestTurn requestAreaOn wholeTurn bindingTurn recordTurn wholeRefusal wholeState recordOf recordArea bindingOf requestOf requestArea replyTo freshBy
   fresh-right q = refl
 
   open-right : (q : OpenFrame) → Right (Open q)
-  unfolding Right replyOn turnedOn areaOn requestTurn requestAreaOn wholeTurn bindingTurn recordTurn wholeOf recordOf recordArea bindingOf requestOf requestArea replyTo openBy openTold openOn
+  unfolding Right replyOn turnedOn areaOn requestTurn requestAreaOn wholeTurn bindingTurn recordTurn wholeRefusal wholeState recordOf recordArea bindingOf requestOf requestArea replyTo openBy openTold openOn
   open-right q =
       let x = openChange s (q .file) (q .channel) (q .unit) (q .flags) (q .size) (q .rlen) in
       ap (λ (y : FileChange). record {
@@ -173,20 +167,20 @@ module _ (s : State) (area words : List ℕ) where
       ∙ ap (λ (u : State). quietly (x .refusal) u area) (stored-file s (q .file) (x .refusal) (x .file) (refused-file (x .refusal) (fileAt s (q .file)) _))
 
   close-right : (file : ℕ) → Right (Close file)
-  unfolding Right replyOn turnedOn areaOn requestTurn requestAreaOn wholeTurn bindingTurn recordTurn wholeOf recordOf recordArea bindingOf requestOf requestArea replyTo closeBy closeTold closeOn
+  unfolding Right replyOn turnedOn areaOn requestTurn requestAreaOn wholeTurn bindingTurn recordTurn wholeRefusal wholeState recordOf recordArea bindingOf requestOf requestArea replyTo closeBy closeTold closeOn
   close-right file =
       let x = closeChange s file in
       ap (λ (u : State). quietly (x .refusal) u area) (stored-file s file (x .refusal) (x .file) (refused-file (x .refusal) (fileAt s file) _))
 
   ask-right : (q : AskFrame) → Right (Ask q)
-  unfolding Right replyOn turnedOn areaOn requestTurn requestAreaOn wholeTurn bindingTurn recordTurn wholeOf recordOf recordArea bindingOf requestOf requestArea replyTo askBy askChangeOn
+  unfolding Right replyOn turnedOn areaOn requestTurn requestAreaOn wholeTurn bindingTurn recordTurn wholeRefusal wholeState recordOf recordArea bindingOf requestOf requestArea replyTo askBy askChangeOn
   ask-right q =
       let x = askChange s (q .file) (q .op) (q .priority) in
       ap (λ (u : State). record { state = u; area = area; answer = answerOr (x .refusal) (answer.Asked (x .working)); words = [] })
       (stored-both s (q .file) (fileAt s (q .file) .channel) (x .refusal) (x .file) (x .channel) (ask-alone _ _ _ _ _ _))
 
   report-right : (q : ReportFrame) → Right (Report q)
-  unfolding Right replyOn turnedOn areaOn requestTurn requestAreaOn wholeTurn bindingTurn recordTurn wholeOf recordOf recordArea bindingOf requestOf requestArea replyTo reportBy reportByArea reportChangeOn reportAreaOn
+  unfolding Right replyOn turnedOn areaOn requestTurn requestAreaOn wholeTurn bindingTurn recordTurn wholeRefusal wholeState recordOf recordArea bindingOf requestOf requestArea replyTo reportBy reportByArea reportChangeOn reportAreaOn
   report-right q =
       let x = reportChange s area (q .channel) (q .unit) (q .outcome) words in
       ap (λ (u : State). record {
@@ -197,40 +191,40 @@ module _ (s : State) (area words : List ℕ) where
       }) (stored-both s (fileOf s (q .channel) (q .unit)) (q .channel) (x .refusal) (x .file) (x .channel) (report-alone _ _ _ _ _ _ _ _ _))
 
   get-right : (file : ℕ) → Right (Get file)
-  unfolding Right replyOn turnedOn areaOn requestTurn requestAreaOn wholeTurn bindingTurn recordTurn wholeOf recordOf recordArea bindingOf requestOf requestArea replyTo getBy getWords getTold getOn
+  unfolding Right replyOn turnedOn areaOn requestTurn requestAreaOn wholeTurn bindingTurn recordTurn wholeRefusal wholeState recordOf recordArea bindingOf requestOf requestArea replyTo getBy getWords getTold getOn
   get-right file =
       let x = getChange s area file in
       ap (λ (u : State). record { state = u; area = area; answer = answerOr (x .refusal) (gotAnswer (x .got)); words = shown area (x .got) })
       (stored-file s file (x .refusal) (x .file) (refused-file (x .refusal) (fileAt s file) _))
 
   put-right : (q : PutFrame) → Right (Put q)
-  unfolding Right replyOn turnedOn areaOn requestTurn requestAreaOn wholeTurn bindingTurn recordTurn wholeOf recordOf recordArea bindingOf requestOf requestArea replyTo putBy putByArea putTold putAreaOn putOn
+  unfolding Right replyOn turnedOn areaOn requestTurn requestAreaOn wholeTurn bindingTurn recordTurn wholeRefusal wholeState recordOf recordArea bindingOf requestOf requestArea replyTo putBy putByArea putTold putAreaOn putOn
   put-right q =
       let x = putChange s area (q .file) words in
       ap (λ (u : State). quietly (x .refusal) u (putByArea s area (q .file) words))
       (stored-file s (q .file) (x .refusal) (x .file) (refused-file (x .refusal) (fileAt s (q .file)) _))
 
   seal-right : (file : ℕ) → Right (Seal file)
-  unfolding Right replyOn turnedOn areaOn requestTurn requestAreaOn wholeTurn bindingTurn recordTurn wholeOf recordOf recordArea bindingOf requestOf requestArea replyTo sealBy sealByArea sealTold sealAreaOn sealOn
+  unfolding Right replyOn turnedOn areaOn requestTurn requestAreaOn wholeTurn bindingTurn recordTurn wholeRefusal wholeState recordOf recordArea bindingOf requestOf requestArea replyTo sealBy sealByArea sealTold sealAreaOn sealOn
   seal-right file =
       let x = sealChange s area file in
       ap (λ (u : State). quietly (x .refusal) u (sealByArea s area file))
       (stored-file s file (x .refusal) (x .file) (refused-file (x .refusal) (fileAt s file) _))
 
   skip-right : (file : ℕ) → Right (Skip file)
-  unfolding Right replyOn turnedOn areaOn requestTurn requestAreaOn wholeTurn bindingTurn recordTurn wholeOf recordOf recordArea bindingOf requestOf requestArea replyTo skipBy skipTold skipOn
+  unfolding Right replyOn turnedOn areaOn requestTurn requestAreaOn wholeTurn bindingTurn recordTurn wholeRefusal wholeState recordOf recordArea bindingOf requestOf requestArea replyTo skipBy skipTold skipOn
   skip-right file =
       let x = skipChange s file in
       ap (λ (u : State). quietly (x .refusal) u area)
       (stored-file s file (x .refusal) (x .file) (refused-file (x .refusal) (fileAt s file) _))
 
   freeze-right : Right Freeze
-  unfolding Right replyOn turnedOn areaOn wholeTurn wholeOf replyTo freezeBy lowest stateRows
-  freeze-right = judged-quietly (not (sound s)) s (frozenState s) area
+  unfolding Right replyOn turnedOn areaOn wholeTurn wholeRefusal wholeState replyTo freezeBy lowest stateRows
+  freeze-right = refl
 
   thaw-right : Right Thaw
-  unfolding Right replyOn turnedOn areaOn wholeTurn wholeOf replyTo thawBy lowest stateRows
-  thaw-right = judged-quietly (not (sound s)) s (thawedState s) area
+  unfolding Right replyOn turnedOn areaOn wholeTurn wholeRefusal wholeState replyTo thawBy lowest stateRows
+  thaw-right = refl
 
   pub turned-right : (frame : Frame) → replyOn (not (sound s)) s area words frame ≡ replyTo s area words frame
   unfolding Right

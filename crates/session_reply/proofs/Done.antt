@@ -44,7 +44,7 @@ use Rattle.session_reply.specs.declared.Change.{Change}
 use Rattle.session_reply.specs.Replies.{answerOr, gotAnswer, masksOf, reportAnswer}
 use Rattle.session_reply.specs.Changes.{quietTold, openWrong, openTold, askChangeOn, reportChangeOn, reportAreaOn, getTold, putTold, putAreaOn, sealTold, sealAreaOn}
 use Rattle.session_reply.specs.Places.{channelNumber, fileOr, fileKept, channelOr, channelKept, channelFor}
-use Rattle.session_reply.specs.Turns.{wholeOf, recordOf, recordArea, bindingOf, requestOf, requestArea, toldAt, recordAt, bindingAt, changeAt, requestAt}
+use Rattle.session_reply.specs.Turns.{recordOf, recordArea, bindingOf, requestOf, requestArea, toldAt, recordAt, bindingAt, changeAt, requestAt}
 
 pub opened-as : (unsound : Bool) (w mask : ℕ) (files : List File) (f : File) (c : Channel) (q : OpenFrame)
     (bound : Bool) (free : FreeBuffers) (wish : Wish) (x : FileChange) (r : Told)
@@ -132,24 +132,6 @@ pub sealed-area : (unsound : Bool) (m w : ℕ) (f : File) (file : ℕ) (area : L
 unfolding sealAreaOn
 sealed-area unsound m w f file area short after es e =
     e ∙ ap (λ (t : Bool). sealOnArea (leb fileCount file || (t || unsound)) f w area) es
-
--- ---- a fresh start
-
-module _ (unsound : Bool) (s : State) (n : ℕ) (q : FreshFrame) (k : Masks) (no : ℕ) (ek : k ≡ masksOf (q .masks)) (en : no ≡ freshRefusal unsound (q .m) (q .w) k n) where
-  number-is : no ≡ freshRefusal unsound (q .m) (q .w) (masksOf (q .masks)) n
-  number-is = en ∙ ap (λ (x : Masks). freshRefusal unsound (q .m) (q .w) x n) ek
-
-  pub fresh-refused : (no ≡ 0 → ⊥) → _≡_ {A = Called} (record { refusal = no; state = s }) (wholeOf unsound s n (Fresh q))
-  unfolding wholeOf
-  fresh-refused h =
-      ap (λ (t : State). record { refusal = no; state = t }) (sym (cond-false _ _ (ne-eqb no 0 h)))
-      ∙ ap (λ (k : ℕ). record { refusal = k; state = cond (eqb k 0) (freshState (q .m) (q .w) (masksOf (q .masks))) s }) number-is
-
-  pub fresh-taken : no ≡ 0 → (t : State) → t ≡ freshState (q .m) (q .w) k → _≡_ {A = Called} (record { refusal = 0; state = t }) (wholeOf unsound s n (Fresh q))
-  unfolding wholeOf
-  fresh-taken z t e =
-      ap (λ (u : State). record { refusal = 0; state = u }) (e ∙ ap (λ (x : Masks). freshState (q .m) (q .w) x) ek)
-      ∙ ap (λ (k : ℕ). record { refusal = k; state = cond (eqb k 0) (freshState (q .m) (q .w) (masksOf (q .masks))) s }) (sym z ∙ number-is)
 
 -- ---- a call where its file and its channel stand
 

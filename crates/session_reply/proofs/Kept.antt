@@ -29,7 +29,7 @@ use Rattle.pack_record.proofs.PutTheorems.{put-kept, put-area-frame}
 use Rattle.pack_record.proofs.SealTheorems.{seal-kept, seal-area-frame}
 use Rattle.session_reply.specs.Replies.{Reply, masksOf, givenWords, replyTo, answerTo}
 use Rattle.session_reply.specs.Places.{groupOf}
-use Rattle.session_reply.specs.Turns.{recordTurn, bindingTurn, requestTurn, wholeTurn, Turned, turnedOn, replyOn}
+use Rattle.session_reply.specs.Turns.{wholeRefusal, recordTurn, bindingTurn, requestTurn, wholeTurn, Turned, turnedOn, replyOn}
 use Rattle.session_reply.proofs.Stores.{Counts, whole-counts}
 use Rattle.session_reply.proofs.Agrees.{turned-right}
 
@@ -80,7 +80,7 @@ pub turned-counts : (unsound : Bool) (s : State) (area words : List ℕ) (frame 
 unfolding turnedOn requestTurn wholeTurn bindingTurn recordTurn
 turned-counts unsound s area words frame k =
     counts-turned (eqb (groupOf frame) 1) _ _ (file-counts _ _ _ (channel-counts s _ _ k))
-    (counts-turned (eqb (groupOf frame) 3) _ _ (whole-counts unsound s (length area) frame k)
+    (counts-turned (eqb (groupOf frame) 3) _ _ (whole-counts (wholeRefusal unsound (length area) frame) s frame k)
     (counts-turned (eqb (groupOf frame) 2) _ _ (file-counts s _ _ k) (file-counts s _ _ k)))
 
 on-counts : (unsound : Bool) (s : State) (area words : List ℕ) (frame : Frame) → Counts s → Counts (replyOn unsound s area words frame .state)

@@ -29,7 +29,7 @@ use Rattle.session_reply.specs.declared.Told.{Told}
 use Rattle.session_reply.specs.declared.Change.{Change}
 use Rattle.session_reply.specs.Replies.{masksOf}
 use Rattle.session_reply.specs.Places.{groupOf, namedFile, fileNumber, channelNumber, placeOf, fileOr, fileKept, channelOr, channelKept, channelFor}
-use Rattle.session_reply.specs.Turns.{judged, wholeOf, recordOf, recordArea, bindingOf, requestOf, requestArea, toldAt, recordAt, bindingAt, changeAt, requestAt, Turned, turnedIs, recordTurn, bindingTurn, requestTurn, requestAreaOn}
+use Rattle.session_reply.specs.Turns.{wholeState, recordOf, recordArea, bindingOf, requestOf, requestArea, toldAt, recordAt, bindingAt, changeAt, requestAt, Turned, turnedIs, recordTurn, bindingTurn, requestTurn, requestAreaOn}
 
 -- ---- a place of a list, whatever its number
 
@@ -66,24 +66,23 @@ counts-if : (t : Bool) (s u : State) → Counts s → Counts u → Counts (cond 
 counts-if true s u p q = p
 counts-if false s u p q = q
 
-counts-judged : (t : Bool) (s u : State) → Counts s → Counts u → Counts (judged t s u .state)
-counts-judged true s u p q = p
-counts-judged false s u p q = q
+state-counts : (s : State) (frame : Frame) → Counts s → Counts (wholeState s frame)
+unfolding wholeState freshState frozenState thawedState
+state-counts s (Fresh q) k = record { files = refl; channels = refl }
+state-counts s Freeze k = record { files = k .files; channels = k .channels }
+state-counts s Thaw k = record { files = k .files; channels = length-map (s .channels) thawOf ∙ k .channels }
+state-counts s Malformed k = k
+state-counts s (Open q) k = k
+state-counts s (Close file) k = k
+state-counts s (Ask q) k = k
+state-counts s (Report q) k = k
+state-counts s (Get file) k = k
+state-counts s (Put q) k = k
+state-counts s (Seal file) k = k
+state-counts s (Skip file) k = k
 
-pub whole-counts : (unsound : Bool) (s : State) (n : ℕ) (frame : Frame) → Counts s → Counts (wholeOf unsound s n frame .state)
-unfolding wholeOf freshState frozenState thawedState
-whole-counts unsound s n (Fresh q) k = counts-if (eqb (freshRefusal unsound (q .m) (q .w) (masksOf (q .masks)) n) 0) _ s (record { files = refl; channels = refl }) k
-whole-counts unsound s n Freeze k = counts-judged unsound s _ k (record { files = k .files; channels = k .channels })
-whole-counts unsound s n Thaw k = counts-judged unsound s _ k (record { files = k .files; channels = length-map (s .channels) thawOf ∙ k .channels })
-whole-counts unsound s n Malformed k = k
-whole-counts unsound s n (Open q) k = k
-whole-counts unsound s n (Close file) k = k
-whole-counts unsound s n (Ask q) k = k
-whole-counts unsound s n (Report q) k = k
-whole-counts unsound s n (Get file) k = k
-whole-counts unsound s n (Put q) k = k
-whole-counts unsound s n (Seal file) k = k
-whole-counts unsound s n (Skip file) k = k
+pub whole-counts : (r : ℕ) (s : State) (frame : Frame) → Counts s → Counts (cond (eqb r 0) (wholeState s frame) s)
+whole-counts r s frame k = counts-if (eqb r 0) (wholeState s frame) s (state-counts s frame k) k
 
 -- ---- the file i of a state t, read at its place k
 

@@ -14,7 +14,6 @@ use Rattle.session_frame.specs.Frames.{frameOf}
 use Rattle.channel.specs.declared.Channel.{Channel}
 use Rattle.file.specs.declared.File.{File}
 use Rattle.state.specs.declared.State.{State}
-use Rattle.state.specs.declared.Called.{Called}
 use Rattle.state.specs.Places.{fileAt, channelAt}
 use Rattle.state.specs.Stores.{withFile, withChannel}
 use Rattle.pack_start.specs.Fresh.{freshRefusal, freshState}
@@ -27,27 +26,35 @@ use Rattle.session_reply.specs.Places.{groupOf, namedFile, fileNumber, c
 
 -- ---- the whole state: fresh start, freeze, thaw
 
-abbrev pub wrongly : State → Called
-wrongly s = record { refusal = 1; state = s }
+-- the refusal, with an area of n words; a frame that is no such call is refused
+unfoldable pub wholeRefusal : Bool → ℕ → Frame → ℕ
+wholeRefusal unsound n (Fresh q) = freshRefusal unsound (q .m) (q .w) (masksOf (q .masks)) n
+wholeRefusal unsound n Freeze = cond unsound 1 0
+wholeRefusal unsound n Thaw = cond unsound 1 0
+wholeRefusal unsound n Malformed = 1
+wholeRefusal unsound n (Open q) = 1
+wholeRefusal unsound n (Close file) = 1
+wholeRefusal unsound n (Ask q) = 1
+wholeRefusal unsound n (Report q) = 1
+wholeRefusal unsound n (Get file) = 1
+wholeRefusal unsound n (Put q) = 1
+wholeRefusal unsound n (Seal file) = 1
+wholeRefusal unsound n (Skip file) = 1
 
-abbrev pub judged : Bool → State → State → Called
-judged unsound s t = cond unsound (wrongly s) (record { refusal = 0; state = t })
-
-unfoldable pub wholeOf : Bool → State → ℕ → Frame → Called
-wholeOf unsound s n (Fresh q) =
-    let no = freshRefusal unsound (q .m) (q .w) (masksOf (q .masks)) n in
-    record { refusal = no; state = cond (eqb no 0) (freshState (q .m) (q .w) (masksOf (q .masks))) s }
-wholeOf unsound s n Freeze = judged unsound s (frozenState s)
-wholeOf unsound s n Thaw = judged unsound s (thawedState s)
-wholeOf unsound s n Malformed = wrongly s
-wholeOf unsound s n (Open q) = wrongly s
-wholeOf unsound s n (Close file) = wrongly s
-wholeOf unsound s n (Ask q) = wrongly s
-wholeOf unsound s n (Report q) = wrongly s
-wholeOf unsound s n (Get file) = wrongly s
-wholeOf unsound s n (Put q) = wrongly s
-wholeOf unsound s n (Seal file) = wrongly s
-wholeOf unsound s n (Skip file) = wrongly s
+-- the state after an accepted one
+unfoldable pub wholeState : State → Frame → State
+wholeState s (Fresh q) = freshState (q .m) (q .w) (masksOf (q .masks))
+wholeState s Freeze = frozenState s
+wholeState s Thaw = thawedState s
+wholeState s Malformed = s
+wholeState s (Open q) = s
+wholeState s (Close file) = s
+wholeState s (Ask q) = s
+wholeState s (Report q) = s
+wholeState s (Get file) = s
+wholeState s (Put q) = s
+wholeState s (Seal file) = s
+wholeState s (Skip file) = s
 
 -- ---- one file: get, put, seal, skip; "1 | .. or a frame is malformed"
 
@@ -182,7 +189,8 @@ requestTurn unsound s area frame words =
     turnedIs (x .answer) (x .start) (x .count) (withFile (withChannel s j (x .channel)) i (x .file))
 
 unfoldable pub wholeTurn : Bool → State → ℕ → Frame → Turned
-wholeTurn unsound s n frame = let x = wholeOf unsound s n frame in turnedIs (answerOr (x .refusal) answer.Done) 0 0 (x .state)
+wholeTurn unsound s n frame =
+    let no = wholeRefusal unsound n frame in turnedIs (answerOr no answer.Done) 0 0 (cond (eqb no 0) (wholeState s frame) s)
 
 unfoldable pub turnedOn : Bool → State → List ℕ → Frame → List ℕ → Turned
 turnedOn unsound s area frame words =

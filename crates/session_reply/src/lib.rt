@@ -16,7 +16,8 @@ pub use turns::index_in;
 pub use turns::named_file;
 pub use turns::record_on;
 pub use turns::request_on;
-pub use turns::whole;
+pub use turns::whole_refusal;
+pub use turns::whole_state;
 
 // The groups of frames: ask and report concern a file and a channel, open and close a file and what a channel says of its unit, fresh start, freeze
 // and thaw the whole state; all others concern one file or none.

@@ -13,6 +13,7 @@ use crate::changes::quiet;
 use crate::changes::reported;
 use crate::changes::sealed;
 use crate::changes::skipped;
+use area::row;
 use channel::Channel;
 use file::File;
 use file::closed_file;
@@ -27,14 +28,13 @@ use session_frame::Answer;
 use session_frame::Frame;
 use session_frame::FreshFrame;
 use state::CHANNELS;
-use state::Called;
 use state::State;
 ghost use mathlib.Core.Path.{_≡_};
 ghost use Prim.Native.Nat.{_<_};
 ghost use Rattle.state.specs.Places.{channelCount};
 ghost use Rattle.session_reply.specs.Places.{placeOf, fileOr, fileKept, channelOr, channelKept, groupOf, namedFile, fileNumber, channelNumber, channelFor};
-ghost use Rattle.session_reply.specs.Turns.{judged, wrongly, wholeOf, recordOf, recordArea, bindingOf, unaskedChange, requestOf, requestArea, recordAt, bindingAt, requestAt};
-ghost use Rattle.pack_start.specs.Freeze.{frozenState, thawedState};
+ghost use Rattle.session_reply.specs.Turns.{wholeRefusal, wholeState, recordOf, recordArea, bindingOf, unaskedChange, requestOf, requestArea, recordAt, bindingAt, requestAt};
+ghost use Rattle.pack_start.specs.Fresh.{freshRefusal, freshState};
 ghost use Rattle.session_reply.specs.Replies.{masksOf};
 
 // The number past the last file, as a frame would have it.
@@ -184,81 +184,61 @@ fn masks_of(masks: session_frame::Masks) -> Masks
     }
 }
 
-// A fresh start with an area of n words.
-fn fresh(unsound: bool, s: State, n: usize, q: FreshFrame) -> Called
-    ensures { λ r. ⌜ r ≡ wholeOf unsound s n (Frame.Fresh q) ⌝ }
+// The refusal of a fresh start with an area of n words.
+fn start_refusal(unsound: bool, n: usize, q: FreshFrame) -> u8
+    ensures { λ r. ⌜ r ≡ freshRefusal unsound (q .m) (q .w) (masksOf (q .masks)) n ⌝ }
 {
     let masks = q.masks;
     let units = masks_of(masks);
-    let no = fresh_refusal(unsound, q.m, q.w, units, n);
-    if no != 0 {
-        return Called {
-            refusal: no,
-            state: s,
-        };
-    }
-    let t = fresh_state(q.m, q.w, units);
-    Called {
-        refusal: 0,
-        state: t,
-    }
+    fresh_refusal(unsound, q.m, q.w, units, n)
 }
 
-// A call that is refused because of what was passed.
-fn wrong(s: State) -> Called
-    ensures { λ r. ⌜ r ≡ wrongly s ⌝ }
+// The state after a fresh start.
+fn started(q: FreshFrame) -> State
+    ensures { λ r. ⌜ r ≡ freshState (q .m) (q .w) (masksOf (q .masks)) ⌝ }
 {
-    Called {
-        refusal: 1,
-        state: s,
-    }
+    let masks = q.masks;
+    let units = masks_of(masks);
+    fresh_state(q.m, q.w, units)
 }
 
-// A freeze, unless the state is unsound.
-fn frozen(unsound: bool, s: State) -> Called
-    ensures { λ r. ⌜ r ≡ judged unsound s (frozenState s) ⌝ }
-{
-    if unsound {
-        return wrong(s);
-    }
-    let t = frozen_state(s);
-    Called {
-        refusal: 0,
-        state: t,
-    }
-}
-
-// A thaw, unless the state is unsound.
-fn thawed(unsound: bool, s: State) -> Called
-    ensures { λ r. ⌜ r ≡ judged unsound s (thawedState s) ⌝ }
-{
-    if unsound {
-        return wrong(s);
-    }
-    let t = thawed_state(s);
-    Called {
-        refusal: 0,
-        state: t,
-    }
-}
-
-// A frame that concerns the whole state, with an area of n words.
-pub fn whole(unsound: bool, s: State, n: usize, f: Frame) -> Called
-    ensures { λ r. ⌜ r ≡ wholeOf unsound s n f ⌝ }
+// The refusal of a frame that concerns the whole state, with an area of n words; 0 for none. It needs no state but the judgement of it.
+pub fn whole_refusal(unsound: bool, n: usize, f: Frame) -> u8
+    ensures { λ r. ⌜ r ≡ wholeRefusal unsound n f ⌝ }
 {
     match f {
-        Frame::Malformed => wrong(s),
-        Frame::Fresh(q) => fresh(unsound, s, n, q),
-        Frame::Open(_) => wrong(s),
-        Frame::Close(_) => wrong(s),
-        Frame::Ask(_) => wrong(s),
-        Frame::Report(_) => wrong(s),
-        Frame::Get(_) => wrong(s),
-        Frame::Put(_) => wrong(s),
-        Frame::Seal(_) => wrong(s),
-        Frame::Skip(_) => wrong(s),
-        Frame::Freeze => frozen(unsound, s),
-        Frame::Thaw => thawed(unsound, s),
+        Frame::Malformed => 1,
+        Frame::Fresh(q) => start_refusal(unsound, n, q),
+        Frame::Open(_) => 1,
+        Frame::Close(_) => 1,
+        Frame::Ask(_) => 1,
+        Frame::Report(_) => 1,
+        Frame::Get(_) => 1,
+        Frame::Put(_) => 1,
+        Frame::Seal(_) => 1,
+        Frame::Skip(_) => 1,
+        Frame::Freeze => row(1, unsound, 0),
+        Frame::Thaw => row(1, unsound, 0),
+    }
+}
+
+// The state after such a frame, if it is accepted.
+pub fn whole_state(s: State, f: Frame) -> State
+    ensures { λ r. ⌜ r ≡ wholeState s f ⌝ }
+{
+    match f {
+        Frame::Malformed => s,
+        Frame::Fresh(q) => started(q),
+        Frame::Open(_) => s,
+        Frame::Close(_) => s,
+        Frame::Ask(_) => s,
+        Frame::Report(_) => s,
+        Frame::Get(_) => s,
+        Frame::Put(_) => s,
+        Frame::Seal(_) => s,
+        Frame::Skip(_) => s,
+        Frame::Freeze => frozen_state(s),
+        Frame::Thaw => thawed_state(s),
     }
 }
 
