@@ -3,6 +3,16 @@
 
 /// "Units 0 to 9 on each".
 pub const UNITS: usize = 10;
+/// "each held at 32,767" (document 02, M-106).
+pub const LAST_COUNT: u64 = 32_767;
+/// "At most 100 are passed in one operation".
+pub const MOST_NOISE: u64 = 100;
+/// "A length under three is a noise record".
+pub const NOISE_BELOW: u64 = 3;
+/// "when read attempt 12, 22 and so on to 92 is due".
+pub const CLEANER_PASSES: [u64; 9] = [12, 22, 32, 42, 52, 62, 72, 82, 92];
+/// "three records or more stand since the mark".
+pub const RECORDS_TO_BACKSPACE: u64 = 3;
 
 /// What a request asks of its unit.
 #[derive(Clone, Copy, Debug, PartialEq, Eq)]
@@ -23,7 +33,7 @@ pub enum Outcome {
 }
 
 /// "results are 00 repeated, 01 good, 02 good in opposite mode, 03 mark, 04 end of medium,
-/// 05 permanent redundancy, 06 permanent incomplete word".
+/// 05 permanent redundancy, 06 permanent incomplete word"; M-106: "07 in place of 00: backspace three".
 #[derive(Clone, Copy, Debug, PartialEq, Eq)]
 pub enum Booked {
     Repeated,
@@ -33,6 +43,7 @@ pub enum Booked {
     EndOfMedium,
     PermanentRedundancy,
     PermanentIncompleteWord,
+    BackspaceThree,
 }
 
 /// Where an unanswered request stands in the order of turns.
@@ -55,6 +66,17 @@ pub struct Request {
     /// The number of the attempt that is at work or due.
     pub attempt: u64,
     pub incomplete_words: u64,
+    /// The noise records that it has passed over.
+    pub noise: u64,
+}
+
+/// Where the reel of a unit stands (M-106): "file marks passed, and records since the last mark", and whether
+/// a noise record was met there since the fresh start.
+#[derive(Clone, Copy, Debug, Default, PartialEq, Eq)]
+pub struct Position {
+    pub marks: u64,
+    pub records: u64,
+    pub noise_met: bool,
 }
 
 /// A channel: "A unit holds one unanswered request at most; requests are not stacked."
@@ -62,6 +84,7 @@ pub struct Request {
 pub struct Channel {
     pub declared: [bool; UNITS],
     pub requests: [Option<Request>; UNITS],
+    pub positions: [Position; UNITS],
     /// The unit at which the next scan for ordinary requests begins.
     pub scan_begin: usize,
     /// The same for priority requests, which are "scanned as ordinary ones are, with a mark of their own
@@ -131,21 +154,40 @@ impl Booked {
 impl Request {
     /// Each request counts from attempt 1 with no incomplete words.
     pub fn new(operation: Operation, priority: bool) -> Request {
-        Request { operation, priority, turn: Turn::Waiting, attempt: 1, incomplete_words: 0 }
+        Request { operation, priority, turn: Turn::Waiting, attempt: 1, incomplete_words: 0, noise: 0 }
     }
 
-    /// What a report of an allowed outcome means for this request as it stands.
-    pub fn result_of(&self, outcome: Outcome) -> Booked {
+    /// What a report of an allowed outcome, with a length or without, means for this request as it stands.
+    pub fn result_of(&self, outcome: Outcome, length: Option<u64>, position: Position) -> Booked {
         match outcome {
+            _ if self.passes_noise(outcome, length) => Booked::Repeated,
             Outcome::Good if self.in_opposite_mode() => Booked::GoodInOppositeMode,
             Outcome::Good => Booked::Good,
             Outcome::FileMark => Booked::Mark,
             Outcome::EndOfMedium => Booked::EndOfMedium,
             Outcome::Redundancy if self.redundancy_is_permanent() => Booked::PermanentRedundancy,
             Outcome::IncompleteWord if self.incomplete_word_is_permanent() => Booked::PermanentIncompleteWord,
+            Outcome::Redundancy | Outcome::IncompleteWord if self.backspaces(position) => {
+                Booked::BackspaceThree
+            }
             // "Other failures repeat the operation."
             Outcome::Redundancy | Outcome::IncompleteWord => Booked::Repeated,
         }
+    }
+
+    /// "A length under three is a noise record, passed over with no attempt used; without a length there is
+    /// none. At most 100 are passed in one operation, the next is an ordinary redundancy".
+    pub fn passes_noise(&self, outcome: Outcome, length: Option<u64>) -> bool {
+        let noise_record = length.is_some_and(|length| length < NOISE_BELOW);
+        let failed_read = self.operation == Operation::Read && outcome == Outcome::Redundancy;
+        failed_read && noise_record && self.noise < MOST_NOISE
+    }
+
+    /// "when read attempt 12, 22 and so on to 92 is due, three records or more stand since the mark and no
+    /// noise record was met on that unit since the fresh start": after a failure that uses an attempt.
+    fn backspaces(&self, position: Position) -> bool {
+        let due = self.operation == Operation::Read && CLEANER_PASSES.contains(&(self.attempt + 1));
+        due && position.records >= RECORDS_TO_BACKSPACE && !position.noise_met
     }
 
     /// "Read attempt 4 is in the opposite mode; if it is good the answer says so."
@@ -166,10 +208,39 @@ impl Request {
     }
 }
 
+impl Position {
+    /// "Good reads, marks read, and writes and marks ended 01 or 04 move it." Nothing else does.
+    fn moved(self, operation: Operation, result: Booked) -> Position {
+        match (operation, result) {
+            (Operation::Read, Booked::Good | Booked::GoodInOppositeMode)
+            | (Operation::Write, Booked::Good | Booked::EndOfMedium) => {
+                Position { records: one_more(self.records), ..self }
+            }
+            (Operation::Read, Booked::Mark) | (Operation::Mark, Booked::Good | Booked::EndOfMedium) => {
+                Position { marks: one_more(self.marks), records: 0, ..self }
+            }
+            _ => self,
+        }
+    }
+}
+
+/// "each held at 32,767".
+fn one_more(count: u64) -> u64 {
+    (count + 1).min(LAST_COUNT)
+}
+
 impl Channel {
-    /// A channel as a fresh start leaves it: it "drops all requests, thaws and resets the scans".
+    /// A channel as a fresh start leaves it: it "drops all requests, thaws and resets the scans", and every
+    /// unit's position is zero.
     pub fn fresh(declared: [bool; UNITS]) -> Channel {
-        Channel { declared, requests: Default::default(), scan_begin: 0, priority_begin: 0, frozen: false }
+        Channel {
+            declared,
+            requests: Default::default(),
+            positions: Default::default(),
+            scan_begin: 0,
+            priority_begin: 0,
+            frozen: false,
+        }
     }
 
     /// The unanswered request of a unit; `unit` may be any number.
@@ -196,12 +267,22 @@ impl Channel {
     /// Books a report: "Each activity ends with one report of channel, unit and outcome."
     /// 11: "the channel is not working for that unit"; 12: "outcome not allowed for the operation".
     pub fn report(&mut self, unit: u64, outcome: u64) -> Result<Booked, u64> {
+        self.report_length(unit, outcome, None)
+    }
+
+    /// The same of a report that may carry a length (M-106), which is judged elsewhere.
+    pub fn report_length(&mut self, unit: u64, outcome: u64, length: Option<u64>) -> Result<Booked, u64> {
         let request = self.working_request(unit).ok_or(11_u64)?;
         let outcome =
             Outcome::of(outcome).filter(|&outcome| request.operation.allows(outcome)).ok_or(12_u64)?;
-        let booked = request.result_of(outcome);
+        let (operation, noise) = (request.operation, request.passes_noise(outcome, length));
         let unit = unit as usize;
-        if booked == Booked::Repeated {
+        let booked = request.result_of(outcome, length, self.positions[unit]);
+        self.positions[unit] = self.positions[unit].moved(operation, booked);
+        if noise {
+            self.pass_noise(unit);
+            self.start(Some(unit));
+        } else if matches!(booked, Booked::Repeated | Booked::BackspaceThree) {
             self.repeat(unit, outcome);
             self.start(Some(unit));
         } else {
@@ -235,6 +316,15 @@ impl Channel {
         if let Some(request) = &mut self.requests[unit] {
             request.attempt += 1;
             request.incomplete_words += u64::from(outcome == Outcome::IncompleteWord);
+            request.turn = Turn::Displaced;
+        }
+    }
+
+    /// A noise record is passed over: the request is incomplete, at the same attempt.
+    fn pass_noise(&mut self, unit: usize) {
+        self.positions[unit].noise_met = true;
+        if let Some(request) = &mut self.requests[unit] {
+            request.noise += 1;
             request.turn = Turn::Displaced;
         }
     }
@@ -685,6 +775,178 @@ mod tests {
         channel.thaw();
         channel.report(3, REDUNDANCY).expect("booked");
         assert_eq!(channel.working_unit(), Some(3));
+    }
+
+    /// A channel at work on a read of unit 0 after `failures` redundancies without lengths. The unit stands at
+    /// so many records since the mark.
+    fn failing_at(records: u64, noise_met: bool, failures: u64) -> Channel {
+        let mut channel = fresh();
+        channel.positions[0] = Position { marks: 1, records, noise_met };
+        channel.ask(0, Read, false);
+        for failure in 1..=failures {
+            let expected = if !noise_met && records >= 3 && failure % 10 == 1 && failure > 10 && failure < 100
+            {
+                Booked::BackspaceThree
+            } else {
+                Booked::Repeated
+            };
+            assert_eq!(channel.report(0, REDUNDANCY), Ok(expected), "{failure}");
+        }
+        channel
+    }
+
+    /// Reading I1: the 11th, 21st, .. 91st failure gives 07 and no other one does, a redundancy or an incomplete
+    /// word; and only with three records or more and no noise met (I3, I7).
+    #[test]
+    fn i1_backspace_three_at_nine_attempts() {
+        for (records, noise_met) in [(3, false), (2, false), (3, true), (32_767, false), (0, false)] {
+            let mut channel = failing_at(records, noise_met, 100);
+            assert_eq!(channel.report(0, REDUNDANCY), Ok(Booked::PermanentRedundancy));
+            assert_eq!(channel.positions[0], Position { marks: 1, records, noise_met });
+        }
+        for (failures, result) in
+            [(9, Booked::Repeated), (10, Booked::BackspaceThree), (11, Booked::Repeated)]
+        {
+            assert_eq!(failing_at(3, false, failures).report(0, INCOMPLETE), Ok(result));
+        }
+        // A length of three words or more is no noise.
+        for length in [3, 1_024, 65_535] {
+            let mut channel = failing_at(3, false, 10);
+            assert_eq!(channel.report_length(0, REDUNDANCY, Some(length)), Ok(Booked::BackspaceThree));
+            assert_eq!((counts(&channel, 0), channel.positions[0].noise_met), ((12, 0), false));
+        }
+    }
+
+    /// Writes and marks have attempts 12 and 22 too, and never give 07.
+    #[test]
+    fn i1_writes_and_marks_never_backspace() {
+        for operation in [Write, Mark] {
+            let mut channel = fresh();
+            channel.positions[4].records = 9;
+            channel.ask(4, operation, false);
+            for _ in 0..26 {
+                assert_eq!(channel.report(4, REDUNDANCY), Ok(Booked::Repeated));
+            }
+        }
+    }
+
+    /// Reading I2: 07 also if the operation is then displaced, or stopped by a freeze.
+    #[test]
+    fn i2_backspace_three_of_one_that_does_not_go_on() {
+        let mut channel = failing_at(3, false, 10);
+        channel.ask(5, Mark, true);
+        assert_eq!(channel.report(0, REDUNDANCY), Ok(Booked::BackspaceThree));
+        assert_eq!((channel.working_unit(), counts(&channel, 0)), (Some(5), (12, 0)));
+        let mut channel = failing_at(3, false, 10);
+        channel.freeze();
+        assert_eq!(channel.report(0, REDUNDANCY), Ok(Booked::BackspaceThree));
+        assert_eq!((channel.working_unit(), turn(&channel, 0)), (None, Turn::Displaced));
+    }
+
+    /// Reading I5: what moves the position, and how far.
+    #[test]
+    fn i5_what_moves_the_position() {
+        let held = Position { marks: 32_767, records: 32_767, noise_met: true };
+        for (operation, outcome, from_zero, from_held) in [
+            (Read, GOOD, (0, 1), (32_767, 32_767)),
+            (Read, FILE_MARK, (1, 0), (32_767, 0)),
+            (Write, GOOD, (0, 1), (32_767, 32_767)),
+            (Write, END_OF_MEDIUM, (0, 1), (32_767, 32_767)),
+            (Write, INCOMPLETE, (0, 0), (32_767, 32_767)),
+            (Mark, GOOD, (1, 0), (32_767, 0)),
+            (Mark, END_OF_MEDIUM, (1, 0), (32_767, 0)),
+            (Read, REDUNDANCY, (0, 0), (32_767, 32_767)),
+            (Read, INCOMPLETE, (0, 0), (32_767, 32_767)),
+        ] {
+            for (before, expected) in [(Position::default(), from_zero), (held, from_held)] {
+                let mut channel = fresh();
+                channel.positions[7] = before;
+                channel.ask(7, operation, true);
+                channel.report(7, outcome).expect("booked");
+                let after = channel.positions[7];
+                assert_eq!((after.marks, after.records), expected, "{operation:?} {outcome}");
+                assert_eq!(after.noise_met, before.noise_met);
+                assert!((0..UNITS).all(|unit| unit == 7 || channel.positions[unit] == Position::default()));
+            }
+        }
+        // The good end at attempt 4 is one record too; a permanent error is none.
+        let mut channel = after_redundancies(Read, 3);
+        assert_eq!(channel.report(0, GOOD), Ok(Booked::GoodInOppositeMode));
+        assert_eq!(channel.positions[0].records, 1);
+        let mut channel = after_redundancies(Read, 100);
+        channel.report(0, REDUNDANCY).expect("booked");
+        assert_eq!(channel.positions[0], Position::default());
+    }
+
+    /// Readings I12 to I14: a noise record uses no attempt; a hundred are passed, at attempt 101 too; then each
+    /// is an ordinary redundancy.
+    #[test]
+    fn i14_a_hundred_noise_records_are_passed() {
+        for (failures, length) in [(0, 0), (2, 1), (10, 2), (100, 0)] {
+            let mut channel = failing_at(3, true, failures);
+            let attempt = failures + 1;
+            for noise in 1..=100 {
+                assert_eq!(channel.report_length(0, REDUNDANCY, Some(length)), Ok(Booked::Repeated));
+                assert_eq!(counts(&channel, 0), (attempt, 0));
+                assert_eq!(channel.request(0).map(|request| request.noise), Some(noise));
+            }
+            let after = channel.report_length(0, REDUNDANCY, Some(length));
+            if failures == 100 {
+                assert_eq!((after, channel.request(0)), (Ok(Booked::PermanentRedundancy), None));
+            } else {
+                assert_eq!((after, counts(&channel, 0)), (Ok(Booked::Repeated), (attempt + 1, 0)));
+                assert_eq!(channel.request(0).map(|request| request.noise), Some(100));
+            }
+        }
+    }
+
+    /// Reading I13: before attempt 12 a noise record takes the 07 away, for good.
+    #[test]
+    fn i13_noise_when_an_attempt_of_the_list_is_due() {
+        let mut channel = failing_at(3, false, 10);
+        assert_eq!(channel.report_length(0, REDUNDANCY, Some(2)), Ok(Booked::Repeated));
+        assert_eq!((counts(&channel, 0), channel.positions[0].noise_met), ((11, 0), true));
+        for failure in 11..101 {
+            assert_eq!(channel.report(0, REDUNDANCY), Ok(Booked::Repeated), "{failure}");
+        }
+        assert_eq!(channel.report(0, REDUNDANCY), Ok(Booked::PermanentRedundancy));
+        // At attempt 12 itself, after the 07.
+        let mut channel = failing_at(3, false, 11);
+        assert_eq!(channel.report_length(0, REDUNDANCY, Some(0)), Ok(Booked::Repeated));
+        assert_eq!(counts(&channel, 0), (12, 0));
+    }
+
+    /// Readings I15 and I17: a length alone makes noise, and only of a read; the opposite mode counts attempts.
+    #[test]
+    fn i17_noise_does_not_move_the_opposite_mode() {
+        let mut channel = after_redundancies(Read, 2);
+        channel.report_length(0, REDUNDANCY, Some(1)).expect("booked");
+        channel.report_length(0, REDUNDANCY, Some(3)).expect("booked");
+        assert_eq!(counts(&channel, 0), (4, 0));
+        channel.report_length(0, REDUNDANCY, Some(1)).expect("booked");
+        assert_eq!(channel.report(0, GOOD), Ok(Booked::GoodInOppositeMode));
+        channel.ask(0, Read, false);
+        assert_eq!(channel.request(0).map(|request| request.noise), Some(0));
+    }
+
+    /// Reading K5: a noise record is no end; the request that displaces after it is found by the scan.
+    #[test]
+    fn k5_a_noise_record_moves_no_mark() {
+        let mut channel = fresh();
+        ask_priority(&mut channel, &[3]);
+        assert_eq!(end_next(&mut channel), 3);
+        channel.ask(6, Read, false);
+        ask_priority(&mut channel, &[2, 5]);
+        assert_eq!(channel.report_length(6, REDUNDANCY, Some(0)), Ok(Booked::Repeated));
+        assert_eq!((channel.working_unit(), marks(&channel)), (Some(5), [0, 4]));
+        assert_eq!((turn(&channel, 6), counts(&channel, 6)), (Turn::Displaced, (1, 0)));
+        assert_eq!(channel.report_length(5, REDUNDANCY, Some(0)), Ok(Booked::Repeated));
+        assert_eq!((channel.working_unit(), marks(&channel)), (Some(5), [0, 4]));
+        channel.freeze();
+        assert_eq!(channel.report_length(5, REDUNDANCY, Some(0)), Ok(Booked::Repeated));
+        assert_eq!((channel.working_unit(), turn(&channel, 5)), (None, Turn::Displaced));
+        channel.thaw();
+        assert_eq!(order_of_ends(&mut channel, 3), [5, 2, 6]);
     }
 
     #[test]

@@ -6,18 +6,21 @@
 //! - `0 mask`: a fresh start; bit u of the mask (0 to 1,023) declares unit u. Answer: `0`.
 //! - `1 unit operation priority`: an ask. Answer: `accepted W`; it is accepted (1, else 0 and nothing
 //!   changes) if the unit is declared and idle and the numbers are in their ranges.
-//! - `2 unit outcome`: a report. Answer: `refusal result W`; the refusal is 0, 11 or 12, the result that of
-//!   the session program, 0 after a refusal.
+//! - `2 unit outcome length`: a report with a length in words (M-106), 65,536 for none. Answer: `refusal result
+//!   W`; the refusal is 0, 11 or 12, the result that of the session program, 0 after a refusal. A length comes
+//!   with outcome 1 alone, and never to a write or mark at work: where a length is refused is no part of this.
 //! - `3`, `4`: freeze, thaw. Answer: `W`.
-//! - `5`: prints the whole channel, 63 numbers: for each unit from 0 to 9 `declared turn operation priority
-//!   attempts incomplete` (turn 0 idle, 1 waiting, 2 displaced, 3 working; an idle unit's last four are 0),
-//!   then the unit at which the next scan for ordinary requests begins, then the one at which the next
-//!   scan for priority requests begins (M-112), then frozen.
+//! - `5`: prints the whole channel, 103 numbers: for each unit from 0 to 9 `declared turn operation priority
+//!   attempts incomplete noise marks records met` (turn 0 idle, 1 waiting, 2 displaced, 3 working; an idle unit
+//!   has 0 from its turn to its noise; noise records passed by the request, the unit's position, and whether
+//!   noise was met there, M-106), then the unit at which the next scan for ordinary requests begins, then the
+//!   one at which the next scan for priority requests begins (M-112), then frozen.
 //!
-//! Before the first event no unit is declared, both marks are 0 and the channel is not frozen.
+//! Before the first event no unit is declared, both marks and all positions are 0 and the channel is not frozen.
 
-use crate::channel::{Channel, UNITS};
+use crate::channel::{Channel, Operation, UNITS};
 use crate::channel_player::answer_event;
+use crate::pack::NO_LENGTH;
 use crate::random::Random;
 use crate::text::numbers_of;
 
@@ -59,18 +62,20 @@ struct Phase {
     /// Of the reports, those of a redundancy and of an incomplete word.
     redundancies: u64,
     incomplete_words: u64,
+    /// Of a read's redundancies, those with a length.
+    lengths: u64,
 }
 
 /// The random phases: turns of ordinary requests; displacements; freezes; few requests with many
 /// attempts; and good ends only.
 #[rustfmt::skip]
 const PHASES: [Phase; 6] = [
-    Phase { mask: ALL_UNITS, length: 300, asks: 30, freezes: 0, thaws: 0, reads: 33, priority: 8, redundancies: 25, incomplete_words: 5 },
-    Phase { mask: 0b11_0111_0101, length: 450, asks: 25, freezes: 0, thaws: 1, reads: 50, priority: 22, redundancies: 50, incomplete_words: 6 },
-    Phase { mask: ALL_UNITS, length: 500, asks: 30, freezes: 8, thaws: 14, reads: 50, priority: 30, redundancies: 45, incomplete_words: 4 },
-    Phase { mask: 0b10_1001_0011, length: 350, asks: 60, freezes: 3, thaws: 3, reads: 33, priority: 70, redundancies: 30, incomplete_words: 5 },
-    Phase { mask: 0b01_1100_0001, length: 500, asks: 12, freezes: 2, thaws: 6, reads: 95, priority: 20, redundancies: 96, incomplete_words: 1 },
-    Phase { mask: ALL_UNITS, length: 150, asks: 60, freezes: 0, thaws: 0, reads: 33, priority: 0, redundancies: 0, incomplete_words: 0 },
+    Phase { mask: ALL_UNITS, length: 300, asks: 30, freezes: 0, thaws: 0, reads: 33, priority: 8, redundancies: 25, incomplete_words: 5, lengths: 50 },
+    Phase { mask: 0b11_0111_0101, length: 450, asks: 25, freezes: 0, thaws: 1, reads: 50, priority: 22, redundancies: 50, incomplete_words: 6, lengths: 30 },
+    Phase { mask: ALL_UNITS, length: 500, asks: 30, freezes: 8, thaws: 14, reads: 50, priority: 30, redundancies: 45, incomplete_words: 4, lengths: 30 },
+    Phase { mask: 0b10_1001_0011, length: 350, asks: 60, freezes: 3, thaws: 3, reads: 33, priority: 70, redundancies: 30, incomplete_words: 5, lengths: 50 },
+    Phase { mask: 0b01_1100_0001, length: 500, asks: 12, freezes: 2, thaws: 6, reads: 95, priority: 20, redundancies: 96, incomplete_words: 1, lengths: 5 },
+    Phase { mask: ALL_UNITS, length: 150, asks: 60, freezes: 0, thaws: 0, reads: 33, priority: 0, redundancies: 0, incomplete_words: 0, lengths: 0 },
 ];
 
 /// All events, phase by phase.
@@ -84,6 +89,9 @@ pub fn channel_events() -> Vec<Vec<u64>> {
     script.ends_at_attempt_4();
     script.last_attempts();
     script.priority_and_freeze();
+    script.cleaner_passes();
+    script.noise_records();
+    script.positions();
     for phase in PHASES {
         script.random_phase(&phase);
     }
@@ -91,10 +99,15 @@ pub fn channel_events() -> Vec<Vec<u64>> {
 }
 
 impl Script {
-    /// Adds an event and plays it; about every tenth is followed by the whole channel.
+    /// Adds an event and plays it; about every tenth is followed by the whole channel. A report without a
+    /// length gets the number that says so.
     fn play(&mut self, event: &[u64]) {
-        answer_event(&mut self.channel, event).expect("an event");
-        self.events.push(event.to_vec());
+        let mut event = event.to_vec();
+        if event[0] == 2 && event.len() == 3 {
+            event.push(NO_LENGTH);
+        }
+        answer_event(&mut self.channel, &event).expect("an event");
+        self.events.push(event);
         if self.random.chance(1, 9) {
             self.events.push(vec![5]);
         }
@@ -217,6 +230,89 @@ impl Script {
         self.play_text("1 1 0 0; 1 2 0 1; 3; 2 1 1; 0 6; 5; 1 2 0 0");
     }
 
+    /// 07 at the nine attempts of the list, with three records; not with two, nor after noise; after an
+    /// incomplete word; of an operation that is displaced or stopped; not of a write or mark.
+    fn cleaner_passes(&mut self) {
+        self.play(&[0, ALL_UNITS]);
+        for records in 1..=4 {
+            self.play_text("1 2 0 0; 2 2 0");
+            if records > 1 {
+                self.play(&[1, 2, READ, 0]);
+                self.fail(2, REDUNDANCY, if records == 3 { 100 } else { 12 });
+                self.play_text("5; 2 2 0");
+            }
+        }
+        self.play_text("5; 1 2 0 0");
+        self.fail(2, REDUNDANCY, 10);
+        self.play_text("2 2 2; 5; 1 7 2 1");
+        self.fail(2, REDUNDANCY, 1);
+        self.play_text("2 7 0; 5");
+        self.fail(2, REDUNDANCY, 8);
+        self.play_text("1 7 2 1; 2 2 1 9; 5; 2 7 0");
+        self.fail(2, REDUNDANCY, 9);
+        self.play_text("3; 2 2 1 1024; 5; 4; 2 2 0");
+        // A mark begins the records anew; noise at another unit does not matter, at this one it does.
+        self.play_text("1 2 0 0; 2 2 3; 1 3 0 0; 2 3 1 0; 2 3 0");
+        for _ in 0..3 {
+            self.play_text("1 2 1 0; 2 2 4");
+        }
+        self.play(&[1, 2, READ, 0]);
+        self.fail(2, REDUNDANCY, 11);
+        self.play_text("2 2 1 2");
+        self.fail(2, REDUNDANCY, 10);
+        self.play_text("5; 2 2 0; 1 2 0 0");
+        self.fail(2, REDUNDANCY, 12);
+        self.play_text("5; 2 2 0");
+        for operation in [WRITE, MARK] {
+            self.play(&[1, 2, operation, 0]);
+            self.fail(2, REDUNDANCY, 22);
+            self.play_text("5; 2 2 0");
+        }
+    }
+
+    /// A hundred noise records of each length and the next ones; at attempt 101; counts that a displaced or
+    /// stopped request keeps; each request begins at none.
+    fn noise_records(&mut self) {
+        self.play(&[0, ALL_UNITS]);
+        for (unit, length, failures) in [(0, 0, 0), (1, 2, 3), (2, 1, 100)] {
+            self.play(&[1, unit, READ, 0]);
+            self.fail(unit, REDUNDANCY, failures);
+            for _ in 0..99 {
+                self.play(&[2, unit, REDUNDANCY, length]);
+            }
+            self.play(&[5]);
+            self.play(&[2, unit, REDUNDANCY, length]);
+            self.play(&[5]);
+            self.play(&[2, unit, REDUNDANCY, length]);
+            self.play(&[5]);
+            if failures < 100 {
+                self.play(&[2, unit, REDUNDANCY, 2 - length]);
+                self.play(&[2, unit, REDUNDANCY, 3]);
+                self.play(&[2, unit, GOOD]);
+            }
+            self.play(&[1, unit, READ, 0]);
+            self.play(&[2, unit, REDUNDANCY, 1]);
+            self.play(&[5]);
+            self.play(&[2, unit, FILE_MARK]);
+        }
+        // At attempt 4 noise does not move the opposite mode; an incomplete word and noise are counted apart.
+        self.play_text("1 4 0 0; 2 4 1 0; 2 4 1; 2 4 1 2; 2 4 2; 2 4 1 1; 2 4 1 5; 5; 2 4 1 0; 2 4 0");
+        // Displaced and stopped by noise; the scan finds the one that displaces, and no mark moves.
+        self.play_text(
+            "1 5 0 0; 1 8 0 1; 1 3 0 1; 2 5 1 0; 5; 2 3 1 1; 5; 3; 2 3 1 2; 5; 4; 5; 2 3 0; 2 8 0; 5",
+        );
+        self.play_text(
+            "2 5 1 2; 3; 2 5 1 2; 4; 2 5 1 65535; 5; 2 5 3; 2 5 1 0; 2 6 1 0; 2 10 1 2; 2 255 1 65535; 5",
+        );
+    }
+
+    /// What moves a position, and that a fresh start puts it to zero.
+    fn positions(&mut self) {
+        self.play_text("0 7; 1 0 1 0; 2 0 0; 1 0 1 0; 2 0 4; 5; 1 0 1 0; 2 0 2; 1 0 2 0; 2 0 1; 2 0 0; 5; 1 0 2 0; 2 0 4");
+        self.play_text("1 1 0 0; 2 1 0; 1 1 0 1; 2 1 1; 2 1 1; 2 1 1; 2 1 0; 5; 1 1 0 0; 2 1 2; 2 1 2; 5; 1 1 0 0; 2 1 3");
+        self.play_text("5; 1 2 0 0; 2 2 1 0; 2 2 0; 5; 0 7; 5; 1 2 0 0; 2 2 1 0; 0 3; 5");
+    }
+
     /// Random events, mostly ones that are accepted.
     fn random_phase(&mut self, phase: &Phase) {
         let end = self.events.len() + phase.length;
@@ -266,13 +362,21 @@ impl Script {
     /// A report of the working unit; now and then of another one, or the last report again.
     fn random_report(&mut self, phase: &Phase) -> Vec<u64> {
         let last = self.events.last().filter(|event| event[0] == 2).cloned();
+        let last = last.filter(|event| answer_event(&mut self.channel.clone(), event).is_some());
         if let Some(again) = last.filter(|_| self.random.chance(1, 30)) {
             return again;
         }
         match self.channel.working_unit() {
             Some(unit) if !self.random.chance(1, 20) => {
-                let priority = self.channel.requests[unit].as_ref().is_some_and(|request| request.priority);
-                vec![2, unit as u64, self.random_outcome(phase, priority)]
+                let request = self.channel.requests[unit].clone().expect("the working request");
+                let outcome = self.random_outcome(phase, request.priority);
+                let may = outcome == REDUNDANCY && request.operation == Operation::Read;
+                let length = if may && self.random.chance(phase.lengths, 100) {
+                    self.random.pick(&[0, 1, 2, 2, 3, 100, 65_535])
+                } else {
+                    NO_LENGTH
+                };
+                vec![2, unit as u64, outcome, length]
             }
             _ if self.random.chance(1, 3) => {
                 vec![2, self.random.pick(&NO_UNITS), self.random.pick(&OUTCOMES)]
@@ -301,7 +405,7 @@ impl Script {
 #[cfg(test)]
 mod tests {
     use super::*;
-    use crate::channel::{Booked, Operation, Turn};
+    use crate::channel::{Booked, Turn, CLEANER_PASSES};
     use crate::channel_player::{answer_events, NO_UNIT};
     use crate::text::lines_of;
     use std::collections::{BTreeMap, BTreeSet};
@@ -313,6 +417,8 @@ mod tests {
         /// Operation and outcome of each report to the working unit.
         outcomes: BTreeSet<(u64, u64)>,
         results: BTreeSet<u64>,
+        /// The attempts at which a result was 07.
+        passes: BTreeSet<u64>,
         /// Numbers that are no units, in asks (1) and in reports (2).
         no_units: BTreeSet<(u64, u64)>,
     }
@@ -329,7 +435,10 @@ mod tests {
             match *event {
                 [0, mask] => self.see_fresh(before, mask),
                 [1, unit, operation, priority] => self.see_ask(before, unit, operation, priority, answer[0]),
-                [2, unit, outcome] => self.see_report(before, unit, outcome, answer, after),
+                [2, unit, outcome, length] => {
+                    self.see_report(before, unit, outcome, answer, after);
+                    self.see_reel(before, unit, [outcome, length], answer);
+                }
                 [3] => self.count("freeze of a frozen channel", before.frozen),
                 [4] => self.see_thaw(before, after),
                 _ => {}
@@ -367,7 +476,8 @@ mod tests {
             }
             let result = answer[1];
             self.results.insert(result);
-            let repeated = result == Booked::Repeated.number();
+            let repeated =
+                [Booked::Repeated, Booked::BackspaceThree].iter().any(|kind| result == kind.number());
             let displaced = repeated && !before.frozen && answer[2] != unit;
             self.count("displacement", displaced);
             self.count(
@@ -405,6 +515,36 @@ mod tests {
                 operation == Operation::Write && attempt == 27 && result == 5,
             );
             self.count("27th mark redundancy", operation == Operation::Mark && attempt == 27 && result == 5);
+        }
+
+        /// Noise records, and results 07 and what is beside them.
+        fn see_reel(&mut self, before: &Channel, unit: u64, [outcome, length]: [u64; 2], answer: &[u64]) {
+            let Some(request) = before.working_request(unit).filter(|_| answer[0] == 0) else {
+                return;
+            };
+            let position = before.positions[unit as usize];
+            let read = request.operation == Operation::Read;
+            let passed = read && outcome == REDUNDANCY && length < 3 && request.noise < 100;
+            self.count("noise record passed", passed);
+            self.count("hundredth noise record", passed && request.noise == 99);
+            self.count("noise record past the hundred", read && length < 3 && request.noise == 100);
+            self.count("noise record at attempt 101", passed && request.attempt == 101);
+            self.count("permanent by noise", read && length < 3 && answer[1] == 5);
+            self.count("displaced by noise", passed && !before.frozen && answer[2] != unit);
+            self.count("stopped after noise", passed && before.frozen);
+            self.count("length of three or more", (3..NO_LENGTH).contains(&length));
+            let due = CLEANER_PASSES.contains(&(request.attempt + 1)) && !passed;
+            let failed = read && due && [REDUNDANCY, INCOMPLETE].contains(&outcome) && answer[1] != 6;
+            self.count("listed attempt with two records", failed && position.records == 2);
+            self.count("listed attempt after noise", failed && position.records > 2 && position.noise_met);
+            self.count("07 after an incomplete word", answer[1] == 7 && outcome == INCOMPLETE);
+            self.count("07 displaced", answer[1] == 7 && !before.frozen && answer[2] != unit);
+            self.count("07 stopped", answer[1] == 7 && before.frozen);
+            if answer[1] == 7 {
+                self.passes.insert(request.attempt + 1);
+            }
+            let other = request.operation != Operation::Read;
+            self.count("listed attempt of a write or mark", other && due && position.records > 2);
         }
 
         fn see_thaw(&mut self, before: &Channel, after: &Channel) {
@@ -483,7 +623,7 @@ mod tests {
             let answer = answer_event(&mut channel, &event).expect("an event");
             seen.count("report repeated after its answer", event == last_report_answered && answer[0] == 11);
             if event[0] != 5 {
-                let answered = event[0] == 2 && answer[0] == 0 && answer[1] != 0;
+                let answered = event[0] == 2 && answer[0] == 0 && ![0, 7].contains(&answer[1]);
                 last_report_answered = if answered { event.clone() } else { Vec::new() };
             }
             seen.see(&before, &event, &answer, &channel);
@@ -494,12 +634,12 @@ mod tests {
     #[test]
     fn the_list_keeps_its_size() {
         let events = channel_events();
-        assert!((2_700..=3_300).contains(&events.len()), "{} events", events.len());
+        assert!((3_500..=4_500).contains(&events.len()), "{} events", events.len());
         let whole = events.iter().filter(|event| event[0] == 5).count();
-        assert!((200..=450).contains(&whole), "{whole}");
+        assert!((300..=600).contains(&whole), "{whole}");
         let input = lines_of(&events);
         assert!(input.len() < 60_000);
-        assert!(answer_events(&input).expect("events").len() < 150_000);
+        assert!(answer_events(&input).expect("events").len() < 200_000);
     }
 
     #[test]
@@ -520,7 +660,8 @@ mod tests {
         ] {
             assert!(seen.counts[often] >= 20, "{often}: {}", seen.counts[often]);
         }
-        assert!(seen.results.iter().copied().eq(0..=6));
+        assert!(seen.results.iter().copied().eq(0..=7));
+        assert!(seen.passes.iter().copied().eq(CLEANER_PASSES));
         assert!(NO_UNITS.iter().all(|&unit| seen.no_units.contains(&(1, unit))));
         assert!(NO_UNITS.iter().all(|&unit| seen.no_units.contains(&(2, unit))));
         for operation in [READ, WRITE, MARK] {

@@ -211,7 +211,7 @@ fn our_answers(lines: &[Vec<u8>], ending: Ending) -> Vec<Vec<u8>> {
 #[cfg(test)]
 mod tests {
     use super::*;
-    use crate::channel::{Channel, Turn};
+    use crate::channel::{Channel, Position, Turn};
     use crate::file::{Block, Direction, File};
     use crate::frame::answer_line;
     use crate::pack::Pack;
@@ -330,6 +330,26 @@ mod tests {
             }
         };
         is_found("told with it", |pack| each_block(pack, told_with_it), 14);
+    }
+
+    /// Noise that is forgotten, records that are not counted past two, and noise records that are always passed.
+    #[test]
+    fn wrong_ways_with_reels_are_found() {
+        let each_position = |pack: &mut Pack, change: fn(&mut Position)| {
+            pack.channels.iter_mut().flat_map(|channel| &mut channel.positions).for_each(change);
+        };
+        is_found("noise forgotten", |pack| each_position(pack, |position| position.noise_met = false), 40);
+        is_found(
+            "records",
+            |pack| each_position(pack, |position| position.records = position.records.min(2)),
+            40,
+        );
+        is_found("all noise", |pack| each_position(pack, |position| position.noise_met = true), 40);
+        let always = |pack: &mut Pack| {
+            let requests = pack.channels.iter_mut().flat_map(|channel| channel.requests.iter_mut().flatten());
+            requests.for_each(|request| request.noise = 0);
+        };
+        is_found("always passed", always, 250);
     }
 
     #[test]

@@ -4,7 +4,7 @@ use crate::channel::{Operation, UNITS};
 use crate::file::Direction;
 use crate::frame::{line_of, Frame, LONGEST_LINE};
 use crate::generate::Generator;
-use crate::pack::{Opening, CHANNELS, FILES};
+use crate::pack::{Opening, CHANNELS, FILES, NO_LENGTH};
 use crate::profile::Action;
 
 impl Generator {
@@ -75,7 +75,14 @@ impl Generator {
         let (channel, unit) = working.unwrap_or_else(|| self.some_unit());
         let outcome = if self.random.chance(1, 3) { 0 } else { self.random.below(5) };
         let words = if self.random.chance(2, 5) { self.some_words() } else { Vec::new() };
-        Frame::Report { channel, unit, outcome, words }
+        let length = if self.random.chance(1, 4) { self.some_length(words.len()) } else { NO_LENGTH };
+        Frame::Report { channel, unit, outcome, length, words }
+    }
+
+    /// A length: mostly the number of the words, or close to it.
+    fn some_length(&mut self, words: usize) -> u64 {
+        let words = words as u64;
+        self.random.pick(&[words, words, words + 1, words.saturating_sub(1), 0, 2, 3, 65_535])
     }
 
     /// The number of a file, mostly of an open one.
@@ -115,10 +122,12 @@ impl Generator {
                 1 => *operation = self.random.below(4),
                 _ => *priority = self.random.pick(&[0, 1, 2, 255]),
             },
-            Frame::Report { channel, unit, outcome, words } => match self.random.below(5) {
+            Frame::Report { channel, unit, outcome, length, words } => match self.random.below(7) {
                 0 => *channel = self.random.below(6),
                 1 => *unit = self.random.below(11),
                 2 => *outcome = self.random.below(6),
+                3 => *length = self.some_length(words.len()),
+                4 => (*outcome, *length) = (1, self.some_length(words.len())),
                 _ => self.change_words(words),
             },
             Frame::Put { file, words } => match self.random.below(3) {
@@ -174,7 +183,8 @@ impl Generator {
             1..=9 => line.clear(),
             10..=24 => drop(line.pop()),
             25..=39 => line.truncate(line.len() - 2),
-            40..=54 => line.extend(b"00"),
+            40..=49 => line.extend(b"00"),
+            50..=54 => line.extend(self.random.pick(&[b"0000", b"0001", b"0002", b"FFFF"])),
             55..=69 => line.insert(place, self.random.pick(b" \t\r\0gGxF.-+\x7F\x80\xFF")),
             70..=84 => line[place] = self.random.pick(b" \t\r\0gGxz/:@`\x7F\x80\xFF"),
             85..=94 => {
@@ -199,8 +209,19 @@ impl Generator {
     /// A long line of digits: the longest that is well formed, one more, or far more.
     fn line_of_some_length(&mut self) -> Vec<u8> {
         let longest = LONGEST_LINE;
-        let length = self.random.pick(&[longest - 2, longest - 1, longest, longest + 1, longest + 2, 30_000]);
-        let mut line = line_of(&Frame::Report { channel: 0, unit: 0, outcome: 0, words: vec![1; 3_000] });
+        let length = self.random.pick(&[
+            longest - 4,
+            longest - 2,
+            longest - 1,
+            longest,
+            longest,
+            longest + 1,
+            longest + 2,
+            30_000,
+        ]);
+        let (outcome, measured) = self.random.pick(&[(0, NO_LENGTH), (1, 1_024), (1, 1_023)]);
+        let words = vec![1; 3_000];
+        let mut line = line_of(&Frame::Report { channel: 0, unit: 0, outcome, length: measured, words });
         line.truncate(length);
         line
     }

@@ -1,11 +1,11 @@
 //! Frames, one a line (document 01, "The session program").
 
-use crate::pack::{Got, Opening, Pack, Reported, CHANNELS};
+use crate::pack::{Got, Opening, Pack, Reported, CHANNELS, NO_LENGTH};
 use crate::refusals::Refusals;
 use crate::word::Fields;
 
-/// "Over 10,248 digits is malformed."
-pub const LONGEST_LINE: usize = 10_248;
+/// "Over 10,248 digits is malformed"; M-106: "Lines then run to 10,252 digits."
+pub const LONGEST_LINE: usize = 10_252;
 /// "Words are five bytes, highest first."
 const WORD_BYTES: usize = 5;
 /// The byte for a working unit if there is none.
@@ -14,15 +14,41 @@ const NO_UNIT: u8 = 0xFF;
 /// A frame that is well formed.
 #[derive(Clone, Debug, PartialEq, Eq)]
 pub enum Frame {
-    Fresh { buffers: u64, width: u64, masks: [u64; CHANNELS] },
+    Fresh {
+        buffers: u64,
+        width: u64,
+        masks: [u64; CHANNELS],
+    },
     Open(Opening),
-    Close { file: u64 },
-    Ask { file: u64, operation: u64, priority: u64 },
-    Report { channel: u64, unit: u64, outcome: u64, words: Vec<u64> },
-    Get { file: u64 },
-    Put { file: u64, words: Vec<u64> },
-    Seal { file: u64 },
-    Skip { file: u64 },
+    Close {
+        file: u64,
+    },
+    Ask {
+        file: u64,
+        operation: u64,
+        priority: u64,
+    },
+    /// Without a length it has `NO_LENGTH`.
+    Report {
+        channel: u64,
+        unit: u64,
+        outcome: u64,
+        length: u64,
+        words: Vec<u64>,
+    },
+    Get {
+        file: u64,
+    },
+    Put {
+        file: u64,
+        words: Vec<u64>,
+    },
+    Seal {
+        file: u64,
+    },
+    Skip {
+        file: u64,
+    },
     Freeze,
     Thaw,
 }
@@ -58,12 +84,16 @@ pub fn frame_of(line: &[u8]) -> Option<Frame> {
         [0x03, file, operation, priority] => {
             Frame::Ask { file: file.into(), operation: operation.into(), priority: priority.into() }
         }
-        [0x04, channel, unit, outcome, ref words @ ..] => Frame::Report {
-            channel: channel.into(),
-            unit: unit.into(),
-            outcome: outcome.into(),
-            words: words_of(words)?,
-        },
+        [0x04, channel, unit, outcome, ref rest @ ..] => {
+            let (length, words) = length_of(rest);
+            Frame::Report {
+                channel: channel.into(),
+                unit: unit.into(),
+                outcome: outcome.into(),
+                length,
+                words: words_of(words)?,
+            }
+        }
         [0x05, file] => Frame::Get { file: file.into() },
         [0x06, file, ref words @ ..] => Frame::Put { file: file.into(), words: words_of(words)? },
         [0x07, file] => Frame::Seal { file: file.into() },
@@ -93,8 +123,11 @@ pub fn line_of(frame: &Frame) -> Vec<u8> {
         Frame::Ask { file, operation, priority } => {
             bytes.extend([0x03, *file as u8, *operation as u8, *priority as u8]);
         }
-        Frame::Report { channel, unit, outcome, words } => {
+        Frame::Report { channel, unit, outcome, length, words } => {
             bytes.extend([0x04, *channel as u8, *unit as u8, *outcome as u8]);
+            if *length != NO_LENGTH {
+                bytes.extend((*length as u16).to_be_bytes());
+            }
             add_words(&mut bytes, words);
         }
         Frame::Get { file } => bytes.extend([0x05, *file as u8]),
@@ -121,8 +154,8 @@ fn answer_frame(pack: &mut Pack, frame: &Frame) -> Result<Vec<u8>, u64> {
         Frame::Ask { file, operation, priority } => {
             answer.push(unit_byte(pack.ask(*file, *operation, *priority)?));
         }
-        Frame::Report { channel, unit, outcome, words } => {
-            add_report(&mut answer, &pack.report(*channel, *unit, *outcome, words)?);
+        Frame::Report { channel, unit, outcome, length, words } => {
+            add_report(&mut answer, &pack.report_length(*channel, *unit, *outcome, *length, words)?);
         }
         Frame::Get { file } => add_get(&mut answer, &pack.get(*file)?),
         Frame::Put { file, words } => pack.put(*file, words)?,
@@ -141,8 +174,8 @@ pub fn refusals_of(pack: &Pack, frame: &Frame) -> Refusals {
         Frame::Open(opening) => pack.open_refusals(opening),
         Frame::Close { file } => pack.close_refusals(*file),
         Frame::Ask { file, operation, priority } => pack.ask_refusals(*file, *operation, *priority),
-        Frame::Report { channel, unit, outcome, words } => {
-            pack.report_refusals(*channel, *unit, *outcome, words)
+        Frame::Report { channel, unit, outcome, length, words } => {
+            pack.report_refusals(*channel, *unit, *outcome, *length, words)
         }
         Frame::Get { file } => pack.get_refusals(*file),
         Frame::Put { file, words } => pack.put_refusals(*file, words),
@@ -208,6 +241,15 @@ fn masks_of(bytes: &[u8]) -> Option<[u64; CHANNELS]> {
     masks.try_into().ok()
 }
 
+/// The length of a report and the rest of its bytes: "two bytes ahead of any words, shown by the bytes left
+/// over from fives".
+fn length_of(bytes: &[u8]) -> (u64, &[u8]) {
+    match bytes {
+        [high, low, words @ ..] if words.len() % WORD_BYTES == 0 => (size(*high, *low), words),
+        _ => (NO_LENGTH, bytes),
+    }
+}
+
 /// The words of their bytes, if these are a multiple of five.
 fn words_of(bytes: &[u8]) -> Option<Vec<u64>> {
     let words = bytes.chunks_exact(WORD_BYTES);
@@ -254,6 +296,10 @@ mod tests {
         frame_of(line.as_bytes())
     }
 
+    fn report(length: u64, words: &[u64]) -> Frame {
+        Frame::Report { channel: 1, unit: 2, outcome: 3, length, words: words.to_vec() }
+    }
+
     #[test]
     fn each_kind_of_frame_has_its_bytes() {
         let masks = [1, 2, 0x3FF, 0x1234, 0xFFFF];
@@ -264,11 +310,12 @@ mod tests {
             ("010F04090801020304", Frame::Open(opening)),
             ("02FE", Frame::Close { file: 254 }),
             ("03010203", Frame::Ask { file: 1, operation: 2, priority: 3 }),
-            ("04010203", Frame::Report { channel: 1, unit: 2, outcome: 3, words: vec![] }),
-            (
-                "04010203 0102030405 FFFFFFFFFF",
-                Frame::Report { channel: 1, unit: 2, outcome: 3, words: vec![0x102030405, (1 << 40) - 1] },
-            ),
+            ("04010203", report(NO_LENGTH, &[])),
+            ("04010203 0102030405 FFFFFFFFFF", report(NO_LENGTH, &[0x102030405, (1 << 40) - 1])),
+            ("04010203 0000", report(0, &[])),
+            ("04010203 FFFE", report(0xFFFE, &[])),
+            ("04010203 0001 0102030405", report(1, &[0x102030405])),
+            ("04010203 1234 0102030405 FFFFFFFFFF", report(0x1234, &[0x102030405, (1 << 40) - 1])),
             ("0511", Frame::Get { file: 17 }),
             ("0601", Frame::Put { file: 1, words: vec![] }),
             ("06010000000007", Frame::Put { file: 1, words: vec![7] }),
@@ -313,8 +360,12 @@ mod tests {
             "0300000000",
             "040000",
             "0400000000",
-            "040000000000",
+            "04000001000000",
+            "0400000100000000",
+            "040000010000000000FF",
+            "04000001000000000000000000",
             "060000",
+            "06000000",
             "0600000000000000",
             "00010004000100000000000000",
             "000100040001000000000000000000",
@@ -328,13 +379,15 @@ mod tests {
         }
     }
 
-    /// Reading B3: 10,248 digits are a report with 1,024 words; more are malformed.
+    /// Readings B3 and I11: 10,252 digits are a report with a length and 1,024 words; more are malformed.
     #[test]
     fn b3_the_longest_line() {
         let words = "0000000001".repeat(1_024);
-        let longest = format!("04000000{words}");
+        let longest = format!("040000010400{words}");
         assert_eq!(longest.len(), LONGEST_LINE);
         assert!(parsed(&longest).is_some());
+        assert!(parsed(&format!("04000000{words}")).is_some());
+        assert_eq!(parsed(&format!("040000010401{words}0000000001")), None);
         assert!(parsed(&format!("0600{words}")).is_some());
         assert_eq!(parsed(&format!("0600{words}0000000001")), None);
         assert_eq!(parsed(&format!("{longest}00")), None);
@@ -345,6 +398,10 @@ mod tests {
         let mut pack = Pack::new(8);
         assert_eq!(answer_line(&mut pack, b"040000000000000005"), b"0B");
         assert_eq!(answer_line(&mut pack, b""), b"01");
+        // A length with another outcome than 1.
+        assert_eq!(answer_line(&mut pack, b"040000000001"), b"01");
+        assert_eq!(answer_line(&mut pack, b"040000010001"), b"0B");
+        assert_eq!(answer_line(&mut pack, b"0400000100020000000005"), b"01");
         assert_eq!(answer_line(&mut pack, b"0001000400010000000000000000"), b"00");
         assert_eq!(answer_line(&mut pack, b"010000000000020002"), b"00");
         assert_eq!(answer_line(&mut pack, b"03000000"), b"0000");

@@ -1,10 +1,13 @@
 //! The subcommand `generate`: random sessions of several profiles. The generator plays every line
 //! on a pack of its own, so that most frames it chooses are accepted and lead to deep states.
 
-use crate::channel::{Booked, Operation, Outcome, Request, UNITS};
+use std::collections::BTreeMap;
+
+use crate::channel::{Booked, Operation, Outcome, Position, Request, NOISE_BELOW, UNITS};
+use crate::fates::{Fate, Planned};
 use crate::file::{Direction, File};
 use crate::frame::{answer_line, line_of, Frame};
-use crate::pack::{Opening, Pack, CHANNELS, CHECK, DOUBLE, FILES, OUTPUT, SEQUENCE};
+use crate::pack::{Opening, Pack, CHANNELS, CHECK, DOUBLE, FILES, NO_LENGTH, OUTPUT, SEQUENCE};
 use crate::profile::{Action, Habits, Profile};
 use crate::random::Random;
 use crate::session::new_pack;
@@ -22,6 +25,8 @@ pub struct Generator {
     /// For the profile `wrap`: blocks until the next close, and whether the next open is for output.
     pub(crate) blocks_left: u64,
     pub(crate) wrap_outputs: bool,
+    /// For the profile `reel`: what is planned for the read of a channel's unit.
+    pub(crate) fates: BTreeMap<(u64, u64), Fate>,
 }
 
 /// The lines of a session, without line feeds.
@@ -39,6 +44,7 @@ impl Generator {
             pack: new_pack(),
             blocks_left: 0,
             wrap_outputs: false,
+            fates: BTreeMap::new(),
         }
     }
 
@@ -230,10 +236,31 @@ impl Generator {
         let request = self.pack.channels[channel as usize].working_request(unit)?;
         let request = request.clone();
         let operation = request.operation;
-        let outcome = self.random_outcome(&request, unit);
-        let result = Outcome::of(outcome).map(|outcome| request.result_of(outcome));
-        let permanent = matches!(result, Some(Booked::PermanentRedundancy | Booked::PermanentIncompleteWord));
+        let planned = match (self.profile, operation) {
+            (Profile::Reel, Operation::Read) => self.planned_report(channel, unit, &request),
+            _ => self.random_report(&request, unit),
+        };
+        let Planned { outcome, mut length, brings } = planned;
         let file = self.pack.file_of_unit(channel, unit)? as u64;
+        let mut words = if brings { self.delivered_block(file) } else { Vec::new() };
+        // "if words follow it must be their number": a noise record stays one, and no other becomes one.
+        if length != NO_LENGTH && !words.is_empty() {
+            match (length < NOISE_BELOW, (words.len() as u64) < NOISE_BELOW) {
+                (true, false) => words.clear(),
+                (false, true) => length = NO_LENGTH,
+                _ => length = words.len() as u64,
+            }
+        }
+        Some(Frame::Report { channel, unit, outcome, length, words })
+    }
+
+    /// An outcome of a request, with words and a length where it may have them.
+    fn random_report(&mut self, request: &Request, unit: u64) -> Planned {
+        let operation = request.operation;
+        let outcome = self.random_outcome(request, unit);
+        let result =
+            Outcome::of(outcome).map(|outcome| request.result_of(outcome, None, Position::default()));
+        let permanent = matches!(result, Some(Booked::PermanentRedundancy | Booked::PermanentIncompleteWord));
         let brings = match (operation, outcome) {
             (Operation::Read, 0) => true,
             // M-101: of the failures that are permanent as many bring words as not.
@@ -241,8 +268,13 @@ impl Generator {
             (Operation::Read, 1 | 2) => self.random.chance(self.habits.failed_words, 100),
             _ => false,
         };
-        let words = if brings { self.delivered_block(file) } else { Vec::new() };
-        Some(Frame::Report { channel, unit, outcome, words })
+        let measured = operation == Operation::Read && outcome == 1;
+        let length = if measured && self.random.chance(self.habits.lengths, 100) {
+            self.random.pick(&[0, 1, 2, 3, 4, 5, 1_024, 65_535])
+        } else {
+            NO_LENGTH
+        };
+        Planned { outcome, length, brings }
     }
 
     /// An allowed outcome. A priority operation mostly ends soon, so that displaced ones go on; the last
@@ -376,9 +408,15 @@ mod tests {
 
     #[test]
     fn most_frames_are_accepted() {
-        for profile in
-            [Profile::Mixed, Profile::Retries, Profile::Turns, Profile::Blocks, Profile::Kept, Profile::Wrap]
-        {
+        for profile in [
+            Profile::Mixed,
+            Profile::Retries,
+            Profile::Turns,
+            Profile::Blocks,
+            Profile::Kept,
+            Profile::Reel,
+            Profile::Wrap,
+        ] {
             assert!(accepted(profile) >= 90, "{profile:?}: {}", accepted(profile));
         }
         assert!((30..=70).contains(&accepted(Profile::Malformed)));

@@ -8,6 +8,7 @@ pub mod channel_events;
 pub mod channel_player;
 pub mod compare;
 pub mod cuts;
+pub mod fates;
 pub mod faults;
 pub mod file;
 pub mod file_player;

@@ -26,6 +26,9 @@ pub const ALL_FLAGS: u64 = OUTPUT + DOUBLE + SEQUENCE + CHECK;
 pub const UNRECOVERABLE_READ: u8 = 4;
 pub const INCOMPLETE_WORD_READ: u8 = 10;
 
+/// A report's length is "two bytes" (M-106); as a number that a caller gives, the next one stands for none.
+pub const NO_LENGTH: u64 = 65_536;
+
 /// The state of the pack with the area it was lent.
 #[derive(Clone, Debug, PartialEq, Eq)]
 pub struct Pack {
@@ -244,16 +247,29 @@ impl Pack {
         outcome: u64,
         words: &[u64],
     ) -> Result<Reported<'_>, u64> {
-        self.report_refusals(channel, unit, outcome, words).judge()?;
+        self.report_length(channel, unit, outcome, NO_LENGTH, words)
+    }
+
+    /// The same of a report that may carry a length (M-106); `NO_LENGTH` is none.
+    pub fn report_length(
+        &mut self,
+        channel: u64,
+        unit: u64,
+        outcome: u64,
+        length: u64,
+        words: &[u64],
+    ) -> Result<Reported<'_>, u64> {
+        self.report_refusals(channel, unit, outcome, length, words).judge()?;
         let operation = self.working_request(channel, unit).expect("a judged request").operation;
         let file = self.file_of_unit(channel, unit).expect("the file of a request") as u64;
         let channel = &mut self.channels[channel as usize];
-        let result = channel.report(unit, outcome)?;
+        let length = Some(length).filter(|&length| length != NO_LENGTH);
+        let result = channel.report_length(unit, outcome, length)?;
         let working_unit = channel.working_unit();
         let mut delivered = None;
         let mut shown = Part { buffer: 0, place: 0, words: 0 };
         match (operation, result) {
-            (_, Booked::Repeated) | (Operation::Mark, _) => {}
+            (_, Booked::Repeated | Booked::BackspaceThree) | (Operation::Mark, _) => {}
             (Operation::Read, Booked::Good | Booked::GoodInOppositeMode) => {
                 delivered = Some(self.deliver(file, words, 0));
             }
@@ -295,7 +311,14 @@ impl Pack {
 
     /// 2: "a given word ... is 2^36 or more"; 11: "the channel is not working for that unit";
     /// 12: "outcome not allowed for the operation".
-    pub fn report_refusals(&self, channel: u64, unit: u64, outcome: u64, words: &[u64]) -> Refusals {
+    pub fn report_refusals(
+        &self,
+        channel: u64,
+        unit: u64,
+        outcome: u64,
+        length: u64,
+        words: &[u64],
+    ) -> Refusals {
         let mut refusals = Refusals::new();
         let outcome = Outcome::of(outcome);
         let in_range = channel < CHANNELS as u64 && unit < UNITS as u64;
@@ -303,6 +326,12 @@ impl Pack {
         // "Words given with an outcome other than 0 ... are refused 1"; M-101: "reports of read redundancy or
         // incomplete word may carry words", "refusal 1 for words there goes".
         refusals.when(1, !words.is_empty() && !outcome.is_some_and(Outcome::may_carry_words));
+        // M-106: "A read's redundancy report may carry a length in words ...; if words follow it must be their
+        // number, else 1."
+        let has_length = length != NO_LENGTH;
+        let may_have_length = outcome == Some(Outcome::Redundancy) && length < NO_LENGTH;
+        refusals.when(1, has_length && !may_have_length);
+        refusals.when(1, has_length && !words.is_empty() && length != words.len() as u64);
         refusals.when(2, !all_words(words));
         let Some(request) = self.working_request(channel, unit) else {
             refusals.when(11, in_range);
@@ -310,7 +339,7 @@ impl Pack {
         };
         // "or to a write or mark"; "on a channel not working for that unit the operation cannot be
         // judged".
-        refusals.when(1, !words.is_empty() && request.operation != Operation::Read);
+        refusals.when(1, (has_length || !words.is_empty()) && request.operation != Operation::Read);
         let Some(outcome) = outcome else {
             return refusals;
         };
@@ -795,6 +824,84 @@ mod tests {
         assert_eq!(pack.get(0), Ok(Got::Error(judged(10, [13, 1, 0, 9]))));
         assert_eq!(pack.get(0), Ok(Got::Error(judged(1, [13, 1, 0, 9]))));
         assert_eq!(pack.get(0), Ok(Got::Record(&[6, 7])));
+    }
+
+    /// Readings I8 and I9: where a length is refused 1, and that it is judged on an idle channel too.
+    #[test]
+    fn i9_lengths_that_are_refused() {
+        let mut pack = pack_with(SEQUENCE, 3, 1);
+        let report = |length, outcome, words: &'static [u64]| {
+            move |pack: &mut Pack| pack.report_length(0, 0, outcome, length, words).map(|_| ())
+        };
+        for works in [false, true] {
+            if works {
+                pack.ask(0, READ, 0).expect("an accepted ask");
+            }
+            for outcome in [GOOD, INCOMPLETE, FILE_MARK, END_OF_MEDIUM, 5] {
+                for length in [0, 2, 65_535] {
+                    refused(&pack, 1, report(length, outcome, &[]));
+                }
+            }
+            refused(&pack, 1, report(2, GOOD, &[4, 1]));
+            for length in [65_537, 131_072, u64::MAX] {
+                refused(&pack, 1, report(length, REDUNDANCY, &[]));
+            }
+            for length in [0, 1, 3, 65_535] {
+                refused(&pack, 1, report(length, REDUNDANCY, &[4, 1]));
+                refused(&pack, 1, report(length, REDUNDANCY, &[4, SPOILT]));
+            }
+            refused(&pack, 2, report(2, REDUNDANCY, &[4, SPOILT]));
+            if !works {
+                refused(&pack, 11, report(2, REDUNDANCY, &[4, 1]));
+                refused(&pack, 11, report(65_535, REDUNDANCY, &[]));
+            }
+        }
+        // A noise record's words are sized as all others are, and then dropped.
+        refused(&pack, 13, report(1, REDUNDANCY, &[4]));
+        let before = pack.area.clone();
+        for (length, words) in [(2, [4, 1].as_slice()), (0, &[]), (65_535, &[]), (3, &[4, 5, 1])] {
+            let reported = pack.report_length(0, 0, REDUNDANCY, length, words).expect("a booked report");
+            assert_eq!((reported.result, reported.found), (Booked::Repeated, None));
+        }
+        assert_eq!(pack.area, before);
+        let request = pack.channels[0].request(0).expect("a request");
+        assert_eq!((request.attempt, request.noise), (3, 2));
+
+        let mut output = pack_with(OUTPUT, 2, 2);
+        output.ask(0, MARK, 0).expect("an accepted ask");
+        refused(&output, 1, report(5, REDUNDANCY, &[]));
+        output.report(0, 0, GOOD, &[]).expect("a booked report");
+        refused(&output, 11, report(5, REDUNDANCY, &[]));
+        output.put(0, &[1, 2]).expect("an accepted put");
+        output.ask(0, WRITE, 0).expect("an accepted ask");
+        refused(&output, 1, report(2, REDUNDANCY, &[]));
+        refused(&output, 1, report(2, REDUNDANCY, &[1, 2]));
+    }
+
+    /// Readings I4 and I6: the position is the unit's, whatever file is open there; a kept block moves it not.
+    #[test]
+    fn i4_the_position_belongs_to_the_unit() {
+        let mut pack = pack_with(OUTPUT, 2, 2);
+        let at = |pack: &Pack| (pack.channels[0].positions[0].marks, pack.channels[0].positions[0].records);
+        for outcome in [GOOD, END_OF_MEDIUM, GOOD] {
+            pack.put(0, &[1, 2]).expect("an accepted put");
+            pack.ask(0, WRITE, 0).expect("an accepted ask");
+            pack.report(0, 0, outcome, &[]).expect("a booked report");
+        }
+        assert_eq!(at(&pack), (0, 3));
+        pack.close(0).expect("a closed file");
+        pack.open(&opening(5, 0, 0, 3, 1)).expect("an open file");
+        pack.ask(5, READ, 0).expect("an accepted ask");
+        for _ in 0..10 {
+            assert_eq!(pack.report(0, 0, REDUNDANCY, &[]).map(|told| told.result), Ok(Booked::Repeated));
+        }
+        assert_eq!(pack.report(0, 0, REDUNDANCY, &[]).map(|told| told.result), Ok(Booked::BackspaceThree));
+        pack.report(0, 0, INCOMPLETE, &[]).expect("a booked report");
+        let kept = pack.report(0, 0, INCOMPLETE, &[7]).expect("a booked report");
+        assert_eq!(kept.result, Booked::PermanentIncompleteWord);
+        assert_eq!(at(&pack), (0, 3));
+        pack.fresh(4, 10, [ALL_UNITS; CHANNELS]).expect("a fresh start");
+        assert_eq!(at(&pack), (0, 0));
     }
 
     /// Reading C17: a failed read, a close and a fresh start write nothing.

@@ -10,7 +10,8 @@
 //! - `0 m W mask mask mask mask mask`: fresh start.
 //! - `1 file channel unit flags B r`: open. `2 file`: close.
 //! - `3 file operation priority`: ask. Answer: `working`, 255 for none.
-//! - `4 channel unit outcome n word ..`: report with n words (0 to 64). Answer: `result error sum number
+//! - `4 channel unit outcome length n word ..`: report with a length (M-106; 65,536 for none) and n words (0 to
+//!   64). Answer: `result error sum number
 //!   sumread numberread working start count word ..`: the check error, never a read error, and directly after
 //!   it what the check of a delivered block found (M-102), four zeros if none was delivered; a permanent error
 //!   with words delivers one (M-101). The block that is shown is `count` words of the area from `start`, and
@@ -37,8 +38,9 @@
 //! sum, number, sum read, number read; these four stay when the error is told, and are 0 in output files. A
 //! sum takes four bytes. Setting a kind makes a slot of that kind with zeros; a field that the kind has not is
 //! 0 and is not set. Fields of a unit: 0 declared, 1 turn (0 idle, 1 waiting, 2 displaced, 3 working), 2
-//! operation, 3 priority, 4 attempts, 5 incomplete words; an idle unit has no others, and a turn set on it
-//! makes an ordinary read with zeros. Fields of the pool: 0 m, 1 W, 2 frozen, 3 free mask (modulo 2^32).
+//! operation, 3 priority, 4 attempts, 5 incomplete words, 6 noise (M-106: noise records passed by the request),
+//! 7 marks, 8 records, 9 noise met (0 or 1); an idle unit has no 2 to 6, and a turn set on it makes an ordinary
+//! read with zeros. Marks and records take two bytes. Fields of the pool: 0 m, 1 W, 2 frozen, 3 free mask (modulo 2^32).
 //!
 //! A state is printed as the four fields of the pool; for each channel its mark 0 and its mark 1, then each
 //! unit that is not all zero with its number before its fields, then 10; then each file that is not all
@@ -54,6 +56,7 @@ mod kept_masks;
 mod output_by_hand;
 mod random_changes;
 mod random_steps;
+mod reels_by_hand;
 mod script;
 mod spoilt;
 mod turns_by_hand;
@@ -76,6 +79,7 @@ pub fn pack_cases() -> Vec<Vec<u64>> {
     input_by_hand::add_cases(&mut script);
     found_by_hand::add_cases(&mut script);
     kept_blocks::add_cases(&mut script);
+    reels_by_hand::add_cases(&mut script);
     output_by_hand::add_cases(&mut script);
     turns_by_hand::add_cases(&mut script);
     random_steps::add_cases(&mut script);
@@ -211,7 +215,7 @@ mod tests {
             }
         });
         for (what, last) in [
-            ("result", 6),
+            ("result", 7),
             ("error of a report", 3),
             ("sum found", 1),
             ("number found", 1),

@@ -8,8 +8,8 @@ use crate::state::State;
 use crate::state_calls::{self as calls, Shown};
 use crate::state_fields::{
     set_file_field, set_pool_field, set_scan_mark, set_unit_field, state_numbers, AT, BLOCK_SIZE,
-    BUFFER_FIELDS, CHANNEL_MARKS, FILE_FIELDS, FOUND_NUMBER, FOUND_SUM, FREE, LOW, NUMBER, NUMBER_READ,
-    POOL_FIELDS, RECORD_LENGTH, SUM_READ, UNIT_FIELDS, WIDTH, WORDS,
+    BUFFER_FIELDS, CHANNEL_MARKS, FILE_FIELDS, FOUND_NUMBER, FOUND_SUM, FREE, LOW, MARKS, NUMBER,
+    NUMBER_READ, POOL_FIELDS, RECORDS, RECORD_LENGTH, SUM_READ, UNIT_FIELDS, WIDTH, WORDS,
 };
 use crate::text::{line_of, numbers_of};
 
@@ -46,7 +46,7 @@ pub const NO_UNIT: u64 = 255;
 /// One byte and two bytes.
 const BYTE: u64 = 255;
 const TWO_BYTES: u64 = 65_535;
-/// Four bytes, for the sums that a check found.
+/// Four bytes, for the sums that a check found and for the length of a report.
 const FOUR_BYTES: u64 = u32::MAX as u64;
 
 /// What the player keeps between commands.
@@ -122,8 +122,8 @@ impl Player {
             [ASK, file, operation, priority] => {
                 calls::ask(state, file, operation, priority).map(|working| vec![working.unwrap_or(NO_UNIT)])
             }
-            [REPORT, channel, unit, outcome, _, ref words @ ..] => {
-                let answer = calls::report(state, area, channel, unit, outcome, words)?;
+            [REPORT, channel, unit, outcome, length, _, ref words @ ..] => {
+                let answer = calls::report(state, area, channel, unit, outcome, length, words)?;
                 let working = answer.working_unit.unwrap_or(NO_UNIT);
                 let first = [answer.result, answer.check_error];
                 Ok(with_words(&[&first[..], &answer.found.in_order(), &[working]].concat(), &answer.block))
@@ -201,14 +201,14 @@ fn limits_of(command: &[u64]) -> Option<Vec<u64>> {
         FRESH => [&[BYTE][..], &[TWO_BYTES; 6]].concat(),
         OPEN => [&[BYTE; 4][..], &[TWO_BYTES; 2]].concat(),
         ASK => vec![BYTE; 3],
-        REPORT => vec![BYTE, BYTE, BYTE, MOST_WORDS],
+        REPORT => vec![BYTE, BYTE, BYTE, FOUR_BYTES, MOST_WORDS],
         PUT => vec![BYTE, MOST_WORDS],
         CLOSE | GET | SEAL | SKIP => vec![BYTE],
         FREEZE | THAW | START_OVER | PRINT_ROOM | PRINT_STATE | PRINT_SOUND => vec![],
         LENGTH => vec![ROOM as u64],
         WORD => vec![ROOM as u64 - 1, u64::MAX],
         FILE => vec![files, FILE_FIELDS - 1, file_limit(command.get(2).copied())],
-        UNIT => vec![channels, units, UNIT_FIELDS - 1, BYTE],
+        UNIT => vec![channels, units, UNIT_FIELDS - 1, unit_limit(command.get(3).copied())],
         SCAN_MARK => vec![channels, CHANNEL_MARKS - 1, BYTE],
         POOL => vec![POOL_FIELDS - 1, pool_limit(command.get(1).copied())],
         _ => return None,
@@ -220,6 +220,14 @@ fn pool_limit(field: Option<u64>) -> u64 {
     match field {
         Some(WIDTH) => TWO_BYTES,
         Some(FREE) => u64::MAX,
+        _ => BYTE,
+    }
+}
+
+/// The largest number that a field of a unit can take.
+fn unit_limit(field: Option<u64>) -> u64 {
+    match field {
+        Some(MARKS | RECORDS) => TWO_BYTES,
         _ => BYTE,
     }
 }
@@ -253,7 +261,7 @@ mod tests {
     #[test]
     fn the_whole_session() {
         answers(
-            "0 1 4 1 0 0 0 0; 1 0 0 0 0 2 1; 3 0 0 0; 4 0 0 0 1 5; 5 0; 5 0; 4 0 0 0 1 5",
+            "0 1 4 1 0 0 0 0; 1 0 0 0 0 2 1; 3 0 0 0; 4 0 0 0 65536 1 5; 5 0; 5 0; 4 0 0 0 65536 1 5",
             &["0", "0", "0 0", "0 1 0 5 1 0 0 255 0 0", "0 0 0 0 0 0 0 0 1 5", "0 1 0 0 0 0 0 0 0", "11"],
         );
     }
@@ -261,11 +269,11 @@ mod tests {
     #[test]
     fn what_a_write_and_a_get_show() {
         answers(
-            "0 2 4 3 0 0 0 0; 1 1 0 1 0 1 1; 1 0 0 0 13 3 1; 6 0 1 1; 6 0 1 2; 7 0; 3 0 1 1; 4 0 0 4 0",
+            "0 2 4 3 0 0 0 0; 1 1 0 1 0 1 1; 1 0 0 0 13 3 1; 6 0 1 1; 6 0 1 2; 7 0; 3 0 1 1; 4 0 0 4 65536 0",
             &["0", "0", "0", "0", "0", "0", "0 0", "0 4 0 0 0 0 0 255 4 3 1 2 786433"],
         );
         answers(
-            "0 2 4 3 0 0 0 0; 1 1 0 1 0 1 1; 1 0 0 0 4 3 2; 3 0 0 0; 4 0 0 0 4 7 8 9 2; 5 0; 5 0; 5 0; 8 0; 8 0; 2 0",
+            "0 2 4 3 0 0 0 0; 1 1 0 1 0 1 1; 1 0 0 0 4 3 2; 3 0 0 0; 4 0 0 0 65536 4 7 8 9 2; 5 0; 5 0; 5 0; 8 0; 8 0; 2 0",
             &[
                 "0",
                 "0",
@@ -282,13 +290,41 @@ mod tests {
         );
     }
 
+    /// A redundancy with a length of two words is noise; with one of three it is an attempt. The length is the
+    /// number of the words; 65,536 is none, and all above it are refused.
+    #[test]
+    fn lengths_and_positions() {
+        let unit = |fields: &str| {
+            let file = "0 1 0 0 0 0 0 0 2 1 0 1 0 0 1 0 0 0 0 0 0 0 0 0 0 0 0 0 0 0 0 0 0";
+            format!("1 4 0 0 0 0 0 {fields} 10{} {file} 16", " 0 0 10".repeat(4))
+        };
+        answers(
+            "0 1 4 1 0 0 0 0; 1 0 0 0 0 2 1; 3 0 0 0; 4 0 0 1 2 0; 19; 4 0 0 1 3 0; 4 0 0 1 1 1 9; 19",
+            &[
+                "0",
+                "0",
+                "0 0",
+                "0 0 0 0 0 0 0 0 0 0",
+                &unit("1 3 0 0 1 0 1 0 0 1"),
+                "0 0 0 0 0 0 0 0 0 0",
+                "0 0 0 0 0 0 0 0 0 0",
+                &unit("1 3 0 0 2 0 2 0 0 1"),
+            ],
+        );
+        answers(
+            "0 1 4 1 0 0 0 0; 1 0 0 0 0 2 1; 3 0 0 0; 4 0 0 1 65537 0; 4 0 0 0 1 1 9; 4 0 0 1 2 1 9; 4 0 1 1 2 0; \
+             14 0 0 7 32767; 14 0 0 8 32767; 20; 4 0 0 3 65536 0; 14 0 0 8 32768; 20",
+            &["0", "0", "0 0", "1", "1", "1", "11", "1", "0 3 0 0 0 0 0 255 0 0", "0"],
+        );
+    }
+
     /// Changes have no answer; the area is the first part of the room.
     #[test]
     fn changes_between_calls() {
         answers("9; 16 2 0; 15 4 0 9; 20; 15 4 0 10; 20; 10; 17; 20", &["0", "1", "0", "1", "1"]);
         answers("15 0 1 9; 20; 15 0 1 10; 20; 10; 15 0 0 10; 15 0 1 9; 20", &["1", "0", "1", "0"]);
         answers(
-            "11 3; 0 2 2 1 0 0 0 0; 11 4; 0 2 2 1 0 0 0 0; 1 0 0 0 1 2 2; 6 0 2 3 4; 11 3; 3 0 1 0; 4 0 0 0 0",
+            "11 3; 0 2 2 1 0 0 0 0; 11 4; 0 2 2 1 0 0 0 0; 1 0 0 0 1 2 2; 6 0 2 3 4; 11 3; 3 0 1 0; 4 0 0 0 65536 0",
             &["1", "0", "0", "0", "0 0", "1"],
         );
         answers(
@@ -311,7 +347,7 @@ mod tests {
     /// The mask of the free buffers: printed after the freeze, set by hand modulo 2^32, and judged.
     #[test]
     fn free_masks() {
-        let units = "0 0 0 1 0 0 0 0 0 1 1 0 0 0 0 0 10 0 0 10 0 0 10 0 0 10 0 0 10";
+        let units = "0 0 0 1 0 0 0 0 0 0 0 0 0 1 1 0 0 0 0 0 0 0 0 0 10 0 0 10 0 0 10 0 0 10 0 0 10";
         let file = "0 1 0 0 0 1 0 0 1 1 0 1 0 0 0 0 0 0 0 0 0 0 0 1 0 0 0 0 0 0 0 0 0";
         answers(
             "0 3 1 3 0 0 0 0; 19; 1 0 0 0 2 1 1; 19; 2 0; 9; 19",
@@ -349,8 +385,9 @@ mod tests {
             ("1 0 0 0 0 3", 6, 5),
             ("2", 1, 0),
             ("3 0 0 0 0", 3, 4),
-            ("4 0 0 0", 4, 3),
-            ("4 0 0 0 2 1", 6, 5),
+            ("4 0 0 0", 5, 3),
+            ("4 0 0 0 0", 5, 4),
+            ("4 0 0 0 65536 2 1", 7, 6),
             ("6", 2, 0),
             ("6 0 1", 3, 2),
             ("6 0 0 1", 2, 3),
@@ -373,7 +410,8 @@ mod tests {
             ("0 1 65536 0 0 0 0 0", 2, 65_535, 65_536),
             ("0 1 1 0 0 0 0 65536", 7, 65_535, 65_536),
             ("1 0 0 0 256 1 1", 4, 255, 256),
-            ("4 0 0 256 0", 3, 255, 256),
+            ("4 0 0 256 0 0", 3, 255, 256),
+            ("4 0 0 1 4294967296 0", 4, 4_294_967_295, 4_294_967_296),
             ("11 65", 1, 64, 65),
             ("12 64 0", 1, 63, 64),
             ("13 16 0 0", 1, 15, 16),
@@ -391,8 +429,12 @@ mod tests {
             ("13 0 31 65536", 3, 65_535, 65_536),
             ("14 5 0 0 0", 1, 4, 5),
             ("14 0 10 0 0", 2, 9, 10),
-            ("14 0 0 6 0", 3, 5, 6),
+            ("14 0 0 10 0", 3, 9, 10),
             ("14 0 0 4 256", 4, 255, 256),
+            ("14 0 0 6 256", 4, 255, 256),
+            ("14 0 0 7 65536", 4, 65_535, 65_536),
+            ("14 0 0 8 65536", 4, 65_535, 65_536),
+            ("14 0 0 9 256", 4, 255, 256),
             ("15 5 0 0", 1, 4, 5),
             ("15 0 2 0", 2, 1, 2),
             ("15 0 1 256", 3, 255, 256),
@@ -405,7 +447,7 @@ mod tests {
             complains(command, &format!("number {place} of command {kind} is over {limit}: {number}"));
         }
         complains("6 0 65", "more than 64 words: 65");
-        complains("4 0 0 0 18446744073709551615", "more than 64 words: 18446744073709551615");
+        complains("4 0 0 0 0 18446744073709551615", "more than 64 words: 18446744073709551615");
     }
 
     /// Complaints come before anything changes.

@@ -16,11 +16,13 @@ pub enum Profile {
     Refusals,
     /// Reads that fail for good, with words and without.
     Kept,
+    /// Where the reels stand: long runs of failures and of noise records.
+    Reel,
     /// Block numbers that pass 32,767.
     Wrap,
 }
 
-pub const PROFILES: [(&str, Profile); 8] = [
+pub const PROFILES: [(&str, Profile); 9] = [
     ("mixed", Profile::Mixed),
     ("retries", Profile::Retries),
     ("turns", Profile::Turns),
@@ -28,6 +30,7 @@ pub const PROFILES: [(&str, Profile); 8] = [
     ("malformed", Profile::Malformed),
     ("refusals", Profile::Refusals),
     ("kept", Profile::Kept),
+    ("reel", Profile::Reel),
     ("wrap", Profile::Wrap),
 ];
 
@@ -61,8 +64,8 @@ pub struct Habits {
     pub channels: u64,
     pub files: usize,
     /// In parts of a hundred: asks with priority, failures, marks and ends of medium among
-    /// reports, files with check words, damaged blocks among those delivered, failed reads with words, and
-    /// files for output.
+    /// reports, files with check words, damaged blocks among those delivered, failed reads with words,
+    /// redundancies of reads with a length, and files for output.
     pub priority: u64,
     pub redundancies: u64,
     pub incomplete_words: u64,
@@ -71,6 +74,7 @@ pub struct Habits {
     pub chosen: u64,
     pub damaged: u64,
     pub failed_words: u64,
+    pub lengths: u64,
     pub outputs: u64,
 }
 
@@ -95,6 +99,7 @@ impl Profile {
             chosen: 60,
             damaged: 10,
             failed_words: 25,
+            lengths: 20,
             outputs: 50,
         };
         match self {
@@ -106,6 +111,7 @@ impl Profile {
                 files: 6,
                 redundancies: 98,
                 incomplete_words: 1,
+                lengths: 10,
                 ..mixed
             },
             Profile::Turns => Habits {
@@ -151,6 +157,15 @@ impl Profile {
                 damaged: 40,
                 failed_words: 70,
                 outputs: 10,
+                ..mixed
+            },
+            Profile::Reel => Habits {
+                weights: weights([1, 60, 2, 300, 1200, 120, 30, 5, 60, 12, 30, 25, 1]),
+                channels: 2,
+                files: 7,
+                priority: 20,
+                chosen: 40,
+                outputs: 20,
                 ..mixed
             },
         }

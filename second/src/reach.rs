@@ -2,10 +2,13 @@
 
 use std::collections::BTreeMap;
 
-use crate::channel::{Channel, Operation, Request, Turn, UNITS};
+use crate::channel::{
+    Channel, Operation, Position, Request, Turn, CLEANER_PASSES, MOST_NOISE, NOISE_BELOW,
+    RECORDS_TO_BACKSPACE, UNITS,
+};
 use crate::file::Direction;
 use crate::frame::{answer_line, frame_of, refusals_of, Frame};
-use crate::pack::{Pack, FILES};
+use crate::pack::{Pack, FILES, NO_LENGTH};
 use crate::session::new_pack;
 use crate::word::LAST_NUMBER;
 
@@ -22,7 +25,8 @@ impl Default for Reach {
         let mut names = Vec::new();
         // There is no refusal 14.
         names.extend((1..=13).chain([15]).map(|number| format!("refusal {number}")));
-        names.extend((0..=6).map(|number| format!("result {number}")));
+        names.extend((0..=7).map(|number| format!("result {number}")));
+        names.extend(CLEANER_PASSES.map(|attempt| format!("backspace three, attempt {attempt}")));
         names.extend((1..=3).map(|number| format!("check error {number}")));
         names.extend((0..=4).map(|number| format!("get {number}")));
         // M-101: 4 and 10 are errors of reads.
@@ -44,11 +48,28 @@ const NOT_KEPT: &str = "permanent read error without words";
 const DROPPED: &str = "words of a repeated read dropped";
 const FIRST_INCOMPLETE: &str = "kept block of the first incomplete word, at attempt 101";
 const SKIPPED: &str = "kept block skipped before its error was told";
+const BESIDE_RECORDS: &str = "attempt of the cleaner's list due after two records";
+const BESIDE_NOISE: &str = "attempt of the cleaner's list due after three records and noise";
+const BESIDE_ATTEMPT: &str = "attempt just beside the cleaner's list due after three records";
+const BACKSPACE_INCOMPLETE: &str = "backspace three after an incomplete word";
+const BACKSPACE_STOPPED: &str = "backspace three of an operation that does not go on";
+const NOISE: &str = "noise record passed";
+const NOISE_BEFORE: &str = "noise record passed at an attempt of the cleaner's list";
+const NOISE_LAST: &str = "noise record passed at attempt 101";
+const NOISE_WORDS: &str = "noise record passed with words";
+const NOISE_STOPPED: &str = "noise record passed by an operation that does not go on";
+const NOISE_PAST: &str = "noise record past the hundred";
+const MEASURED: &str = "redundancy with a length of three words or more";
+const MARK_AGAIN: &str = "mark behind records";
+const LENGTH_OUTCOME: &str = "length with another outcome";
+const LENGTH_COUNT: &str = "length that is not the number of the words";
+const LENGTH_WRITE: &str = "length to a write or mark";
+const LENGTH_IDLE: &str = "length to a channel that does not work for the unit";
 const NO_CHECK_WORD: &str = "block delivered without a check word";
 const NOT_CHOSEN: &str = "block good, though a field that is not chosen differs";
 const WRAP_INPUT: &str = "block number 32,767 passed on input";
 const WRAP_OUTPUT: &str = "block number 32,767 passed on output";
-const OTHERS: [&str; 16] = [
+const OTHERS: [&str; 33] = [
     DISPLACEMENT,
     FREEZE,
     PRIORITY_PAST,
@@ -61,6 +82,23 @@ const OTHERS: [&str; 16] = [
     DROPPED,
     FIRST_INCOMPLETE,
     SKIPPED,
+    BESIDE_RECORDS,
+    BESIDE_NOISE,
+    BESIDE_ATTEMPT,
+    BACKSPACE_INCOMPLETE,
+    BACKSPACE_STOPPED,
+    NOISE,
+    NOISE_BEFORE,
+    NOISE_LAST,
+    NOISE_WORDS,
+    NOISE_STOPPED,
+    NOISE_PAST,
+    MEASURED,
+    MARK_AGAIN,
+    LENGTH_OUTCOME,
+    LENGTH_COUNT,
+    LENGTH_WRITE,
+    LENGTH_IDLE,
     NO_CHECK_WORD,
     NOT_CHOSEN,
     WRAP_INPUT,
@@ -107,13 +145,18 @@ impl Reach {
         }
         let asked = frame.as_ref().and_then(|frame| reported_request(pack, frame));
         let untold = frame.as_ref().is_some_and(|frame| skips_a_read_error(pack, frame));
+        if let Some(frame) = &frame {
+            self.see_length(asked.as_ref(), frame);
+        }
         let answer = answer_line(pack, line);
         let bytes = bytes_of(&answer);
         match (bytes[0], frame) {
-            (0, Some(Frame::Report { channel, unit, words, .. })) => {
+            (0, Some(Frame::Report { channel, unit, outcome, length, words })) => {
                 self.see_report(pack, channel, unit, &bytes);
-                if let Some(request) = &asked {
-                    self.see_failed_read(pack, [channel, unit], request, &words, &bytes);
+                if let Some(asked) = &asked {
+                    self.see_failed_read(pack, [channel, unit], &asked.request, &words, &bytes);
+                    let goes_on = pack.channels[channel as usize].working_unit() == Some(unit as usize);
+                    self.see_reel(asked, [outcome, length], &words, bytes[1], goes_on);
                 }
             }
             (0, Some(Frame::Get { .. })) => {
@@ -189,6 +232,71 @@ impl Reach {
         }
     }
 
+    /// An accepted report of a request as it stood, and where its unit's reel stood (M-106).
+    fn see_reel(
+        &mut self,
+        asked: &Asked,
+        [outcome, length]: [u64; 2],
+        words: &[u64],
+        result: u8,
+        goes_on: bool,
+    ) {
+        let Asked { request, position } = asked;
+        if result == 3 && position.records > 0 {
+            self.count(MARK_AGAIN);
+        }
+        let failed = request.operation == Operation::Read && [1, 2].contains(&outcome);
+        if !failed {
+            return;
+        }
+        let short = length < NOISE_BELOW;
+        let noise = short && request.noise < MOST_NOISE;
+        let due = request.attempt + u64::from(!noise);
+        let listed = CLEANER_PASSES.contains(&due);
+        let records = position.records;
+        if noise {
+            self.count(NOISE);
+            self.count_if(NOISE_BEFORE, listed && records >= RECORDS_TO_BACKSPACE);
+            self.count_if(NOISE_LAST, due == 101);
+            self.count_if(NOISE_WORDS, !words.is_empty());
+            self.count_if(NOISE_STOPPED, !goes_on);
+            return;
+        }
+        self.count_if(NOISE_PAST, short);
+        self.count_if(MEASURED, !short && length != NO_LENGTH);
+        self.count_if(BESIDE_RECORDS, listed && records == 2 && !position.noise_met);
+        self.count_if(BESIDE_NOISE, listed && records >= RECORDS_TO_BACKSPACE && position.noise_met);
+        let beside = CLEANER_PASSES.iter().any(|&pass| due + 1 == pass || due == pass + 1) || due == 102;
+        self.count_if(BESIDE_ATTEMPT, beside && records >= RECORDS_TO_BACKSPACE && !position.noise_met);
+        if result == 7 {
+            self.count(&format!("backspace three, attempt {due}"));
+            self.count_if(BACKSPACE_INCOMPLETE, outcome == 2);
+            self.count_if(BACKSPACE_STOPPED, !goes_on);
+        }
+    }
+
+    /// A frame that has a length, right or wrong, before it is answered.
+    fn see_length(&mut self, asked: Option<&Asked>, frame: &Frame) {
+        let Frame::Report { outcome, length, words, .. } = frame else {
+            return;
+        };
+        if *length == NO_LENGTH {
+            return;
+        }
+        let right = words.is_empty() || *length == words.len() as u64;
+        let other = asked.is_some_and(|asked| asked.request.operation != Operation::Read);
+        self.count_if(LENGTH_OUTCOME, *outcome != 1 && right);
+        self.count_if(LENGTH_COUNT, *outcome == 1 && !right && !other);
+        self.count_if(LENGTH_WRITE, *outcome == 1 && right && other);
+        self.count_if(LENGTH_IDLE, *outcome == 1 && right && asked.is_none());
+    }
+
+    fn count_if(&mut self, name: &str, came_about: bool) {
+        if came_about {
+            self.count(name);
+        }
+    }
+
     /// What was found in a block that was delivered: worked-out sum and number, and those read.
     fn see_found(&mut self, pack: &Pack, channel: u64, unit: u64, answer: &[u8]) {
         let file = pack.file_of_unit(channel, unit).and_then(|file| pack.files[file].as_ref());
@@ -229,11 +337,19 @@ impl Reach {
     }
 }
 
+/// A request that is at work, and where the reel of its unit stands.
+struct Asked {
+    request: Request,
+    position: Position,
+}
+
 /// The request that a report is for, if its channel works for it.
-fn reported_request(pack: &Pack, frame: &Frame) -> Option<Request> {
+fn reported_request(pack: &Pack, frame: &Frame) -> Option<Asked> {
     match *frame {
         Frame::Report { channel, unit, .. } => {
-            pack.channels.get(channel as usize)?.working_request(unit).cloned()
+            let channel = pack.channels.get(channel as usize)?;
+            let request = channel.working_request(unit)?.clone();
+            Some(Asked { request, position: channel.positions[unit as usize] })
         }
         _ => None,
     }
@@ -278,7 +394,7 @@ mod tests {
     fn everything_is_missing_at_first() {
         let reach = Reach::default();
         assert_eq!(reach.missing().len(), reach.counts.len());
-        assert_eq!(reach.counts.len(), 14 + 7 + 3 + 5 + 5 + 16);
+        assert_eq!(reach.counts.len(), 14 + 8 + 9 + 3 + 5 + 5 + 33);
         assert!(!reach.missing().contains(&"refusal 14"));
         assert_eq!(reach.lines().lines().count(), reach.counts.len() + 1);
     }

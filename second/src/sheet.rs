@@ -178,6 +178,31 @@ mod tests {
         gives(session, &answers.replacen("1\n00\n00\n", "1\n01\n00\n", 1), &format!("9\n{requests}"));
     }
 
+    /// A result 07 leaves its request unanswered, and a noise record too; both reports count.
+    #[test]
+    fn backspace_three_is_no_answer() {
+        let record = "03000000\n040000000000000005\n0800\n";
+        let failure = "04000001\n";
+        let opening = "0001000400010000000000000000\n010000000000020001\n";
+        let session = format!(
+            "{opening}{}03000000\n{}040000010001\n040000000000000005\n0800\n03000000\n{}",
+            record.repeat(3),
+            failure.repeat(11),
+            failure.repeat(11),
+        );
+        let good = |number| format!("000100000000050{number:03X}000000000000FF\n");
+        let answers = format!(
+            "00\n00\n0000\n{}00\n0000\n{}00\n0000\n{}00\n0000\n{}00070000\n00000000\n{}00\n0000\n{}",
+            good(1),
+            good(2),
+            good(3),
+            "00000000\n".repeat(10),
+            good(4),
+            "00000000\n".repeat(11),
+        );
+        gives(&session, &answers, "0\n0 0 3 4 1\n0 0 6 7 1\n0 0 9 10 1\n0 0 12 25 13\n0 0 27 0 11\n");
+    }
+
     /// The session has three lines and its answers are 00, 01 and 00.
     #[test]
     fn the_first_line_that_differs() {

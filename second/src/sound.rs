@@ -3,7 +3,7 @@
 
 use std::collections::BTreeSet;
 
-use crate::channel::{Operation, Request, Turn, UNITS};
+use crate::channel::{Operation, Position, Request, Turn, LAST_COUNT, MOST_NOISE, UNITS};
 use crate::pack::{CHANNELS, MOST_BUFFERS, MOST_WIDTH};
 use crate::state::{Buffer, FileState, Slot, State};
 use crate::word::{ones, Fields, HALF_BITS, LAST_NUMBER};
@@ -17,7 +17,7 @@ const READ_ERRORS: [u64; 3] = [0, 4, 10];
 type Holds = fn(&State) -> bool;
 
 /// The clauses, each with the test that a state must pass.
-const CLAUSES: [(Clause, Holds); 33] = [
+const CLAUSES: [(Clause, Holds); 36] = [
     (Clause::PoolSizes, pool_sizes),
     (Clause::NothingBeforeFresh, nothing_before_fresh),
     (Clause::ScanMarks, scan_marks),
@@ -32,6 +32,9 @@ const CLAUSES: [(Clause, Holds); 33] = [
     (Clause::NothingRead, nothing_read),
     (Clause::ErrorsAsFound, errors_as_found),
     (Clause::IncompleteWords, incomplete_words),
+    (Clause::Positions, positions),
+    (Clause::UndeclaredPositions, undeclared_positions),
+    (Clause::NoisePassed, noise_passed),
     (Clause::ClosedFiles, closed_files),
     (Clause::MissingBuffers, missing_buffers),
     (Clause::BlockOrders, block_orders),
@@ -70,6 +73,9 @@ pub enum Clause {
     NothingRead,
     ErrorsAsFound,
     IncompleteWords,
+    Positions,
+    UndeclaredPositions,
+    NoisePassed,
     ClosedFiles,
     MissingBuffers,
     BlockOrders,
@@ -114,7 +120,7 @@ fn pool_sizes(state: &State) -> bool {
 
 /// "Before the first fresh start: no buffers (m and W are 0), no units"; so no file is open either.
 fn nothing_before_fresh(state: &State) -> bool {
-    let declared = state.channels.iter().flat_map(|channel| &channel.units).any(|unit| unit.declared);
+    let declared = state.units().any(|unit| unit.declared);
     !is_before_fresh(state) || (!declared && state.open_files().count() == 0)
 }
 
@@ -211,6 +217,26 @@ fn incomplete_words(state: &State) -> bool {
     state.requests().all(|(_, _, request)| {
         let most = u64::from(request.operation == Operation::Read);
         request.incomplete_words <= most
+    })
+}
+
+/// M-106: "file marks passed, and records since the last mark, each held at 32,767".
+fn positions(state: &State) -> bool {
+    state.units().all(|unit| unit.position.marks.max(unit.position.records) <= LAST_COUNT)
+}
+
+/// The position of an undeclared unit is zero, and no noise was met there.
+fn undeclared_positions(state: &State) -> bool {
+    state.units().all(|unit| unit.declared || unit.position == Position::default())
+}
+
+/// "At most 100 are passed in one operation", a read, of a unit that has met noise then.
+fn noise_passed(state: &State) -> bool {
+    state.units().all(|unit| match &unit.request {
+        Some(Request { operation, noise: 1..=MOST_NOISE, .. }) => {
+            *operation == Operation::Read && unit.position.noise_met
+        }
+        request => request.as_ref().is_none_or(|request| request.noise == 0),
     })
 }
 
@@ -373,7 +399,7 @@ mod tests {
     const CLOSED: usize = 5;
 
     fn request(operation: Operation, turn: Turn) -> Option<Request> {
-        Some(Request { operation, priority: false, turn, attempt: 1, incomplete_words: 0 })
+        Some(Request { operation, priority: false, turn, attempt: 1, incomplete_words: 0, noise: 0 })
     }
 
     fn buffer(number: u64, slot: Slot) -> Buffer {
@@ -418,10 +444,16 @@ mod tests {
         for unit in 0..5 {
             state.channels[0].units[unit].declared = true;
         }
-        state.channels[1].units[2] =
-            UnitState { declared: true, request: request(Operation::Write, Turn::Working) };
-        state.channels[2].units[0] =
-            UnitState { declared: true, request: request(Operation::Read, Turn::Working) };
+        state.channels[1].units[2] = UnitState {
+            declared: true,
+            request: request(Operation::Write, Turn::Working),
+            ..Default::default()
+        };
+        state.channels[2].units[0] = UnitState {
+            declared: true,
+            request: request(Operation::Read, Turn::Working),
+            ..Default::default()
+        };
         state.files[INPUT] = FileState {
             sequence: true,
             check: true,
@@ -668,6 +700,62 @@ mod tests {
             breaks(Clause::IncompleteWords, |state| {
                 request_of(state, 1, 2).operation = operation;
                 request_of(state, 1, 2).incomplete_words = 1;
+            });
+        }
+    }
+
+    #[test]
+    fn positions() {
+        for (channel, unit) in [(0, 0), (0, 4), (2, 0)] {
+            let position = |state: &mut State, marks, records| {
+                state.channels[channel].units[unit].position = Position { marks, records, noise_met: false };
+            };
+            keeps(|state| position(state, 32_767, 32_767));
+            breaks(Clause::Positions, |state| position(state, 32_768, 0));
+            breaks(Clause::Positions, |state| position(state, 0, 32_768));
+            breaks(Clause::Positions, |state| position(state, 3, u64::MAX));
+        }
+    }
+
+    #[test]
+    fn undeclared_positions() {
+        let changes: [fn(&mut Position); 3] = [
+            |position| position.marks = 1,
+            |position| position.records = 1,
+            |position| position.noise_met = true,
+        ];
+        for change in changes {
+            for (channel, unit) in [(0, 5), (3, 0), (4, 9)] {
+                breaks(Clause::UndeclaredPositions, |state| {
+                    change(&mut state.channels[channel].units[unit].position);
+                });
+            }
+            keeps(|state| change(&mut state.channels[0].units[4].position));
+            let mut state = State::default();
+            change(&mut state.channels[4].units[9].position);
+            assert_eq!(broken_clauses(&state), [Clause::UndeclaredPositions]);
+        }
+    }
+
+    #[test]
+    fn noise_passed() {
+        let change = |state: &mut State, noise, noise_met| {
+            request_of(state, 2, 0).noise = noise;
+            state.channels[2].units[0].position.noise_met = noise_met;
+        };
+        keeps(|state| change(state, 0, true));
+        for noise in [1, 100] {
+            keeps(|state| change(state, noise, true));
+            breaks(Clause::NoisePassed, |state| change(state, noise, false));
+        }
+        for noise in [101, 255, u64::MAX] {
+            breaks(Clause::NoisePassed, |state| change(state, noise, true));
+        }
+        for operation in [Operation::Write, Operation::Mark] {
+            breaks(Clause::NoisePassed, |state| {
+                request_of(state, 1, 2).operation = operation;
+                request_of(state, 1, 2).noise = 1;
+                state.channels[1].units[2].position.noise_met = true;
             });
         }
     }

@@ -1,7 +1,7 @@
 //! A state in the form that a caller gets and passes back: numbers in their places. A caller can
 //! write any number there, so nothing is taken for granted here.
 
-use crate::channel::{Request, UNITS};
+use crate::channel::{Position, Request, UNITS};
 use crate::pack::{CHANNELS, FILES};
 use crate::word::{Chosen, Fields};
 
@@ -60,6 +60,7 @@ pub struct FileState {
 pub struct UnitState {
     pub declared: bool,
     pub request: Option<Request>,
+    pub position: Position,
 }
 
 #[derive(Clone, Debug, Default, PartialEq, Eq)]
@@ -138,6 +139,11 @@ impl State {
     pub fn unit(&self, channel: u64, unit: u64) -> Option<&UnitState> {
         let channel = self.channels.get(usize::try_from(channel).ok()?)?;
         channel.units.get(usize::try_from(unit).ok()?)
+    }
+
+    /// Every unit.
+    pub fn units(&self) -> impl Iterator<Item = &UnitState> {
+        self.channels.iter().flat_map(|channel| &channel.units)
     }
 
     /// The open files that are bound to a unit.

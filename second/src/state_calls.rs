@@ -71,17 +71,19 @@ pub fn ask(state: &mut State, file: u64, operation: u64, priority: u64) -> Resul
     })
 }
 
+/// A length of `NO_LENGTH` is none.
 pub fn report(
     state: &mut State,
     area: &mut [u64],
     channel: u64,
     unit: u64,
     outcome: u64,
+    length: u64,
     words: &[u64],
 ) -> Result<ReportAnswer, u64> {
     with_area(state, area, |pack| {
         let start = oldest_block_start(pack, channel, unit);
-        let reported = pack.report(channel, unit, outcome, words)?;
+        let reported = pack.report_length(channel, unit, outcome, length, words)?;
         let block = match start {
             Some(start) if !reported.block.is_empty() => Shown { start, words: reported.block.to_vec() },
             _ => Shown::default(),
@@ -186,7 +188,7 @@ fn found_start(pack: &Pack, file: u64) -> u64 {
 #[cfg(test)]
 mod tests {
     use super::*;
-    use crate::pack::{CHECK, DOUBLE, OUTPUT, SEQUENCE};
+    use crate::pack::{CHECK, DOUBLE, NO_LENGTH, OUTPUT, SEQUENCE};
 
     const READ: u64 = 0;
     const WRITE: u64 = 1;
@@ -206,7 +208,7 @@ mod tests {
         open(&mut state, &opening(2, 0, 1, 1)).expect("an open");
         for words in [[1, 2].as_slice(), &[3, 4, 5]] {
             ask(&mut state, 0, READ, 0).expect("an ask");
-            report(&mut state, &mut area, 0, 0, 0, words).expect("a report");
+            report(&mut state, &mut area, 0, 0, 0, NO_LENGTH, words).expect("a report");
         }
         get(&mut state, &mut area, 0).expect("a get");
         put(&mut state, &mut area, 1, &[6]).expect("a put");
@@ -220,7 +222,7 @@ mod tests {
             1 => open(state, &opening(3, 0, 1, 1)),
             2 => close(state, 0),
             3 => ask(state, 2, READ, 0).map(|_| ()),
-            4 => report(state, area, 0, 3, 0, &[]).map(|_| ()),
+            4 => report(state, area, 0, 3, 0, NO_LENGTH, &[]).map(|_| ()),
             5 => get(state, area, 0).map(|_| ()),
             6 => put(state, area, 1, &[7]),
             7 => seal(state, area, 1),
@@ -359,7 +361,7 @@ mod tests {
         let block = Shown { start: 8, words: vec![6, 6 << 18 | 1] };
         let found = Fields::default();
         let answer = ReportAnswer { result: 1, check_error: 0, found, working_unit: None, block };
-        assert_eq!(report(&mut state, &mut area, 0, 1, 0, &[]), Ok(answer));
+        assert_eq!(report(&mut state, &mut area, 0, 1, 0, NO_LENGTH, &[]), Ok(answer));
         assert_eq!(area[..11], [1, 2, 102, 103, 3, 4, 5, 107, 6, 1_572_865, 110]);
         assert!(area[10..].iter().copied().eq(110..122));
     }

@@ -1,6 +1,6 @@
 //! The fields of a state by number: how a script changes one, and how a state is printed.
 
-use crate::channel::{Operation, Request, Turn, UNITS};
+use crate::channel::{Operation, Position, Request, Turn, UNITS};
 use crate::pack::FILES;
 use crate::state::{Buffer, ChannelState, FileState, Slot, State, UnitState};
 use crate::word::Fields;
@@ -49,7 +49,11 @@ pub const OPERATION: u64 = 2;
 pub const PRIORITY: u64 = 3;
 pub const ATTEMPTS: u64 = 4;
 pub const INCOMPLETE: u64 = 5;
-pub const UNIT_FIELDS: u64 = 6;
+pub const NOISE: u64 = 6;
+pub const MARKS: u64 = 7;
+pub const RECORDS: u64 = 8;
+pub const NOISE_MET: u64 = 9;
+pub const UNIT_FIELDS: u64 = 10;
 
 /// The kinds of turns.
 pub const IDLE: u64 = 0;
@@ -129,6 +133,10 @@ pub fn set_unit_field(unit: &mut UnitState, field: u64, value: u64) {
         (PRIORITY, Some(request)) => request.priority = value != 0,
         (ATTEMPTS, Some(request)) => request.attempt = value,
         (INCOMPLETE, Some(request)) => request.incomplete_words = value,
+        (NOISE, Some(request)) => request.noise = value,
+        (MARKS, _) => unit.position.marks = value,
+        (RECORDS, _) => unit.position.records = value,
+        (NOISE_MET, _) => unit.position.noise_met = value != 0,
         _ => {}
     }
 }
@@ -144,8 +152,14 @@ fn set_turn(unit: &mut UnitState, kind: u64) {
             return;
         }
     };
-    let zeros =
-        Request { operation: Operation::Read, priority: false, turn, attempt: 0, incomplete_words: 0 };
+    let zeros = Request {
+        operation: Operation::Read,
+        priority: false,
+        turn,
+        attempt: 0,
+        incomplete_words: 0,
+        noise: 0,
+    };
     unit.request.get_or_insert(zeros).turn = turn;
 }
 
@@ -191,19 +205,24 @@ fn buffer_fields(buffer: &Buffer) -> [u64; BUFFER_FIELDS as usize] {
     [buffer.number, kind, words, at, errors[0], errors[1], sum, number, sum_read, number_read]
 }
 
-/// The fields of a unit in their order; an idle one has zeros.
-pub fn unit_fields(unit: &UnitState) -> [u64; 6] {
-    let declared = u64::from(unit.declared);
-    let Some(request) = &unit.request else {
-        return [declared, IDLE, 0, 0, 0, 0];
-    };
+/// The fields of a unit in their order; an idle one has zeros where a request has its own.
+pub fn unit_fields(unit: &UnitState) -> [u64; UNIT_FIELDS as usize] {
+    let [kind, operation, priority, attempt, incomplete_words, noise] =
+        unit.request.as_ref().map_or([IDLE; 6], request_fields);
+    let Position { marks, records, noise_met } = unit.position;
+    let [declared, met] = [unit.declared, noise_met].map(u64::from);
+    [declared, kind, operation, priority, attempt, incomplete_words, noise, marks, records, met]
+}
+
+/// `turn operation priority attempts incomplete noise` of a request.
+pub fn request_fields(request: &Request) -> [u64; 6] {
     let kind = match request.turn {
         Turn::Waiting => WAITING,
         Turn::Displaced => DISPLACED,
         Turn::Working => WORKING,
     };
-    let priority = u64::from(request.priority);
-    [declared, kind, request.operation.number(), priority, request.attempt, request.incomplete_words]
+    let [operation, priority] = [request.operation.number(), u64::from(request.priority)];
+    [kind, operation, priority, request.attempt, request.incomplete_words, request.noise]
 }
 
 /// The fields of the pool in their order.
@@ -323,14 +342,18 @@ mod tests {
             }
             unit_fields(unit)
         };
-        let counts = [(OPERATION, 1), (PRIORITY, 1), (ATTEMPTS, 50), (INCOMPLETE, 2)];
-        assert_eq!(set(&mut unit, &counts), [0; 6]);
-        assert_eq!(set(&mut unit, &[(TURN_KIND, WAITING)]), [0, WAITING, 0, 0, 0, 0]);
-        assert_eq!(set(&mut unit, &counts), [0, WAITING, 1, 1, 50, 2]);
-        assert_eq!(set(&mut unit, &[(TURN_KIND, WORKING), (DECLARED, 1)]), [1, WORKING, 1, 1, 50, 2]);
-        assert_eq!(set(&mut unit, &[(TURN_KIND, DISPLACED), (OPERATION, 7)]), [1, DISPLACED, 2, 1, 50, 2]);
-        assert_eq!(set(&mut unit, &[(TURN_KIND, 4)]), [1, IDLE, 0, 0, 0, 0]);
-        assert_eq!(set(&mut unit, &[(TURN_KIND, WORKING)]), [1, WORKING, 0, 0, 0, 0]);
+        let counts = [(OPERATION, 1), (PRIORITY, 1), (ATTEMPTS, 50), (INCOMPLETE, 2), (NOISE, 60)];
+        assert_eq!(set(&mut unit, &counts), [0; 10]);
+        assert_eq!(set(&mut unit, &[(TURN_KIND, WAITING)]), [0, WAITING, 0, 0, 0, 0, 0, 0, 0, 0]);
+        assert_eq!(set(&mut unit, &counts), [0, WAITING, 1, 1, 50, 2, 60, 0, 0, 0]);
+        let turned = set(&mut unit, &[(TURN_KIND, WORKING), (DECLARED, 1)]);
+        assert_eq!(turned, [1, WORKING, 1, 1, 50, 2, 60, 0, 0, 0]);
+        let turned = set(&mut unit, &[(TURN_KIND, DISPLACED), (OPERATION, 7), (MARKS, 3), (RECORDS, 4)]);
+        assert_eq!(turned, [1, DISPLACED, 2, 1, 50, 2, 60, 3, 4, 0]);
+        let idle = set(&mut unit, &[(TURN_KIND, 4), (NOISE_MET, 200)]);
+        assert_eq!(idle, [1, IDLE, 0, 0, 0, 0, 0, 3, 4, 1]);
+        assert_eq!(set(&mut unit, &[(TURN_KIND, WORKING)]), [1, WORKING, 0, 0, 0, 0, 0, 3, 4, 1]);
+        assert_eq!(set(&mut unit, &[(NOISE_MET, 0), (RECORDS, 0)]), [1, WORKING, 0, 0, 0, 0, 0, 3, 0, 0]);
     }
 
     /// What is all zero is left out.
@@ -350,8 +373,8 @@ mod tests {
         set_unit_field(&mut state.channels[1].units[9], DECLARED, 1);
         set_unit_field(&mut state.channels[4].units[0], TURN_KIND, WORKING);
         set_file_field(&mut state.files[15], NUMBER, 2);
-        let mut expected = vec![3, 5, 0, 4_294_967_295, 0, 0, 10, 7, 6, 9, 1, 0, 0, 0, 0, 0, 10];
-        expected.extend([0, 0, 10, 0, 200, 10, 0, 0, 0, 0, 3, 0, 0, 0, 0, 10, 15]);
+        let mut expected = vec![3, 5, 0, 4_294_967_295, 0, 0, 10, 7, 6, 9, 1, 0, 0, 0, 0, 0, 0, 0, 0, 0, 10];
+        expected.extend([0, 0, 10, 0, 200, 10, 0, 0, 0, 0, 3, 0, 0, 0, 0, 0, 0, 0, 0, 10, 15]);
         expected.extend([0, 0, 0, 0, 0, 0, 0, 0, 0, 0, 2, 0]);
         expected.extend([0; 2 * BUFFER_FIELDS as usize]);
         expected.push(16);

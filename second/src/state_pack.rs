@@ -38,6 +38,7 @@ fn channel_of(state: &ChannelState, frozen: bool) -> Channel {
     Channel {
         declared: std::array::from_fn(|unit| state.units[unit].declared),
         requests: std::array::from_fn(|unit| state.units[unit].request.clone()),
+        positions: std::array::from_fn(|unit| state.units[unit].position),
         scan_begin: state.mark as usize,
         priority_begin: state.priority_mark as usize,
         frozen,
@@ -45,8 +46,11 @@ fn channel_of(state: &ChannelState, frozen: bool) -> Channel {
 }
 
 fn channel_state(channel: &Channel) -> ChannelState {
-    let unit_state =
-        |unit: usize| UnitState { declared: channel.declared[unit], request: channel.requests[unit].clone() };
+    let unit_state = |unit: usize| UnitState {
+        declared: channel.declared[unit],
+        request: channel.requests[unit].clone(),
+        position: channel.positions[unit],
+    };
     let units: [UnitState; UNITS] = std::array::from_fn(unit_state);
     ChannelState { mark: channel.scan_begin as u64, priority_mark: channel.priority_begin as u64, units }
 }
@@ -136,7 +140,7 @@ fn buffer_state(file: &File, buffer: usize) -> Buffer {
 #[cfg(test)]
 mod tests {
     use super::*;
-    use crate::channel::{Operation, Request, Turn};
+    use crate::channel::{Operation, Position, Request, Turn};
     use crate::sound::is_sound;
     use crate::word::Fields;
 
@@ -227,11 +231,15 @@ mod tests {
             turn: Turn::Displaced,
             attempt: 101,
             incomplete_words: 1,
+            noise: 100,
         };
+        let position = Position { marks: 32_767, records: 5, noise_met: true };
         state.channels[3].units[7].request = Some(request.clone());
+        state.channels[3].units[7].position = position;
         state.frozen = true;
         let pack = there_and_back(&state);
         assert_eq!(pack.channels[3].request(7), Some(&request));
+        assert_eq!(pack.channels[3].positions[7], position);
         assert_eq!(pack.file(15).and_then(|file| file.taken), Some(4));
     }
 

@@ -4,7 +4,7 @@ use crate::channel::Operation;
 use crate::file::Direction;
 use crate::frame::Frame;
 use crate::generate::{Generator, ALL_UNITS};
-use crate::pack::{Opening, CHANNELS, CHECK, DOUBLE, OUTPUT, SEQUENCE};
+use crate::pack::{Opening, CHANNELS, CHECK, DOUBLE, NO_LENGTH, OUTPUT, SEQUENCE};
 use crate::word::LAST_NUMBER;
 
 /// So many frames let the profile `wrap` pass block number 32,767 on input and on output.
@@ -52,7 +52,7 @@ impl Generator {
         let delivered = outcome == 0 && direction == Direction::Input;
         let words = if delivered { self.delivered_block(0) } else { Vec::new() };
         self.blocks_left = self.blocks_left.saturating_sub(u64::from(delivered));
-        Frame::Report { channel, unit, outcome, words }
+        Frame::Report { channel, unit, outcome, length: NO_LENGTH, words }
     }
 
     fn wrap_input(&mut self) -> Frame {

@@ -161,10 +161,10 @@ fn an_overlong_line_gives_a_single_01_wherever_it_is_cut() {
     }
 }
 
-/// The longest good line, a report of 1,024 words to an idle channel, is refused 11 and not 1.
+/// The longest good line, a report of 1,024 words with their number to an idle channel, is refused 11 and not 1.
 #[test]
 fn the_longest_line_is_whole_wherever_it_is_cut() {
-    let session = format!("04000000{}\n", "0".repeat(LONGEST_LINE - 8)).into_bytes();
+    let session = format!("040000010400{}\n", "0".repeat(LONGEST_LINE - 12)).into_bytes();
     assert_eq!(session.len(), LONGEST_LINE + 1);
     for place in (0..=session.len()).filter(|place| place % 101 < 2 || place.abs_diff(LONGEST_LINE) < 20) {
         assert_eq!(played(&cut_at(&session, &[place])).0, b"0B\n", "cut at {place}");

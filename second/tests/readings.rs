@@ -1249,6 +1249,350 @@ fn g10_the_turns_are_as_without_words() {
     }
 }
 
+/// Document 02, M-106. A report of a redundancy with a length.
+fn measured(channel: u8, unit: u8, length: u16, block: &[u64]) -> String {
+    format!("04{channel:02X}{unit:02X}01{length:04X}{}", words(block))
+}
+
+/// A session with input file 0 on unit 0 of channel 0 that has read so many records.
+fn after_records(records: usize) -> Session {
+    let mut session = input(0, 3, 3);
+    reads_more(&mut session, records);
+    session
+}
+
+fn reads_more(session: &mut Session, records: usize) {
+    for _ in 0..records {
+        session.reads(&[7, 8, 9], 0);
+        session.gives(&skip(0), "00");
+    }
+}
+
+/// A read of file 0 fails so often; `seven` says after which failures the result is 07.
+fn fails_with(session: &mut Session, failures: usize, seven: impl Fn(usize) -> bool) {
+    session.gives(&ask(0, READ, 0), "00 00");
+    for failure in 1..=failures {
+        let result = if seven(failure) { "07" } else { "00" };
+        session.gives(&report(0, 0, REDUNDANCY, &[]), &format!("00 {result} 00 00"));
+    }
+}
+
+/// The failures that make attempt 12, 22, .. 92 the next one.
+fn listed(failure: usize) -> bool {
+    [11, 21, 31, 41, 51, 61, 71, 81, 91].contains(&failure)
+}
+
+/// Readings I1 and I3: nine attempts, after either failure, if three records or more stand since the mark.
+#[test]
+fn i1_result_07_at_the_attempts_of_the_list() {
+    for (records, seven) in [(2, false), (3, true), (5, true)] {
+        let mut session = after_records(records);
+        fails_with(&mut session, 100, |failure| seven && listed(failure));
+        session.gives(&report(0, 0, REDUNDANCY, &[]), "00 05 00 FF");
+        // 07 and a permanent error have not moved the position.
+        fails_with(&mut session, 12, |failure| seven && listed(failure));
+        session.gives(&report(0, 0, GOOD, &[1]), "00 01 00 .. FF");
+    }
+    let mut session = after_records(3);
+    fails_with(&mut session, 10, |_| false);
+    session.gives(&report(0, 0, INCOMPLETE, &[]), "00 07 00 00");
+    session.gives(&report(0, 0, INCOMPLETE, &[]), "00 06 00 FF");
+    // With words, which are dropped.
+    fails_with(&mut session, 10, |_| false);
+    session.gives(&report(0, 0, REDUNDANCY, &[1]), "00 07 00 00");
+    session.gives(&get(0), "00 01");
+}
+
+/// Reading I1: writes and marks never give 07.
+#[test]
+fn i1_writes_and_marks_never_give_07() {
+    let mut session = output(0, 1, 1);
+    for _ in 0..4 {
+        session.gives(&put(0, &[5]), "00");
+        session.gives(&ask(0, WRITE, 0), "00 00");
+        for _ in 0..26 {
+            session.gives(&report(0, 0, REDUNDANCY, &[]), "00 00 00 00");
+        }
+        session.gives(&report(0, 0, GOOD, &[]), &format!("00 01 00 FF {}", words(&[5])));
+    }
+    session.gives(&ask(0, MARK, 0), "00 00");
+    for _ in 0..26 {
+        session.gives(&report(0, 0, REDUNDANCY, &[]), "00 00 00 00");
+    }
+}
+
+/// Reading I2: 07 in place of 00, also where the operation is displaced or waits for the thaw.
+#[test]
+fn i2_result_07_of_one_that_does_not_go_on() {
+    let mut session = after_records(3);
+    session.gives(&open(4, 0, 4, 0, 2, 1), "00");
+    fails_with(&mut session, 10, |_| false);
+    session.gives(&ask(4, READ, 1), "00 00");
+    session.gives(&report(0, 0, REDUNDANCY, &[]), "00 07 00 04");
+    session.gives(&report(0, 4, FILE_MARK, &[]), "00 03 00 00");
+    for _ in 0..9 {
+        session.gives(&report(0, 0, REDUNDANCY, &[]), "00 00 00 00");
+    }
+    session.gives(FREEZE, "00");
+    session.gives(&report(0, 0, REDUNDANCY, &[]), "00 07 00 FF");
+    session.gives(THAW, "00");
+    session.gives(&report(0, 0, REDUNDANCY, &[]), "00 00 00 00");
+}
+
+/// Readings I4 and I5: the position is the unit's; what was written counts, a mark puts the records to zero.
+#[test]
+fn i4_written_records_count_for_a_later_read() {
+    for (written, marks_after, seven) in [(3, 0, true), (2, 0, false), (3, 1, false), (5, 3, false)] {
+        let mut session = output(0, 1, 1);
+        for _ in 0..written {
+            session.gives(&put(0, &[5]), "00");
+            session.gives(&ask(0, WRITE, 0), "00 00");
+            session.gives(&report(0, 0, END_OF_MEDIUM, &[]), &format!("00 04 00 FF {}", words(&[5])));
+        }
+        for _ in 0..marks_after {
+            session.gives(&ask(0, MARK, 0), "00 00");
+            session.gives(&report(0, 0, GOOD, &[]), "00 01 00 FF");
+        }
+        session.gives(&close(0), "00");
+        session.gives(&open(0, 0, 0, 0, 3, 3), "00");
+        fails_with(&mut session, 11, |failure| seven && failure == 11);
+    }
+    // A mark read; then two records, then three.
+    let mut session = after_records(9);
+    session.gives(&ask(0, READ, 0), "00 00");
+    session.gives(&report(0, 0, FILE_MARK, &[]), "00 03 00 FF");
+    session.gives(&close(0), "00");
+    session.gives(&open(0, 0, 0, 0, 3, 3), "00");
+    reads_more(&mut session, 2);
+    fails_with(&mut session, 11, |_| false);
+    session.gives(&report(0, 0, GOOD, &[1]), "00 01 00 .. FF");
+    session.gives(&skip(0), "00");
+    fails_with(&mut session, 11, |failure| failure == 11);
+    // The good end at attempt 4 is a record too; a fresh start puts everything to zero.
+    let mut session = after_records(2);
+    fails_with(&mut session, 3, |_| false);
+    session.gives(&report(0, 0, GOOD, &[1]), "00 02 00 .. FF");
+    session.gives(&skip(0), "00");
+    fails_with(&mut session, 11, |failure| failure == 11);
+    session.gives(&fresh(4, 8), "00");
+    session.gives(&open(0, 0, 0, 0, 3, 3), "00");
+    fails_with(&mut session, 11, |_| false);
+}
+
+/// Reading I6: a kept block does not move the position.
+#[test]
+fn i6_a_kept_block_is_no_record() {
+    let mut session = after_records(2);
+    session.gives(&ask(0, READ, 0), "00 00");
+    session.gives(&report(0, 0, INCOMPLETE, &[]), "00 00 00 00");
+    session.gives(&report(0, 0, INCOMPLETE, &[7]), "00 06 00 .. FF");
+    session.gives(&skip(0), "00");
+    fails_with(&mut session, 11, |_| false);
+}
+
+/// Readings I7 and I13: noise on the unit since the fresh start takes 07 away, by any file; other units' noise
+/// does not.
+#[test]
+fn i7_noise_met_takes_07_away() {
+    let mut session = after_records(3);
+    session.gives(&open(4, 0, 4, 0, 2, 1), "00");
+    session.gives(&ask(4, READ, 0), "00 04");
+    session.gives(&measured(0, 4, 0, &[]), "00 00 00 04");
+    session.gives(&report(0, 4, FILE_MARK, &[]), "00 03 00 FF");
+    fails_with(&mut session, 11, |failure| failure == 11);
+    session.gives(&measured(0, 0, 2, &[]), "00 00 00 00");
+    for _ in 12..=100 {
+        session.gives(&report(0, 0, REDUNDANCY, &[]), "00 00 00 00");
+    }
+    session.gives(&report(0, 0, REDUNDANCY, &[]), "00 05 00 FF");
+    session.gives(&close(0), "00");
+    session.gives(&open(0, 0, 0, 0, 3, 3), "00");
+    reads_more(&mut session, 3);
+    fails_with(&mut session, 11, |_| false);
+    // At attempt 11, before the list's first: 00 then and 00 after it.
+    let mut session = after_records(3);
+    fails_with(&mut session, 10, |_| false);
+    session.gives(&measured(0, 0, 0, &[]), "00 00 00 00");
+    session.gives(&report(0, 0, REDUNDANCY, &[]), "00 00 00 00");
+}
+
+/// Reading I8: only outcome 1, and two bytes more than a multiple of five; 1 to a write or mark at work, 11 if
+/// the channel does not work for the unit.
+#[test]
+fn i8_where_a_length_may_stand() {
+    let mut session = input(0, 3, 3);
+    session.refuses(&measured(0, 0, 5, &[]), "0B");
+    session.refuses(&measured(0, 0, 1, &[5]), "0B");
+    session.refuses(&measured(0, 9, 0, &[]), "0B");
+    session.refuses(&measured(0, 10, 0, &[]), "01");
+    for outcome in [GOOD, INCOMPLETE, FILE_MARK, END_OF_MEDIUM, 5] {
+        session.refuses(&format!("040000{outcome:02X}0001"), "01");
+        session.refuses(&format!("040000{outcome:02X}0001{}", words(&[5])), "01");
+    }
+    session.gives(&ask(0, READ, 0), "00 00");
+    for outcome in [GOOD, INCOMPLETE, FILE_MARK, END_OF_MEDIUM, 5] {
+        session.refuses(&format!("040000{outcome:02X}0001"), "01");
+        session.refuses(&format!("040000{outcome:02X}0001{}", words(&[5])), "01");
+    }
+    for rest in ["00", "000000", "00000000", "000000000000", "0000000000000000"] {
+        session.refuses(&format!("04000001{rest}"), "01");
+    }
+    session.gives(&measured(0, 0, 5, &[]), "00 00 00 00");
+    let mut session = output(0, 1, 1);
+    session.gives(&ask(0, MARK, 0), "00 00");
+    session.refuses(&measured(0, 0, 5, &[]), "01");
+    session.gives(&report(0, 0, GOOD, &[]), "00 01 00 FF");
+    session.gives(&put(0, &[5]), "00");
+    session.gives(&ask(0, WRITE, 0), "00 00");
+    session.refuses(&measured(0, 0, 0, &[]), "01");
+    session.refuses(&measured(0, 0, 1, &[5]), "01");
+}
+
+/// Reading I9: the length is the number of the words that follow, judged on an idle channel too; without words
+/// it is any.
+#[test]
+fn i9_the_length_is_the_number_of_the_words() {
+    let mut session = input(0, 3, 3);
+    for works in [false, true] {
+        for length in [0, 1, 3, 65_535] {
+            session.refuses(&measured(0, 0, length, &[5, 6]), "01");
+            session.refuses(&measured(0, 0, length, &[5, TOO_LARGE]), "01");
+        }
+        session.refuses(&measured(0, 0, 2, &[5, TOO_LARGE]), "02");
+        if !works {
+            session.gives(&ask(0, READ, 0), "00 00");
+        }
+    }
+    session.refuses(&measured(0, 0, 4, &[5; 4]), "0D");
+    for length in [0, 1, 2, 3, 4, 1_025, 65_535] {
+        session.gives(&measured(0, 0, length, &[]), "00 00 00 00");
+    }
+    session.gives(&measured(0, 0, 3, &[5; 3]), "00 00 00 00");
+}
+
+/// Reading I11: 10,252 digits are a report with a length and 1,024 words.
+#[test]
+fn i11_lines_run_to_10252_digits() {
+    let mut session = Session::fresh(4, 1_024);
+    session.gives(&open(0, 0, 0, 0, 1_024, 1_024), "00");
+    session.gives(&ask(0, READ, 0), "00 00");
+    let longest = measured(0, 0, 1_024, &[5; 1_024]);
+    assert_eq!(longest.len(), 10_252);
+    session.gives(&longest, "00 00 00 00");
+    session.refuses(&measured(0, 0, 1_025, &[5; 1_025]), "01");
+    session.refuses(&format!("{longest}00"), "01");
+    session.refuses(&report(0, 0, REDUNDANCY, &[5; 1_025]), "01");
+    session.gives(&report(0, 0, GOOD, &[5; 1_024]), "00 01 00 .. FF");
+}
+
+/// Reading I12: a noise record uses no attempt, and its activity has ended: a priority request displaces, a
+/// freeze stops.
+#[test]
+fn i12_a_noise_record_ends_its_activity_and_uses_no_attempt() {
+    let mut session = inputs(&[2, 5, 7]);
+    session.gives(&ask(5, READ, 0), "00 05");
+    session.gives(&ask(2, READ, 1), "00 05");
+    session.gives(&measured(0, 5, 0, &[]), "00 00 00 02");
+    session.gives(&measured(0, 2, 2, &[]), "00 00 00 02");
+    session.gives(&ask(7, READ, 1), "00 02");
+    session.gives(&measured(0, 2, 2, &[]), "00 00 00 02");
+    session.gives(&report(0, 2, FILE_MARK, &[]), "00 03 00 07");
+    session.gives(&report(0, 7, FILE_MARK, &[]), "00 03 00 05");
+    session.gives(FREEZE, "00");
+    session.gives(&measured(0, 5, 1, &[5]), "00 00 00 FF");
+    session.gives(THAW, "00");
+    // Three failures come before attempt 4, however many noise records stand between them (I17).
+    for _ in 0..3 {
+        session.gives(&measured(0, 5, 0, &[]), "00 00 00 05");
+        session.gives(&report(0, 5, REDUNDANCY, &[]), "00 00 00 05");
+        session.gives(&measured(0, 5, 2, &[]), "00 00 00 05");
+    }
+    session.gives(&report(0, 5, GOOD, &[9]), "00 02 00 .. FF");
+}
+
+/// Reading I14: a hundred are passed in one operation, at attempt 101 too; then each is a redundancy. So 201
+/// reports answer any read.
+#[test]
+fn i14_at_most_a_hundred_noise_records_are_passed() {
+    let mut session = after_records(0);
+    for _ in 0..2 {
+        fails_with(&mut session, 50, |_| false);
+        for _ in 0..100 {
+            session.gives(&measured(0, 0, 2, &[]), "00 00 00 00");
+        }
+        for _ in 0..50 {
+            session.gives(&measured(0, 0, 2, &[]), "00 00 00 00");
+        }
+        session.gives(&measured(0, 0, 2, &[]), "00 05 00 FF");
+    }
+    fails_with(&mut session, 100, |_| false);
+    for _ in 0..100 {
+        session.gives(&measured(0, 0, 0, &[]), "00 00 00 00");
+    }
+    session.gives(&measured(0, 0, 0, &[]), "00 05 00 FF");
+    // A displaced request keeps its count.
+    session.gives(&open(4, 0, 4, 0, 2, 1), "00");
+    fails_with(&mut session, 100, |_| false);
+    for _ in 0..60 {
+        session.gives(&measured(0, 0, 0, &[]), "00 00 00 00");
+    }
+    session.gives(&ask(4, READ, 1), "00 00");
+    session.gives(&measured(0, 0, 0, &[]), "00 00 00 04");
+    session.gives(&report(0, 4, FILE_MARK, &[]), "00 03 00 00");
+    for _ in 0..39 {
+        session.gives(&measured(0, 0, 0, &[]), "00 00 00 00");
+    }
+    session.gives(&measured(0, 0, 0, &[]), "00 05 00 FF");
+}
+
+/// Reading I15: without a length there is no noise, however few words come.
+#[test]
+fn i15_without_a_length_there_is_no_noise() {
+    let mut session = after_records(3);
+    session.gives(&ask(0, READ, 0), "00 00");
+    for _ in 0..10 {
+        session.gives(&report(0, 0, REDUNDANCY, &[5]), "00 00 00 00");
+    }
+    session.gives(&report(0, 0, REDUNDANCY, &[5]), "00 07 00 00");
+}
+
+/// Reading I16: words with a noise length are sized, then dropped; past the hundred, at attempt 101, they are
+/// kept.
+#[test]
+fn i16_words_of_noise_records() {
+    let mut session = input(SEQUENCE, 3, 3);
+    session.gives(&ask(0, READ, 0), "00 00");
+    session.refuses(&measured(0, 0, 1, &[5]), "0D");
+    session.gives(&measured(0, 0, 2, &[5, 1]), "00 00 00 00");
+    session.gives(&get(0), "00 01");
+    for _ in 0..100 {
+        session.gives(&report(0, 0, REDUNDANCY, &[]), "00 00 00 00");
+    }
+    for _ in 0..99 {
+        session.gives(&measured(0, 0, 2, &[5, 1]), "00 00 00 00");
+    }
+    session.gives(&measured(0, 0, 2, &[5, 9]), "00 05 01 00000005 0001 00000000 0009 FF");
+    session.gives(&get(0), "00 03 04 00000005 0001 00000000 0009");
+    session.gives(&get(0), "00 03 01 00000005 0001 00000000 0009");
+    session.gives(&get(0), &format!("00 04 {}", words(&[5])));
+}
+
+/// Reading K5: a noise record moves neither mark, and the scan finds what displaces after it.
+#[test]
+fn k5_a_noise_record_is_no_end() {
+    let mut session = inputs(&[1, 3, 6, 8]);
+    session.gives(&ask(3, READ, 1), "00 03");
+    session.gives(&report(0, 3, FILE_MARK, &[]), "00 03 00 FF");
+    session.gives(&ask(6, READ, 0), "00 06");
+    session.gives(&ask(1, READ, 1), "00 06");
+    session.gives(&ask(8, READ, 1), "00 06");
+    session.gives(&measured(0, 6, 1, &[]), "00 00 00 08");
+    session.gives(&measured(0, 8, 1, &[]), "00 00 00 08");
+    session.gives(&report(0, 8, FILE_MARK, &[]), "00 03 00 01");
+    session.gives(&report(0, 1, FILE_MARK, &[]), "00 03 00 06");
+    session.gives(&report(0, 6, FILE_MARK, &[]), "00 03 00 FF");
+}
+
 #[test]
 fn e3_a_failed_read_gives_its_buffer_back_and_uses_no_number() {
     let mut session = input(SEQUENCE, 1, 1);

@@ -19,7 +19,7 @@ enum Event {
         channel: u64,
         unit: u64,
     },
-    /// Answers unless its result is 00.
+    /// Answers unless its result is 00 or 07.
     Report {
         channel: u64,
         unit: u64,
@@ -50,7 +50,7 @@ fn history(session: &[u8], answers: &[u8]) -> Vec<Event> {
                 Event::Request { file, channel, unit }
             }
             Some(Frame::Report { channel, unit, .. }) => {
-                Event::Report { channel, unit, answers: &answer[2..4] != b"00" }
+                Event::Report { channel, unit, answers: !matches!(&answer[2..4], b"00" | b"07") }
             }
             _ => Event::Other,
         }

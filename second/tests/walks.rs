@@ -120,7 +120,8 @@ impl Walker {
             0 => (GOOD, Booked::Good),
             4 => {
                 for _ in 0..100 {
-                    assert_eq!(self.report(REDUNDANCY), (Booked::Repeated, vec![]));
+                    let (result, shown) = self.report(REDUNDANCY);
+                    assert!(matches!(result, Booked::Repeated | Booked::BackspaceThree) && shown.is_empty());
                 }
                 (REDUNDANCY, Booked::PermanentRedundancy)
             }

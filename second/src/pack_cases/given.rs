@@ -1,7 +1,7 @@
 //! Words of 2^36 or more that are given with a call (readings A2, A3, A8).
 
 use super::script::{Script, GOOD, HUGE, LARGEST, READ, REDUNDANCY, SPOILT, WRITE};
-use crate::pack::{CHECK, OUTPUT, SEQUENCE};
+use crate::pack::{CHECK, NO_LENGTH, OUTPUT, SEQUENCE};
 
 pub fn add_cases(script: &mut Script) {
     given_to_put(script);
@@ -28,7 +28,7 @@ fn given_to_put(script: &mut Script) {
     script.print_state();
 }
 
-/// The same of a report; but words with another outcome than 0, or to a write, are 1.
+/// The same of a report; but words to a write are 1.
 fn given_to_report(script: &mut Script) {
     script.begin(3, 4, 7);
     script.open(0, SEQUENCE, 3, 1);
@@ -38,9 +38,9 @@ fn given_to_report(script: &mut Script) {
             for unit in [1, 9, 10] {
                 script.deliver(unit, words);
             }
-            script.add(&[&[4, 5, 0, GOOD, words.len() as u64], words].concat());
-            script.add(&[&[4, 0, 0, REDUNDANCY, words.len() as u64], words].concat());
-            script.add(&[&[4, 1, 1, GOOD, words.len() as u64], words].concat());
+            script.add(&[&[4, 5, 0, GOOD, NO_LENGTH, words.len() as u64], words].concat());
+            script.add(&[&[4, 0, 0, REDUNDANCY, NO_LENGTH, words.len() as u64], words].concat());
+            script.add(&[&[4, 1, 1, GOOD, NO_LENGTH, words.len() as u64], words].concat());
             if turn == 0 || words != [2, 1] {
                 script.deliver(0, words);
             }

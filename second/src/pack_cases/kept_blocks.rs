@@ -5,7 +5,7 @@ use super::script::{
     Script, END_OF_MEDIUM, FILE_MARK, GOOD, HUGE, INCOMPLETE_WORD, LARGEST, MARK, READ, REDUNDANCY, SPOILT,
     WRITE,
 };
-use crate::pack::{CHECK, DOUBLE, OUTPUT, SEQUENCE};
+use crate::pack::{CHECK, DOUBLE, NO_LENGTH, OUTPUT, SEQUENCE};
 use crate::state_fields::{ATTEMPTS, ERROR, HIGH, INCOMPLETE, LOW, MARKED, NUMBER, READ_ERROR, TURNED};
 
 /// The four choices of a check word.
@@ -130,7 +130,7 @@ fn given_words(script: &mut Script) {
             script.end_with(1, outcome, words);
             script.end_with(9, outcome, words);
             script.end_with(10, outcome, words);
-            script.add(&[&[4, 1, 0, outcome, words.len() as u64], words].concat());
+            script.add(&[&[4, 1, 0, outcome, NO_LENGTH, words.len() as u64], words].concat());
         }
         for unit in [1, 9] {
             script.end_with(unit, outcome, &[1, 2]);

@@ -5,9 +5,9 @@ use super::script::{HUGE, SPOILT};
 use crate::sound::is_sound;
 use crate::state_fields::{
     AT, ATTEMPTS, BLOCK_SIZE, BUFFERS, BUFFER_NUMBER, CHANNEL, CHECK, DECLARED, DOUBLE, ERROR, FOUND_NUMBER,
-    FOUND_SUM, FROZEN, HIGH, INCOMPLETE, LOW, MARKED, NUMBER, NUMBER_READ, OPENED, OPERATION, OUTPUT,
-    PRIORITY, READ_ERROR, RECORD_LENGTH, SEQUENCE, SLOT_KIND, SUM_READ, TURNED, TURN_KIND, UNIT, WIDTH,
-    WORDS,
+    FOUND_SUM, FROZEN, HIGH, INCOMPLETE, LOW, MARKED, MARKS, NOISE, NOISE_MET, NUMBER, NUMBER_READ, OPENED,
+    OPERATION, OUTPUT, PRIORITY, READ_ERROR, RECORDS, RECORD_LENGTH, SEQUENCE, SLOT_KIND, SUM_READ, TURNED,
+    TURN_KIND, UNIT, WIDTH, WORDS,
 };
 
 impl Steps<'_> {
@@ -140,11 +140,15 @@ impl Steps<'_> {
         let any = [self.random.below(USED_CHANNELS), self.random.below(UNITS)];
         let [channel, unit] =
             if busy.is_empty() || self.random.chance(1, 4) { any } else { self.random.pick(&busy) };
-        let field = self
-            .random
-            .pick(&[ATTEMPTS, ATTEMPTS, ATTEMPTS, PRIORITY, INCOMPLETE, TURN_KIND, OPERATION, DECLARED]);
+        let field = self.random.pick(&[
+            ATTEMPTS, ATTEMPTS, ATTEMPTS, PRIORITY, INCOMPLETE, TURN_KIND, OPERATION, DECLARED, NOISE, MARKS,
+            RECORDS, RECORDS, NOISE_MET,
+        ]);
         let value = match field {
-            ATTEMPTS => self.random.pick(&[1, 2, 3, 4, 26, 27, 28, 100, 101]),
+            ATTEMPTS => self.random.pick(&[1, 2, 3, 4, 11, 26, 27, 28, 91, 100, 101]),
+            NOISE => self.random.pick(&[0, 1, 99, 100, 101]),
+            MARKS => self.random.pick(&[0, 32_766, 32_767, 32_768]),
+            RECORDS => self.random.pick(&[0, 2, 3, 4, 32_766, 32_767, 32_768]),
             TURN_KIND => self.random.between(0, 4),
             OPERATION => self.random.between(0, 2),
             _ => self.random.between(0, 1),

@@ -3,6 +3,7 @@
 
 use super::script::{Script, GOOD, HUGE, INCOMPLETE_WORD, MARK, READ, REDUNDANCY, SPOILT, WRITE};
 use crate::channel::Turn;
+use crate::pack::NO_LENGTH;
 use crate::pack_player as player;
 use crate::random::Random;
 use crate::state::{FileState, Slot, State};
@@ -262,7 +263,7 @@ impl Steps<'_> {
         let any = [self.random.below(USED_CHANNELS), self.random.below(UNITS)];
         let [channel, unit] =
             if at_work.is_empty() || self.random.chance(1, 20) { any } else { self.random.pick(&at_work) };
-        let outcome = self.random.pick(&[0, 0, 0, 0, 0, 0, 1, 1, 2, 3, 4]);
+        let outcome = self.random.pick(&[0, 0, 0, 0, 0, 0, 1, 1, 1, 2, 3, 4]);
         let bound = self.state().files_of(channel, unit).next().cloned().unwrap_or_default();
         let of_ten = match outcome {
             GOOD if !bound.output => 10,
@@ -271,7 +272,13 @@ impl Steps<'_> {
         };
         let brings = self.random.chance(of_ten, 10);
         let words = if brings { self.block(&bound) } else { vec![] };
-        [vec![player::REPORT, channel, unit, outcome, words.len() as u64], words].concat()
+        let count = words.len() as u64;
+        let length = if self.random.chance(if outcome == REDUNDANCY { 12 } else { 1 }, 24) {
+            self.random.pick(&[count, count, 0, 2, 3, 65_535])
+        } else {
+            NO_LENGTH
+        };
+        [vec![player::REPORT, channel, unit, outcome, length, count], words].concat()
     }
 
     /// A block for a file: mostly of a right size, and often with a right check word.

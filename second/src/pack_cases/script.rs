@@ -2,13 +2,13 @@
 //! go by what came of the commands before it.
 
 use crate::channel::UNITS;
-use crate::pack::{CHANNELS, FILES};
+use crate::pack::{CHANNELS, FILES, NO_LENGTH};
 use crate::pack_player::{self as player, Player};
 use crate::state::State;
 use crate::state_fields::{
     file_fields, pool_fields, unit_fields, AT, ATTEMPTS, ERROR, FILE_FIELDS, FOUND_SUM, FREE, FULL,
-    INCOMPLETE, NUMBER_READ, OPERATION, ORDINARY_MARK, PART_FILLED, POOL_FIELDS, PRIORITY, PRIORITY_MARK,
-    SLOT_KIND, SUM_READ, TURN_KIND, UNIT_FIELDS, WORDS,
+    INCOMPLETE, NOISE, NUMBER_READ, OPERATION, ORDINARY_MARK, PART_FILLED, POOL_FIELDS, PRIORITY,
+    PRIORITY_MARK, SLOT_KIND, SUM_READ, TURN_KIND, UNIT_FIELDS, WORDS,
 };
 
 pub const READ: u64 = 0;
@@ -93,18 +93,28 @@ impl Script {
 
     /// A report of channel 0 with an outcome and words.
     pub fn end_with(&mut self, unit: u64, outcome: u64, words: &[u64]) {
-        self.add(&[&[player::REPORT, 0, unit, outcome, words.len() as u64], words].concat());
+        self.end_with_length(unit, outcome, NO_LENGTH, words);
+    }
+
+    /// The same with a length; `NO_LENGTH` is none.
+    pub fn end_with_length(&mut self, unit: u64, outcome: u64, length: u64, words: &[u64]) {
+        self.add(&[&[player::REPORT, 0, unit, outcome, length, words.len() as u64], words].concat());
+    }
+
+    /// A redundancy on channel 0 with a length.
+    pub fn report_length(&mut self, unit: u64, length: u64, words: &[u64]) {
+        self.end_with_length(unit, REDUNDANCY, length, words);
     }
 
     /// A report of channel 0 without words.
     pub fn report(&mut self, unit: u64, outcome: u64) {
-        self.add(&[player::REPORT, 0, unit, outcome, 0]);
+        self.add(&[player::REPORT, 0, unit, outcome, NO_LENGTH, 0]);
     }
 
     /// A read on channel 0 that delivers the words.
     pub fn read(&mut self, file: u64, words: &[u64]) {
         self.accepted(&[player::ASK, file, READ, 0]);
-        self.accepted(&[&[player::REPORT, 0, file, GOOD, words.len() as u64], words].concat());
+        self.accepted(&[&[player::REPORT, 0, file, GOOD, NO_LENGTH, words.len() as u64], words].concat());
     }
 
     pub fn get(&mut self, file: u64) {
@@ -223,6 +233,10 @@ impl Script {
         self.unit(channel, unit, PRIORITY, 0);
         self.unit(channel, unit, ATTEMPTS, attempt);
         self.unit(channel, unit, INCOMPLETE, 0);
+        let now = &self.player.state.channels[channel as usize].units[unit as usize];
+        if unit_fields(now)[NOISE as usize] != 0 {
+            self.unit(channel, unit, NOISE, 0);
+        }
     }
 
     /// Every place of the room gets a word of its own.

@@ -3,7 +3,7 @@
 
 use super::script::{Script, END_OF_MEDIUM, FILE_MARK, GOOD, INCOMPLETE_WORD, MARK, READ, REDUNDANCY, WRITE};
 use crate::channel::Turn;
-use crate::pack::OUTPUT;
+use crate::pack::{NO_LENGTH, OUTPUT};
 use crate::state_fields::{
     ATTEMPTS, DISPLACED, FROZEN, INCOMPLETE, LOW, PRIORITY, TAKEN, TURN_KIND, WAITING, WORKING,
 };
@@ -104,7 +104,7 @@ fn attempt_four(script: &mut Script) {
         script.unit(0, 0, ATTEMPTS, attempt);
         script.unit(1, 0, ATTEMPTS, attempt);
         script.deliver(0, &[5]);
-        script.add(&[4, 1, 0, GOOD, 0]);
+        script.add(&[4, 1, 0, GOOD, NO_LENGTH, 0]);
     }
 }
 
@@ -215,7 +215,7 @@ fn frozen_work(script: &mut Script) {
     script.request(1, 3, WAITING, READ, 50);
     script.print_sound();
     script.thaw();
-    script.add(&[4, 1, 3, REDUNDANCY, 0]);
+    script.add(&[4, 1, 3, REDUNDANCY, NO_LENGTH, 0]);
     script.print_state();
 }
 

@@ -2,7 +2,7 @@
 //! by calls that would else be accepted, and taken back.
 
 use super::script::{Script, READ, WRITE};
-use crate::pack::{CHECK, DOUBLE, OUTPUT, SEQUENCE};
+use crate::pack::{CHECK, DOUBLE, NO_LENGTH, OUTPUT, SEQUENCE};
 use crate::sound::{broken_clauses, is_sound, Clause};
 
 /// The files of the bench.
@@ -18,7 +18,7 @@ pub const CALLS: [&[u64]; 10] = [
     &[1, CLOSED, 0, 4, 0, 6, 2],
     &[2, IDLE_INPUT],
     &[3, INPUT, READ, 0],
-    &[4, 1, 2, 1, 0],
+    &[4, 1, 2, 1, NO_LENGTH, 0],
     &[5, INPUT],
     &[7, OUTPUT_FILE],
     &[6, OUTPUT_FILE, 2, 33, 34],

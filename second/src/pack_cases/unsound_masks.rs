@@ -5,7 +5,7 @@ use super::script::Script;
 use super::unsound_bench::{
     Bench, CALLS, CLOSED, FRESH_START, IDLE_INPUT, INPUT, OUTPUT_FILE, READING, WRITING,
 };
-use crate::pack::DOUBLE;
+use crate::pack::{DOUBLE, NO_LENGTH};
 use crate::sound::{broken_clauses, Clause};
 use crate::state_fields::{
     BLOCK_SIZE, BUFFERS, BUFFER_NUMBER, DOUBLE as DOUBLE_FIELD, HIGH, LOW, NUMBER, OPENED, RECORD_LENGTH,
@@ -181,7 +181,9 @@ fn before_fresh(script: &mut Script) {
     script.free(1);
     script.print_sound();
     script.add(FRESH_START);
-    for call in [&[9][..], &[10], &[5, 0], &[8, 0], &[3, 0, 0, 0], &[4, 0, 0, 0, 0], &[6, 0, 0], &[7, 0]] {
+    for call in
+        [&[9][..], &[10], &[5, 0], &[8, 0], &[3, 0, 0, 0], &[4, 0, 0, 0, NO_LENGTH, 0], &[6, 0, 0], &[7, 0]]
+    {
         script.add(call);
     }
     script.print_state();

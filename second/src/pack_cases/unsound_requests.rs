@@ -5,7 +5,7 @@ use super::unsound_bench::{Bench, IDLE_INPUT, INPUT, OUTPUT_FILE, READING, WRITI
 use crate::state_fields::*;
 
 /// The clauses, each tried on a bench of its own.
-pub const CLAUSES: [fn(&mut Bench); 9] = [
+pub const CLAUSES: [fn(&mut Bench); 12] = [
     declared_units,
     own_units,
     fitting_requests,
@@ -15,6 +15,9 @@ pub const CLAUSES: [fn(&mut Bench); 9] = [
     written_blocks,
     attempts,
     incomplete_words,
+    positions,
+    undeclared_positions,
+    noise_passed,
 ];
 
 /// "each open file has .. a declared unit".
@@ -153,4 +156,53 @@ fn incomplete_words(bench: &mut Bench) {
     bench.unit([1, 2], INCOMPLETE, &[1, 255], &[]);
     bench.script.unit(1, 2, OPERATION, MARK);
     bench.unit([1, 2], INCOMPLETE, &[1], &[0]);
+}
+
+/// M-106: "each held at 32,767".
+fn positions(bench: &mut Bench) {
+    for place in [[0, 0], [0, 4], [2, 0], [1, 3]] {
+        for field in [MARKS, RECORDS] {
+            bench.unit(place, field, &[32_768, 65_535], &[32_767]);
+        }
+    }
+    bench.unit([0, 3], NOISE_MET, &[], &[1]);
+}
+
+/// An undeclared unit stands at zero and has met no noise.
+fn undeclared_positions(bench: &mut Bench) {
+    for place in [[0, 5], [4, 9]] {
+        for field in [MARKS, RECORDS, NOISE_MET] {
+            bench.unit(place, field, &[1], &[0]);
+        }
+    }
+    bench.unsound(|script| {
+        script.unit(0, 4, RECORDS, 3);
+        script.unit(0, 4, DECLARED, 0);
+    });
+    bench.script.start_over();
+    for field in [MARKS, RECORDS, NOISE_MET] {
+        bench.unit([2, 7], field, &[1], &[]);
+    }
+}
+
+/// "At most 100 are passed in one operation", a read of a unit that has met noise.
+fn noise_passed(bench: &mut Bench) {
+    bench.unit([2, 0], NOISE, &[1, 100, 101], &[0]);
+    bench.script.unit(2, 0, NOISE_MET, 1);
+    bench.unit([2, 0], NOISE, &[101, 255], &[100, 1, 0]);
+    bench.script.unit(2, 0, NOISE, 7);
+    bench.unit([2, 0], NOISE_MET, &[0], &[]);
+    bench.script.freeze();
+    for turn in [WAITING, DISPLACED] {
+        bench.script.unit(2, 0, TURN_KIND, turn);
+        bench.unit([2, 0], NOISE, &[101], &[100]);
+        bench.unit([2, 0], NOISE_MET, &[0], &[]);
+    }
+    bench.script.unit(1, 2, NOISE_MET, 1);
+    for operation in [WRITE, MARK] {
+        bench.script.unit(1, 2, OPERATION, operation);
+        bench.unit([1, 2], NOISE, &[1, 101], &[0]);
+    }
+    // An idle unit has no count.
+    bench.unit([0, 4], NOISE, &[], &[5]);
 }

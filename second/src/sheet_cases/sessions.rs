@@ -13,7 +13,7 @@ use crate::sheet::MOST_LISTED;
 pub const MOST_FRAMES: usize = 400;
 
 /// The profiles of the sessions; requests wait for one another most often in `turns`.
-const PROFILES: [Profile; 8] = [
+const PROFILES: [Profile; 10] = [
     Profile::Mixed,
     Profile::Retries,
     Profile::Turns,
@@ -22,6 +22,8 @@ const PROFILES: [Profile; 8] = [
     Profile::Blocks,
     Profile::Malformed,
     Profile::Refusals,
+    Profile::Kept,
+    Profile::Reel,
 ];
 
 /// Fresh starts that are refused: no buffers, too many of them, no words, too many of them in a buffer or in
