@@ -14,6 +14,7 @@ use Rattle.state.specs.Places.{fileAt}
 use Rattle.pack_request.specs.Calls.{fileOf}
 use Rattle.pack_request.proofs.ReportTheorems.{report-books-own}
 use Rattle.pack.specs.Calls.{close, report, answerOf}
+use Rattle.pack.specs.Histories.{isRepeat}
 use Rattle.pack.specs.Books.{toldResult}
 use Rattle.demands_ledger.specs.Ledgers.{Ledger, toldDelivery}
 use Rattle.demands_ledger.specs.Blocks.{joined}
@@ -46,33 +47,33 @@ module _ (s : State) (area : List ℕ) (ledgers : ℕ → Ledger) (K : Kept s ar
     pub ledger-reads : fileAt s i .output ≡ false → Reads (s .w) (fileAt s i) area (ledgers i)
     ledger-reads u = let T = K .told i .brought o u in record { items = T .items; lies = T .lies }
 
-  pub ledger-judged : (i channel unit outcome : ℕ) (words : List ℕ) → serves channel unit (fileAt s i) ≡ true → words ≢ []
-      → toldResult (answerOf s area (report channel unit outcome words) .added) ≢ 0
-      → answerOf s area (report channel unit outcome words) .refusal ≡ 0
-      → toldDelivery (answerOf s area (report channel unit outcome words) .added)
+  pub ledger-judged : (i channel unit outcome len : ℕ) (words : List ℕ) → serves channel unit (fileAt s i) ≡ true → words ≢ []
+      → isRepeat (toldResult (answerOf s area (report channel unit outcome len words) .added)) ≡ false
+      → answerOf s area (report channel unit outcome len words) .refusal ≡ 0
+      → toldDelivery (answerOf s area (report channel unit outcome len words) .added)
       ≡ With (judgedBlock words (fileAt s i .sequence) (fileAt s i .check) ((1 + length (ledgers i .came)) % blockNumbers) .found)
   unfolding answerOf
-  ledger-judged i channel unit outcome words on some ended z =
+  ledger-judged i channel unit outcome len words on some ended z =
       let j = fileOf s channel unit in
-      report-judged s area ledgers K channel unit outcome words z some ended
+      report-judged s area ledgers K channel unit outcome len words z some ended
       ∙ ap (λ (n : ℕ). With (judgedBlock words (fileAt s j .sequence) (fileAt s j .check) n .found)) (numbers (ledgers j .came))
       ∙ ap (λ (k : ℕ). With (judgedBlock words (fileAt s k .sequence) (fileAt s k .check) ((1 + length (ledgers k .came)) % blockNumbers) .found))
-      (sym (report-books-own s area channel unit outcome words (K .good .sixteen) z .only i on))
+      (sym (report-books-own s area channel unit outcome len words (K .good .sixteen) z .only i on))
 
   -- the same said of the words alone
-  pub ledger-found : (i channel unit outcome : ℕ) (words : List ℕ) → serves channel unit (fileAt s i) ≡ true → words ≢ []
-      → toldResult (answerOf s area (report channel unit outcome words) .added) ≢ 0
-      → answerOf s area (report channel unit outcome words) .refusal ≡ 0
+  pub ledger-found : (i channel unit outcome len : ℕ) (words : List ℕ) → serves channel unit (fileAt s i) ≡ true → words ≢ []
+      → isRepeat (toldResult (answerOf s area (report channel unit outcome len words) .added)) ≡ false
+      → answerOf s area (report channel unit outcome len words) .refusal ≡ 0
       → Finds (fileAt s i .sequence) (fileAt s i .check) (length (ledgers i .came)) words
-      (toldBy (toldDelivery (answerOf s area (report channel unit outcome words) .added)))
+      (toldBy (toldDelivery (answerOf s area (report channel unit outcome len words) .added)))
   unfolding answerOf
-  ledger-found i channel unit outcome words on some ended z =
+  ledger-found i channel unit outcome len words on some ended z =
       let j = fileOf s channel unit in
-      let B = report-books-own s area channel unit outcome words (K .good .sixteen) z in
-      let R = ready s area ledgers K channel unit outcome words z in
-      let brings = report-brings s area ledgers K channel unit outcome words z some ended in
+      let B = report-books-own s area channel unit outcome len words (K .good .sixteen) z in
+      let R = ready s area ledgers K channel unit outcome len words z in
+      let brings = report-brings s area ledgers K channel unit outcome len words z some ended in
       subst (λ (k : ℕ). Finds (fileAt s k .sequence) (fileAt s k .check) (length (ledgers k .came)) words
-      (toldBy (toldDelivery (answerOf s area (report channel unit outcome words) .added)))) (sym (B .only i on))
+      (toldBy (toldDelivery (answerOf s area (report channel unit outcome len words) .added)))) (sym (B .only i on))
       (subst (Finds (fileAt s j .sequence) (fileAt s j .check) (length (ledgers j .came)) words)
-      (sym (ap toldBy (ledger-judged j channel unit outcome words (B .bound) some ended z)))
+      (sym (ap toldBy (ledger-judged j channel unit outcome len words (B .bound) some ended z)))
       (judged-finds words (fileAt s j .sequence) (fileAt s j .check) (length (ledgers j .came)) (R .given) (fits-bounds (fileAt s j) (length words) (R .fits brings) .0)))
