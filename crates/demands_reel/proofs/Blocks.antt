@@ -20,19 +20,20 @@ use Rattle.block.proofs.Laws.Agree.{error-none, judge-delivered, judge-plain}
 use Rattle.demands_ledger.specs.Ledgers.{Choice}
 use Rattle.demands_ledger.specs.Blocks.{checked, joined}
 use Rattle.demands_ledger.proofs.Shown.{data-checked}
-use Rattle.tape.specs.Reels.{Piece}
+use Rattle.tape.specs.Reels.{Piece, Words}
+use Rattle.tape.specs.Images.{isPiece}
 use Rattle.demands_reel.specs.Posts.{blockOf, Line, entry, cutOn, wrongLines, blockLines, readFrom}
 
 -- ---- its check word
 
-pub length-checked : (s c : Bool) (k : ℕ) (ws : List ℕ) → length (checked s c k ws) ≡ length ws + extra s c
+length-checked : (s c : Bool) (k : ℕ) (ws : List ℕ) → length (checked s c k ws) ≡ length ws + extra s c
 length-checked s c k ws = go (s || c)
   where
     go : (t : Bool) → length (ws ++ cond t (checkWord s c (logicalSum ws) k ∷ []) []) ≡ length ws + cond t 1 0
     go true = length-append ws (checkWord s c (logicalSum ws) k ∷ [])
     go false = length-append ws []
 
-pub words-checked : (s c : Bool) (k : ℕ) (ws : List ℕ) → allOf isWord ws ≡ true → allOf isWord (checked s c k ws) ≡ true
+words-checked : (s c : Bool) (k : ℕ) (ws : List ℕ) → allOf isWord ws ≡ true → allOf isWord (checked s c k ws) ≡ true
 unfolding allOf
 words-checked s c k ws all = go (s || c)
   where
@@ -41,6 +42,18 @@ words-checked s c k ws all = go (s || c)
         all-append isWord ws (checkWord s c (logicalSum ws) k ∷ [])
         ∙ and-both _ _ all (and-both (isWord (checkWord s c (logicalSum ws) k)) true (lt-ltb _ (2 ^ 36) (check-word-lt s c (logicalSum ws) k)) refl)
     go false = ap (allOf isWord) (append-nil ws) ∙ all
+
+-- it can stand on a reel
+pub piece-checked : (s c : Bool) (k : ℕ) (ws : List ℕ) → allOf isWord ws ≡ true → 1 ≤ length ws → length ws + extra s c ≤ 1024
+    → isPiece (Words (checked s c k ws)) ≡ true
+piece-checked s c k ws words long fits =
+    let l = length-checked s c k ws in
+    and-both _ _ (words-checked s c k ws words)
+    (and-both _ _ (le-leb 1 (length (checked s c k ws)) (omega (arith, l, long))) (le-leb (length (checked s c k ws)) 1024 (omega (arith, l, fits))))
+
+-- block numbers
+pub next-small : (k : ℕ) → nextNumber k < 2 ^ 15
+next-small k = omega arith
 
 -- "blocks we write carry the one right check word; blocks we read are judged by it": with the same number there is no error
 pub no-error : (s c : Bool) (k : ℕ) (ws : List ℕ) → k < 2 ^ 15 → 1 ≤ length ws → allOf isWord ws ≡ true

@@ -4,7 +4,7 @@ use mathlib.Core.Bool.{Bool, true, false, cond, _&&_}
 use mathlib.Core.List.{List, [], _∷_, _++_, map, append-assoc, append-nil}
 use Prim.Native.Nat.{ℕ, _+_, _^_, _≤_, _<_}
 use native.Mathlib.Omega.{arith}
-use borrow.Author.Tests.{leb-true, eqb-true, ltb-false, le-leb}
+use borrow.Author.Tests.{leb-true, eqb-true, ltb-false}
 use lib.Dec.{leb}
 use lib.ListN.{length, length-append}
 use Rattle.area.specs.Lists.{allOf}
@@ -12,16 +12,13 @@ use Rattle.area.specs.Parts.{isWord}
 use Rattle.area.proofs.Walks.{by-test, and-left, and-right, and-both, all-append}
 use Rattle.word.specs.CheckWords.{extra, nextNumber}
 use Rattle.demands_ledger.specs.Ledgers.{Choice}
-use Rattle.demands_ledger.specs.Blocks.{checked, joined}
+use Rattle.demands_ledger.specs.Blocks.{joined}
 use Rattle.demands_ledger.proofs.Lists.{joined-last, map-append}
 use Rattle.tape.specs.Reels.{Piece, Words, TapeMark, Reel, Ended, reelOf}
 use Rattle.tape.specs.Images.{isPiece, imageBytes}
 use Rattle.tape.proofs.Laws.Reading.{written-read}
 use Rattle.demands_reel.specs.Posts.{isLine, isText, sizesGood, completes, blockOf, sealedEarly, writtenFrom, written, Line, entry, mark, lineOf, readFrom, readBack}
-use Rattle.demands_reel.proofs.Blocks.{length-checked, words-checked, Records, none, more, records-last, block-back}
-
-next-small : (k : ℕ) → nextNumber k < 2 ^ 15
-next-small k = omega arith
+use Rattle.demands_reel.proofs.Blocks.{piece-checked, next-small, Records, none, more, records-last, block-back}
 
 sealed-some : (c : Choice) (k : ℕ) (ws : List ℕ) → 1 ≤ length ws → sealedEarly c k ws ≡ blockOf c k ws ∷ []
 unfolding sealedEarly
@@ -102,18 +99,11 @@ module _ (c : Choice) (some : 1 ≤ c .rlen) (room : c .rlen ≤ c .size) where
   -- ---- every piece that is written can stand on a reel
 
   module _ (most : c .size + extra (c .sequence) (c .check) ≤ 1024) where
-    piece-good : (k : ℕ) (part : List ℕ) → allOf isWord part ≡ true → 1 ≤ length part → length part ≤ c .size → isPiece (blockOf c k part) ≡ true
-    piece-good k part words long fits =
-        let b = checked (c .sequence) (c .check) k part in
-        let l = length-checked (c .sequence) (c .check) k part in
-        and-both _ _ (words-checked (c .sequence) (c .check) k part words)
-        (and-both _ _ (le-leb 1 (length b) (omega (arith, l, long))) (le-leb (length b) 1024 (omega (arith, l, fits, most))))
-
     sealed-good : (k : ℕ) (part : List ℕ) (pieces : List Piece) → allOf isWord part ≡ true → length part ≤ c .size → allOf isPiece pieces ≡ true
         → allOf isPiece (sealedEarly c k part ++ pieces) ≡ true
     unfolding allOf sealedEarly
     sealed-good k [] pieces words fits good = good
-    sealed-good k (w ∷ part) pieces words fits good = and-both _ _ (piece-good k (w ∷ part) words (omega arith) fits) good
+    sealed-good k (w ∷ part) pieces words fits good = and-both _ _ (piece-checked (c .sequence) (c .check) k (w ∷ part) words (omega arith) (omega (arith, fits, most))) good
 
     pieces-good : (text : List Piece) → isText c text ≡ true → (k : ℕ) (part : List ℕ) → allOf isWord part ≡ true
         → length part + c .rlen ≤ c .size → allOf isPiece (writtenFrom c k part text) ≡ true
@@ -132,7 +122,7 @@ module _ (c : Choice) (some : 1 ≤ c .rlen) (room : c .rlen ≤ c .size) where
         by-test (λ t. completes c (part ++ ws) ≡ t
         → allOf isPiece (cond t (blockOf c k (part ++ ws) ∷ writtenFrom c (nextNumber k) [] text) (writtenFrom c k (part ++ ws) text)) ≡ true)
         (completes c (part ++ ws))
-        (λ t q. and-both _ _ (piece-good k (part ++ ws) now (omega (arith, l, e, some)) (omega (arith, l, e, fits)))
+        (λ t q. and-both _ _ (piece-checked (c .sequence) (c .check) k (part ++ ws) now (omega (arith, l, e, some)) (omega (arith, l, e, fits, most)))
         (pieces-good text rest (nextNumber k) [] refl alone))
         (λ t q. pieces-good text rest k (part ++ ws) now (ltb-false (c .size) (length (part ++ ws) + c .rlen) q)) refl
 
