@@ -27,6 +27,10 @@ begunBy area o = inTurn beforeStart area starts (opens o)
 unfoldable pub againBy : State → List ℕ → Options → Answer
 againBy s area o = inTurn s area (close 0) (opens o)
 
+-- an operation of the file that is asked for, and then reported with an outcome and the words that it brings
+unfoldable pub endedBy : State → List ℕ → ℕ → ℕ → List ℕ → Answer
+endedBy s area op outcome words = inTurn s area (ask 0 op 0) (report 0 0 outcome words)
+
 -- ---- writing: "operation(0 read, 1 write, 2 mark)", outcome "0 good"
 
 unfoldable pub putBy : State → List ℕ → List ℕ → Answer
@@ -36,18 +40,18 @@ unfoldable pub sealedBy : State → List ℕ → Answer
 sealedBy s area = answerOf s area (seal 0)
 
 unfoldable pub sentBy : State → List ℕ → Answer
-sentBy s area = inTurn s area (ask 0 1 0) (report 0 0 0 [])
+sentBy s area = endedBy s area 1 0 []
 
 unfoldable pub sentMarkBy : State → List ℕ → Answer
-sentMarkBy s area = inTurn s area (ask 0 2 0) (report 0 0 0 [])
+sentMarkBy s area = endedBy s area 2 0 []
 
 -- ---- reading: outcome "0 good" with the block's words, "3 file mark"
 
 unfoldable pub broughtBy : State → List ℕ → List ℕ → Answer
-broughtBy s area words = inTurn s area (ask 0 0 0) (report 0 0 0 words)
+broughtBy s area words = endedBy s area 0 0 words
 
 unfoldable pub metMarkBy : State → List ℕ → Answer
-metMarkBy s area = inTurn s area (ask 0 0 0) (report 0 0 3 [])
+metMarkBy s area = endedBy s area 0 3 []
 
 unfoldable pub gotBy : State → List ℕ → Answer
 gotBy s area = answerOf s area (get 0)

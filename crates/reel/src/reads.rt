@@ -1,5 +1,5 @@
 // What the blocks and marks of a reel come to.
-use crate::turns::in_turn;
+use crate::turns::ended;
 use pack::AnyAnswer;
 use pack::AnyCall;
 use pack::State;
@@ -12,21 +12,7 @@ ghost use Rattle.reel.specs.Steps.{broughtBy, metMarkBy, gotBy};
 pub fn brought(s: State, area: &mut [u64], words: &[u64]) -> AnyAnswer
     ensures { λ r. ⌜ answerBy r (now (area .exit)) ≡ broughtBy s (now (area .entry)) (now (words .entry)) ⌝ }
 {
-    in_turn(
-        s,
-        area,
-        AnyCall::Ask {
-            file: 0,
-            op: 0,
-            priority: 0,
-        },
-        AnyCall::Report {
-            channel: 0,
-            unit: 0,
-            outcome: 0,
-        },
-        words,
-    )
+    ended(s, area, 0, 0, words)
 }
 
 // The read that ends with a mark.
@@ -34,21 +20,7 @@ pub fn met_mark(s: State, area: &mut [u64]) -> AnyAnswer
     ensures { λ r. ⌜ answerBy r (now (area .exit)) ≡ metMarkBy s (now (area .entry)) ⌝ }
 {
     let none = [0u64; 1];
-    in_turn(
-        s,
-        area,
-        AnyCall::Ask {
-            file: 0,
-            op: 0,
-            priority: 0,
-        },
-        AnyCall::Report {
-            channel: 0,
-            unit: 0,
-            outcome: 3,
-        },
-        &none[..0],
-    )
+    ended(s, area, 0, 3, &none[..0])
 }
 
 // The get of a record.

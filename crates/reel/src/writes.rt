@@ -1,5 +1,5 @@
 // What a text of records and marks comes to.
-use crate::turns::in_turn;
+use crate::turns::ended;
 use pack::AnyAnswer;
 use pack::AnyCall;
 use pack::State;
@@ -28,21 +28,7 @@ pub fn sent(s: State, area: &mut [u64]) -> AnyAnswer
     ensures { λ r. ⌜ answerBy r (now (area .exit)) ≡ sentBy s (now (area .entry)) ⌝ }
 {
     let none = [0u64; 1];
-    in_turn(
-        s,
-        area,
-        AnyCall::Ask {
-            file: 0,
-            op: 1,
-            priority: 0,
-        },
-        AnyCall::Report {
-            channel: 0,
-            unit: 0,
-            outcome: 0,
-        },
-        &none[..0],
-    )
+    ended(s, area, 1, 0, &none[..0])
 }
 
 // The write of a mark, and its good end.
@@ -50,19 +36,5 @@ pub fn sent_mark(s: State, area: &mut [u64]) -> AnyAnswer
     ensures { λ r. ⌜ answerBy r (now (area .exit)) ≡ sentMarkBy s (now (area .entry)) ⌝ }
 {
     let none = [0u64; 1];
-    in_turn(
-        s,
-        area,
-        AnyCall::Ask {
-            file: 0,
-            op: 2,
-            priority: 0,
-        },
-        AnyCall::Report {
-            channel: 0,
-            unit: 0,
-            outcome: 0,
-        },
-        &none[..0],
-    )
+    ended(s, area, 2, 0, &none[..0])
 }

@@ -1,18 +1,18 @@
--- `reel::reads::brought` meets its contract: an ask and a report in turn. Assumes nothing.
+-- `reel::reads::brought` meets its contract, as `ended` does. Assumes nothing.
 use Rattle.reel.specs.Steps.{broughtBy}
 use borrow.Author.Needs.{needs}
 use Rattle.reel.proofs.reads.brought.Statement.{statement}
 use Rattle.reel.proofs.reads.brought.Tie as tie
 
-in-turn-requires : tie.Need-in-turn-requires
-in-turn-requires c κs = search needs
+ended-requires : tie.Need-ended-requires
+ended-requires c κs = search needs
 
 same-length : tie.Need-same-length
 same-length c = search needs
 
 returns : tie.Need-returns
 unfolding broughtBy
-returns c = c .before .before .in-turn .ensures
+returns c = c .before .before .ended .ensures
 
 pub brought-spec : {M : Type 1} → statement M
-brought-spec = tie.close (tie.spec in-turn-requires same-length returns)
+brought-spec = tie.close (tie.spec ended-requires same-length returns)

@@ -1,4 +1,4 @@
--- `reel::writes::sent` meets its contract: an ask and a report in turn. Assumes nothing.
+-- `reel::writes::sent` meets its contract, as `ended` does. Assumes nothing.
 use Rattle.reel.specs.Steps.{sentBy}
 use borrow.Author.Needs.{needs}
 use Rattle.reel.proofs.writes.sent.Statement.{statement}
@@ -7,20 +7,20 @@ use Rattle.reel.proofs.writes.sent.Tie as tie
 array-share-prefix-none : tie.Need-array-share-prefix-none
 array-share-prefix-none c = search needs
 
-slice-aggregate-in-turn : tie.Need-slice-aggregate-in-turn
-slice-aggregate-in-turn c = search needs
+slice-aggregate-ended : tie.Need-slice-aggregate-ended
+slice-aggregate-ended c = search needs
 
-in-turn-requires : tie.Need-in-turn-requires
-in-turn-requires c κs = search needs
+ended-requires : tie.Need-ended-requires
+ended-requires c κs = search needs
 
 same-length : tie.Need-same-length
 same-length c = search needs
 
 returns : tie.Need-returns
 unfolding sentBy
-returns c = c .before .before .in-turn .ensures
+returns c = c .before .before .ended .ensures
 
 pub sent-spec : {M : Type 1} → statement M
 sent-spec =
     tie.close
-    (tie.spec array-share-prefix-none slice-aggregate-in-turn in-turn-requires same-length returns)
+    (tie.spec array-share-prefix-none slice-aggregate-ended ended-requires same-length returns)
