@@ -9,6 +9,7 @@ pub use answers::answer;
 pub use answers::shown_words;
 pub use call_record::got_words;
 pub use call_request::Delivery;
+pub use channel_outcomes::NO_LENGTH;
 pub use file::File;
 pub use file_input::Got;
 pub use file_input::got_count;

@@ -1,0 +1,55 @@
+-- `reel_lines::lines::is_text` meets its contract, with the place as invariant. Assumes nothing.
+use Prim.Native.Nat.{_-_, _≤_}
+use lib.ListN.{length}
+use borrow.Author.Needs.{needs}
+use Rattle.reel_lines.proofs.lines.is_text.Statement.{statement}
+use Rattle.reel_lines.proofs.lines.is_text.Tie as tie
+
+abbrev Inv-loop : tie.InvT-loop
+Inv-loop line text same₀ i₀ same i = (i ≤ length line)
+
+abbrev μ-loop : tie.MeasureT-loop
+μ-loop line text same₀ i₀ same i = length line - i
+
+returns : tie.Need-returns Inv-loop μ-loop
+returns c = search needs
+
+loop-holds : tie.Need-loop-holds Inv-loop μ-loop
+loop-holds c = search needs
+
+returns-2 : tie.Need-returns-2 Inv-loop μ-loop
+returns-2 c = search needs
+
+shared-slice-read-same : tie.Need-shared-slice-read-same Inv-loop μ-loop
+shared-slice-read-same c = search needs
+
+shared-slice-read-same-2 : tie.Need-shared-slice-read-same-2 Inv-loop μ-loop
+shared-slice-read-same-2 c = search needs
+
+add-i : tie.Need-add-i Inv-loop μ-loop
+add-i c = search needs
+
+loop-less : tie.Need-loop-less Inv-loop μ-loop
+loop-less c = search needs
+
+loop-again : tie.Need-loop-again Inv-loop μ-loop
+loop-again c = search needs
+
+returns-3 : tie.Need-returns-3 Inv-loop μ-loop
+returns-3 c = search needs
+
+pub is-text-spec : {M : Type 1} → statement M
+is-text-spec =
+    tie.close
+    (tie.spec
+    Inv-loop
+    μ-loop
+    returns
+    loop-holds
+    returns-2
+    shared-slice-read-same
+    shared-slice-read-same-2
+    add-i
+    loop-less
+    loop-again
+    returns-3)
