@@ -28,6 +28,7 @@ use Rattle.tape.specs.Reels.{Piece, Words, TapeMark, Reel, reelOf}
 use Rattle.tape.specs.Images.{isPiece, imageBytes}
 use Rattle.tape.proofs.Laws.Reading.{written-read}
 use Rattle.demands_reel.proofs.Blocks.{next-small, no-error, piece-checked}
+use Rattle.demands_reel.specs.Posts.{well}
 
 -- ---- data words in blocks
 
@@ -56,16 +57,16 @@ divided-data r size seals k (d ∷ ds) (next S D) words =
     (and-both _ _ (le-leb (length d) size (S .fits)) (and-left (allOf isWord d) _ both)))
     (divided-data r size seals (k + length d) ds D (and-right (allOf isWord d) _ both))
 
--- blocks that carry their check words, delivered in order: their data words, and no error
+-- blocks that carry their check words, delivered in order by good reads: their data words, and no error
 contents-back : (s c : Bool) (size k : ℕ) → k < 2 ^ 15 → (ds : List (List ℕ)) → allOf (isData size) ds ≡ true
-    → contents s c k (allChecked s c k ds) ≡ map word (joined ds)
+    → contents s c k (map well (allChecked s c k ds)) ≡ map word (joined ds)
 unfolding allOf contents allChecked joined
 contents-back s c size k h [] good = refl
 contents-back s c size k h (d ∷ ds) good =
     let this = and-left (isData size d) _ good in
     let b = checked s c k d in
     ap₂
-    (λ (e : ℕ) (l : List ℕ). (wrongsBy e (judgedBlock b s c k .found) ++ map word l) ++ contents s c (nextNumber k) (allChecked s c (nextNumber k) ds))
+    (λ (e : ℕ) (l : List ℕ). (wrongsBy e (judgedBlock b s c k .found) ++ map word l) ++ contents s c (nextNumber k) (map well (allChecked s c (nextNumber k) ds)))
     (no-error s c k d h (data-long size d this) (data-are-words size d this)) (data-checked s c k d)
     ∙ ap (λ (l : List Item). map word d ++ l) (contents-back s c size (nextNumber k) (next-small k) ds (and-right (isData size d) _ good))
     ∙ sym (map-append word d (joined ds))
@@ -126,13 +127,13 @@ module _ (s : State) (area : List ℕ) (ledgers : ℕ → Ledger) (K : Kept s ar
 
   pub posted-ledgers : (t : State) (zs : List ℕ) (others : ℕ → Ledger) → Kept t zs others → (j : ℕ) → fileAt t j .opened ≡ true → fileAt t j .output ≡ false
       → fileAt t j .sequence ≡ fileAt s i .sequence → fileAt t j .check ≡ fileAt s i .check
-      → (bcd : Bool) → map Words (others j .came) ≡ reelOf (imageBytes bcd (map Words (ledgers i .sent))) .pieces
+      → (bcd : Bool) (blocks : List (List ℕ)) → others j .came ≡ map well blocks → map Words blocks ≡ reelOf (imageBytes bcd (map Words (ledgers i .sent))) .pieces
       → joined (others j .owed) ≡ [] → others j .gone ≡ map word (ledgers i .puts)
-  posted-ledgers t zs others L j p v same-sequence same-check bcd e all =
+  posted-ledgers t zs others L j p v same-sequence same-check bcd blocks good e all =
       sym (append-nil (others j .gone)) ∙ ap (λ (l : List Item). others j .gone ++ l) (sym all)
       ∙ ledger-reads t zs others L j p v .items
       ∙ ap₂ (λ (a b : Bool). contents a b 1 (others j .came)) same-sequence same-check
-      ∙ ap (contents (fileAt s i .sequence) (fileAt s i .check) 1) (sent-back bcd (others j .came) e ∙ sent-is)
+      ∙ ap (contents (fileAt s i .sequence) (fileAt s i .check) 1) (good ∙ ap (map well) (sent-back bcd blocks e ∙ sent-is))
       ∙ contents-back (fileAt s i .sequence) (fileAt s i .check) (fileAt s i .size) 1 (omega arith) datas datas-good
       ∙ ap (map word) (ledger-closed s area ledgers K i o u z)
 
@@ -160,7 +161,7 @@ module _ (s₀ : State) (area₀ : List ℕ) (m w : ℕ) (masks : Masks) (starte
       → allOf isWord (puts .puts) ≡ true → fileAt wrote i .size + extra (fileAt wrote i .sequence) (fileAt wrote i .check) ≤ 1024
       → fileAt read j .opened ≡ true → fileAt read j .output ≡ false
       → fileAt read j .sequence ≡ fileAt wrote i .sequence → fileAt read j .check ≡ fileAt wrote i .check
-      → (bcd : Bool) → map Words (gets .came) ≡ reelOf (imageBytes bcd (map Words (puts .sent))) .pieces
+      → (bcd : Bool) (blocks : List (List ℕ)) → gets .came ≡ map well blocks → map Words blocks ≡ reelOf (imageBytes bcd (map Words (puts .sent))) .pieces
       → joined (gets .owed) ≡ [] → gets .gone ≡ map word (puts .puts)
   posted-calls o u z words small =
       posted-ledgers wrote wroteArea _ (always _ area₀ (λ i. blankLedger) (begun s₀ area₀ m w masks started) calls) i o u z words small

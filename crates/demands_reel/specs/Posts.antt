@@ -11,7 +11,7 @@ use Rattle.word.specs.declared.Checked.{Checked}
 use Rattle.word.specs.CheckWords.{extra, nextNumber}
 use Rattle.block.specs.Blocks.{judgedBlock}
 use Rattle.file.specs.Sizes.{sizesFit}
-use Rattle.demands_ledger.specs.Ledgers.{Choice, dataOf}
+use Rattle.demands_ledger.specs.Ledgers.{Choice, Came, dataOf}
 use Rattle.demands_ledger.specs.Blocks.{checked}
 use Rattle.tape.specs.Reels.{Piece, Words, TapeMark}
 
@@ -101,3 +101,9 @@ readBack c pieces = readFrom c 1 pieces
 abbrev pub lineOf : Piece → Line
 lineOf (Words ws) = entry ws
 lineOf TapeMark = mark
+
+-- ---- blocks of a reel as a ledger notes them
+
+-- a block that a good read brings
+abbrev pub well : List ℕ → Came
+well words = record { failed = 0; words = words }
