@@ -1,9 +1,10 @@
 // Plays events on one channel, one a line, and prints an answer line for each: what a second program's answers are compared with.
-// 0 MASK fresh start; 1 UNIT OP PRIORITY ask; 2 UNIT OUTCOME report; 3 freeze; 4 thaw; 5 the whole channel.
+// 0 MASK fresh start; 1 UNIT OP PRIORITY ask; 2 UNIT OUTCOME LENGTH report; 3 freeze; 4 thaw; 5 the whole channel.
 mod print;
 
 use channel::Channel;
 use channel::Op;
+use channel_outcomes::NO_LENGTH;
 use libc::STDIN_FILENO;
 use numbers::next;
 use print::answer;
@@ -79,21 +80,35 @@ fn ask(text: &[u8], p: Desk) -> Desk {
     }
 }
 
+// A length in words; one that is too large for a report stands for none.
+fn length_of(n: u64) -> u32 {
+    if n < 65536 { n as u32 } else { NO_LENGTH }
+}
+
 fn report(text: &[u8], p: Desk) -> Desk {
     let unit = next(text, p.at);
     let outcome = next(text, unit.at);
+    let length = next(text, outcome.at);
     let c = p.channel;
-    let told = channel_turns::report(c, unit.value as usize, small(outcome.value), p.frozen);
+    let u = unit.value as usize;
+    let told = channel_turns::report(
+        c,
+        u,
+        small(outcome.value),
+        length_of(length.value),
+        p.frozen,
+    );
+    let stood = channel::position_of(c, u);
     let d = told.channel;
     let v = told.verdict;
     answer(channel_outcomes::refusal_number(v) as u64);
-    number(channel_outcomes::result_number(v) as u64);
+    number(channel_outcomes::result_number(stood, v) as u64);
     number(channel_turns::working_number(d) as u64);
     end_line();
     Desk {
         channel: d,
         frozen: p.frozen,
-        at: outcome.at,
+        at: length.at,
     }
 }
 

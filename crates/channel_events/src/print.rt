@@ -1,6 +1,7 @@
 // Answers: numbers with one blank between them, a line feed after the last.
 use channel::Channel;
 use channel::Op;
+use channel::Position;
 use channel::Request;
 use channel::Turn;
 use channel::UNITS;
@@ -40,9 +41,11 @@ fn request(kind: u64, q: Request) {
     number(flag(q.priority));
     number(q.attempts as u64);
     number(q.incomplete as u64);
+    number(q.noise as u64);
 }
 
 fn idle() {
+    number(0);
     number(0);
     number(0);
     number(0);
@@ -59,6 +62,12 @@ fn turn(t: Turn) {
     }
 }
 
+fn position(p: Position) {
+    number(p.marks as u64);
+    number(p.records as u64);
+    number(flag(p.noisy));
+}
+
 fn declared(c: Channel, unit: usize) {
     let known = flag(channel::is_declared(c, unit));
     if unit == 0 {
@@ -68,13 +77,15 @@ fn declared(c: Channel, unit: usize) {
     }
 }
 
-// Six numbers for each unit, then the two marks, then whether the channel is frozen.
+// Ten numbers for each unit, then the two marks, then whether the channel is frozen.
 pub fn whole(c: Channel, frozen: bool) {
     let mut u = 0;
     while u < UNITS {
         declared(c, u);
         let t = channel::turn_of(c, u);
         turn(t);
+        let p = channel::position_of(c, u);
+        position(p);
         u += 1;
     }
     number(c.mark as u64);

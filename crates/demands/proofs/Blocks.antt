@@ -41,14 +41,14 @@ module _ (s : State) (area : List ℕ) (ledgers : ℕ → Ledger) (K : Kept s ar
     pub ledger-reads : fileAt s i .output ≡ false → Reads (s .w) (fileAt s i) area (ledgers i)
     ledger-reads u = let T = K .told i .brought o u in record { items = T .items; lies = T .lies }
 
-  pub ledger-judged : (i channel unit outcome : ℕ) (words : List ℕ) → serves channel unit (fileAt s i) ≡ true → words ≢ []
-      → answerOf s area (report channel unit outcome words) .refusal ≡ 0
-      → toldDelivery (answerOf s area (report channel unit outcome words) .added)
+  pub ledger-judged : (i channel unit outcome len : ℕ) (words : List ℕ) → serves channel unit (fileAt s i) ≡ true → words ≢ []
+      → answerOf s area (report channel unit outcome len words) .refusal ≡ 0
+      → toldDelivery (answerOf s area (report channel unit outcome len words) .added)
       ≡ With (judgedBlock words (fileAt s i .sequence) (fileAt s i .check) ((1 + length (ledgers i .came)) % blockNumbers) .found)
   unfolding answerOf
-  ledger-judged i channel unit outcome words on some z =
+  ledger-judged i channel unit outcome len words on some z =
       let j = fileOf s channel unit in
-      report-judged s area ledgers K channel unit outcome words z some
+      report-judged s area ledgers K channel unit outcome len words z some
       ∙ ap (λ (n : ℕ). With (judgedBlock words (fileAt s j .sequence) (fileAt s j .check) n .found)) (numbers (ledgers j .came))
       ∙ ap (λ (k : ℕ). With (judgedBlock words (fileAt s k .sequence) (fileAt s k .check) ((1 + length (ledgers k .came)) % blockNumbers) .found))
-      (sym (report-books-own s area channel unit outcome words (K .good .sixteen) z .only i on))
+      (sym (report-books-own s area channel unit outcome len words (K .good .sixteen) z .only i on))

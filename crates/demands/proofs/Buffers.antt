@@ -120,12 +120,12 @@ opened-takes s area file channel unit flags size rlen g e =
           );
     }
 
-pub reported-books : (s : State) (area : List ℕ) (channel unit outcome : ℕ) (words : List ℕ) → Good s
-    → answerOf s area (report channel unit outcome words) .refusal ≡ 0
-    → Books s channel unit (answerOf s area (report channel unit outcome words) .state)
+pub reported-books : (s : State) (area : List ℕ) (channel unit outcome len : ℕ) (words : List ℕ) → Good s
+    → answerOf s area (report channel unit outcome len words) .refusal ≡ 0
+    → Books s channel unit (answerOf s area (report channel unit outcome len words) .state)
 unfolding answerOf
-reported-books s area channel unit outcome words g e =
-    let B = report-books-own s area channel unit outcome words (g .sixteen) e in
+reported-books s area channel unit outcome len words g e =
+    let B = report-books-own s area channel unit outcome len words (g .sixteen) e in
     record {
       file = fileOf s channel unit;
       works = B .works;

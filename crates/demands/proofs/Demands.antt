@@ -16,7 +16,8 @@ use Rattle.file_input.specs.Gets.{gotNumber, gotFound}
 use Rattle.pool.specs.Serving.{serves}
 use Rattle.pool.specs.Free.{fileCount}
 use Rattle.state.specs.declared.State.{State}
-use Rattle.state.specs.Places.{beforeStart, fileAt}
+use Rattle.channel.specs.Units.{positionAt}
+use Rattle.state.specs.Places.{beforeStart, fileAt, channelAt}
 use Rattle.state_sound.specs.Soundness.{sound}
 use Rattle.pack_start.specs.declared.Masks.{Masks}
 use Rattle.call_request.specs.Ask.{isPriority}
@@ -31,7 +32,7 @@ use Rattle.demands_ledger.proofs.Always.{always, started as begun}
 use Rattle.pack.proofs.Seen.{stationAt}
 use Rattle.pack.proofs.Booking.{Shows, shows-start, shows-after}
 use Rattle.pack.proofs.Marking.{known-start, known-after}
-use Rattle.demands.specs.Results.{Results, Forbids}
+use Rattle.demands.specs.Results.{Results, Forbids, Stands}
 use Rattle.demands.specs.Marks.{Marks}
 use Rattle.demands.specs.Turns.{worksFor, isPending, Turns, Continues, toldWorking, Tells}
 use Rattle.demands_ledger.proofs.Asks.{Asked, always-asked, started-asked}
@@ -41,7 +42,7 @@ use Rattle.demands.specs.Written.{Cuts, Due, HandsOut}
 use Rattle.demands.proofs.Refusals.{refuses}
 use Rattle.demands.proofs.Buffers.{good-holds, closed-frees, opened-takes, reported-books}
 use Rattle.demands.proofs.Blocks.{ledger-writes, ledger-closed, ledger-reads, ledger-judged}
-use Rattle.demands.proofs.Results.{reported-results, refused-forbids}
+use Rattle.demands.proofs.Results.{reported-results, refused-forbids, reel-stands}
 use Rattle.demands.proofs.Marks.{asked-marks}
 use Rattle.demands.proofs.Turns.{call-turns, report-continues, ask-tells, report-tells, ask-single, report-idle, ask-holding}
 use Rattle.demands.specs.Orders.{Requests, On, EitherOrder}
@@ -110,11 +111,11 @@ module _ (s₀ : State) (area₀ : List ℕ) (m w : ℕ) (masks : Masks) (starte
       opened-takes (after start calls) area file channel unit flags size rlen (good calls)
 
   -- a completion is booked to the one file of its unit
-  pub demand2-booked : (calls : List Lent) (area : List ℕ) (channel unit outcome : ℕ) (words : List ℕ)
-      → answerOf (after start calls) area (report channel unit outcome words) .refusal ≡ 0
-      → Books (after start calls) channel unit (answerOf (after start calls) area (report channel unit outcome words) .state)
-  demand2-booked calls area channel unit outcome words =
-      reported-books (after start calls) area channel unit outcome words (good calls)
+  pub demand2-booked : (calls : List Lent) (area : List ℕ) (channel unit outcome len : ℕ) (words : List ℕ)
+      → answerOf (after start calls) area (report channel unit outcome len words) .refusal ≡ 0
+      → Books (after start calls) channel unit (answerOf (after start calls) area (report channel unit outcome len words) .state)
+  demand2-booked calls area channel unit outcome len words =
+      reported-books (after start calls) area channel unit outcome len words (good calls)
 
   -- "Scheduling, retry limits .. follow the manual and document 01." The book of a channel, and what is known of a file, after any calls:
   abbrev pub bookThen : List Lent → ℕ → Book
@@ -127,22 +128,26 @@ module _ (s₀ : State) (area₀ : List ℕ) (m w : ℕ) (masks : Masks) (starte
   shows calls c = shows-after c start blankBook calls (good-start s₀ area₀ m w masks started) (shows-start c s₀ area₀ m w masks started)
 
   -- the result of an accepted report is the table's
-  pub demand2-results : (calls : List Lent) (area : List ℕ) (channel unit outcome : ℕ) (words : List ℕ)
-      → answerOf (after start calls) area (report channel unit outcome words) .refusal ≡ 0
-      → Results (bookThen calls channel) unit outcome (toldResult (answerOf (after start calls) area (report channel unit outcome words) .added))
-  demand2-results calls area channel unit outcome words =
-      reported-results (after start calls) area channel unit outcome words (good calls) (bookThen calls channel) (shows calls channel)
+  pub demand2-results : (calls : List Lent) (area : List ℕ) (channel unit outcome len : ℕ) (words : List ℕ)
+      → answerOf (after start calls) area (report channel unit outcome len words) .refusal ≡ 0
+      → Results (bookThen calls channel) unit outcome len (toldResult (answerOf (after start calls) area (report channel unit outcome len words) .added))
+  demand2-results calls area channel unit outcome len words =
+      reported-results (after start calls) area channel unit outcome len words (good calls) (bookThen calls channel) (shows calls channel)
+
+  -- M-106: where the reel of a unit stands is decided by the calls alone
+  pub demand2-stands : (calls : List Lent) (c u : ℕ) → Stands (positionAt (channelAt (after start calls) c) u) (bookThen calls c .reels u)
+  demand2-stands calls c u = reel-stands (bookThen calls c .reels u) (shows calls c .stands u)
 
   -- and a report is refused 12 only if the table has no result for its outcome
-  pub demand2-forbidden : (calls : List Lent) (area : List ℕ) (channel unit outcome : ℕ) (words : List ℕ)
-      → answerOf (after start calls) area (report channel unit outcome words) .refusal ≡ 12 → Forbids (bookThen calls channel) unit outcome
-  demand2-forbidden calls area channel unit outcome words =
-      refused-forbids (after start calls) area channel unit outcome words (bookThen calls channel) (shows calls channel)
+  pub demand2-forbidden : (calls : List Lent) (area : List ℕ) (channel unit outcome len : ℕ) (words : List ℕ)
+      → answerOf (after start calls) area (report channel unit outcome len words) .refusal ≡ 12 → Forbids (bookThen calls channel) unit outcome
+  demand2-forbidden calls area channel unit outcome len words =
+      refused-forbids (after start calls) area channel unit outcome len words (bookThen calls channel) (shows calls channel)
 
   -- a report is refused 11 only if the channel is not working for that unit
-  pub demand2-idle : (calls : List Lent) (area : List ℕ) (channel unit outcome : ℕ) (words : List ℕ)
-      → answerOf (after start calls) area (report channel unit outcome words) .refusal ≡ 11 → worksFor (after start calls) channel unit ≡ false
-  demand2-idle calls area channel unit outcome words = report-idle (after start calls) area channel unit outcome words
+  pub demand2-idle : (calls : List Lent) (area : List ℕ) (channel unit outcome len : ℕ) (words : List ℕ)
+      → answerOf (after start calls) area (report channel unit outcome len words) .refusal ≡ 11 → worksFor (after start calls) channel unit ≡ false
+  demand2-idle calls area channel unit outcome len words = report-idle (after start calls) area channel unit outcome len words
 
   -- who works on channel c after a call x that is accepted: the book has the call in it
   abbrev pub bookWith : List Lent → Lent → ℕ → Book
@@ -154,13 +159,13 @@ module _ (s₀ : State) (area₀ : List ℕ) (m w : ℕ) (masks : Masks) (starte
 
   -- after a report on that channel: "a waiting priority request starts, displacing an incomplete ordinary one; else the incomplete operation
   -- continues; else a scan starts a waiting or displaced one."
-  pub demand2-continues : (calls : List Lent) (area : List ℕ) (channel unit outcome : ℕ) (words : List ℕ)
-      → answerOf (after start calls) area (report channel unit outcome words) .refusal ≡ 0
-      → Continues channel unit (toldResult (answerOf (after start calls) area (report channel unit outcome words) .added)) (after start calls)
-      (answerOf (after start calls) area (report channel unit outcome words) .state)
-      (bookWith calls (record { call = report channel unit outcome words; area = area }) channel)
-  demand2-continues calls area channel unit outcome words =
-      report-continues (after start calls) area (good calls) channel unit outcome words (bookThen calls channel) (shows calls channel)
+  pub demand2-continues : (calls : List Lent) (area : List ℕ) (channel unit outcome len : ℕ) (words : List ℕ)
+      → answerOf (after start calls) area (report channel unit outcome len words) .refusal ≡ 0
+      → Continues channel unit (toldResult (answerOf (after start calls) area (report channel unit outcome len words) .added)) (after start calls)
+      (answerOf (after start calls) area (report channel unit outcome len words) .state)
+      (bookWith calls (record { call = report channel unit outcome len words; area = area }) channel)
+  demand2-continues calls area channel unit outcome len words =
+      report-continues (after start calls) area (good calls) channel unit outcome len words (bookThen calls channel) (shows calls channel)
 
   -- "A unit holds one unanswered request at most; requests are not stacked.": where an ask is accepted, its unit has none
   pub demand2-single : (calls : List Lent) (area : List ℕ) (file op priority : ℕ) → answerOf (after start calls) area (ask file op priority) .refusal ≡ 0
@@ -184,12 +189,12 @@ module _ (s₀ : State) (area₀ : List ℕ) (m w : ℕ) (masks : Masks) (starte
       ask-tells (after start calls) area (good calls) file op priority (bookThen calls (fileAt (after start calls) file .channel))
       (shows calls (fileAt (after start calls) file .channel))
 
-  pub demand2-reported : (calls : List Lent) (area : List ℕ) (channel unit outcome : ℕ) (words : List ℕ)
-      → answerOf (after start calls) area (report channel unit outcome words) .refusal ≡ 0
-      → Tells (answerOf (after start calls) area (report channel unit outcome words) .state) channel
-      (toldWorking (answerOf (after start calls) area (report channel unit outcome words) .added))
-  demand2-reported calls area channel unit outcome words =
-      report-tells (after start calls) area (good calls) channel unit outcome words (bookThen calls channel) (shows calls channel)
+  pub demand2-reported : (calls : List Lent) (area : List ℕ) (channel unit outcome len : ℕ) (words : List ℕ)
+      → answerOf (after start calls) area (report channel unit outcome len words) .refusal ≡ 0
+      → Tells (answerOf (after start calls) area (report channel unit outcome len words) .state) channel
+      (toldWorking (answerOf (after start calls) area (report channel unit outcome len words) .added))
+  demand2-reported calls area channel unit outcome len words =
+      report-tells (after start calls) area (good calls) channel unit outcome len words (bookThen calls channel) (shows calls channel)
 
   -- an ask read is refused 10 exactly if a file mark has been read since the open, and no lower number is given
   pub demand2-marks : (calls : List Lent) (area : List ℕ) (file op priority : ℕ)
@@ -228,9 +233,9 @@ module _ (s₀ : State) (area₀ : List ℕ) (m w : ℕ) (masks : Masks) (starte
   demand2-reads calls i = ledger-reads (stateAfter start area₀ calls) (areaAfter start area₀ calls) (account calls) (kept calls) i
 
   -- the report of a delivered block, for the file i on its unit, answers that judgement and all that was found, with the number after those of the blocks before it
-  pub demand2-judged : (calls : List Call) (i channel unit outcome : ℕ) (words : List ℕ) → serves channel unit (fileThen calls i) ≡ true → words ≢ []
-      → answerOf (stateAfter start area₀ calls) (areaAfter start area₀ calls) (report channel unit outcome words) .refusal ≡ 0
-      → toldDelivery (answerOf (stateAfter start area₀ calls) (areaAfter start area₀ calls) (report channel unit outcome words) .added)
+  pub demand2-judged : (calls : List Call) (i channel unit outcome len : ℕ) (words : List ℕ) → serves channel unit (fileThen calls i) ≡ true → words ≢ []
+      → answerOf (stateAfter start area₀ calls) (areaAfter start area₀ calls) (report channel unit outcome len words) .refusal ≡ 0
+      → toldDelivery (answerOf (stateAfter start area₀ calls) (areaAfter start area₀ calls) (report channel unit outcome len words) .added)
       ≡ With (judgedBlock words (fileThen calls i .sequence) (fileThen calls i .check) ((1 + length (account calls i .came)) % blockNumbers) .found)
   demand2-judged calls = ledger-judged (stateAfter start area₀ calls) (areaAfter start area₀ calls) (account calls) (kept calls)
 
@@ -256,17 +261,17 @@ module _ (s₀ : State) (area₀ : List ℕ) (m w : ℕ) (masks : Masks) (starte
   demand2-cut calls = ledger-cuts (stateAfter start area₀ calls) (areaAfter start area₀ calls) (account calls) (kept calls)
 
   -- and which block an accepted report for the file i on its unit hands out
-  pub demand2-sent : (calls : List Call) (channel unit outcome : ℕ) (words : List ℕ)
-      → answerOf (stateAfter start area₀ calls) (areaAfter start area₀ calls) (report channel unit outcome words) .refusal ≡ 0
+  pub demand2-sent : (calls : List Call) (channel unit outcome len : ℕ) (words : List ℕ)
+      → answerOf (stateAfter start area₀ calls) (areaAfter start area₀ calls) (report channel unit outcome len words) .refusal ≡ 0
       → (i : ℕ) → isOn channel unit (account calls i) ≡ true
       → HandsOut (account calls i)
-      (noted i (report channel unit outcome words)
-      (answerOf (stateAfter start area₀ calls) (areaAfter start area₀ calls) (report channel unit outcome words)) (account calls i))
-      (answerOf (stateAfter start area₀ calls) (areaAfter start area₀ calls) (report channel unit outcome words))
+      (noted i (report channel unit outcome len words)
+      (answerOf (stateAfter start area₀ calls) (areaAfter start area₀ calls) (report channel unit outcome len words)) (account calls i))
+      (answerOf (stateAfter start area₀ calls) (areaAfter start area₀ calls) (report channel unit outcome len words))
   demand2-sent calls = ledger-sent (stateAfter start area₀ calls) (areaAfter start area₀ calls) (account calls) (kept calls) (asks calls)
 
   -- "From a fresh start (and no second), each call given the state that the last one left: an accepted ordinary request on a channel of U
-  -- declared units is answered at most once; until then its channel is working or frozen; its answer comes by the time 101 x (U + P)
+  -- declared units is answered at most once; until then its channel is working or frozen; its answer comes by the time 201 x (U + P)
   -- reports have been accepted on that channel since, P counting that channel's priority requests unanswered at its acceptance or
   -- accepted until its answer."
   pub demand3 : (before : List Lent) → count freshStart start before ≡ 0
@@ -277,7 +282,7 @@ module _ (s₀ : State) (area₀ : List ℕ) (m w : ℕ) (masks : Masks) (starte
       (answerOf (after start before) area (ask file op priority) .state) later
   demand3 = answered s₀ area₀ m w masks started
 
-  -- M-112: "With that and demand 3's premises, an accepted priority request is answered by the time 101 × U + 1 reports have been accepted on
+  -- M-112: "With that and demand 3's premises, an accepted priority request is answered by the time 201 × U + 1 reports have been accepted on
   -- its channel"; and answered at most once, its channel working or frozen until then
   pub demand3-urgent : (before : List Lent) → count freshStart start before ≡ 0
       → (file op priority : ℕ) (area : List ℕ) → isPriority priority ≡ true → answerOf (after start before) area (ask file op priority) .refusal ≡ 0

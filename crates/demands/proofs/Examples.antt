@@ -9,8 +9,9 @@ use Rattle.word.specs.Sums.{carryBack, sumFrom, logicalSum, firstHalf, lastHalf
 use Rattle.word.specs.CheckWords.{address, checkWord}
 use Rattle.block.specs.Blocks as blocks
 use Rattle.word.specs.Checks as checks
-use Rattle.channel_outcomes.specs.Rules.{rowOf, isAllowed, isPermanent, nextAttempt, endingOf, verdictOf}
-use Rattle.channel.specs.Units.{withTurn, freshWith, bitsFrom, freshOf, hasRequest, acceptsAt, operationAt}
+use Rattle.channel_outcomes.specs.Positions.{cleanerDue, notedBy, recordPassed, markPassed}
+use Rattle.channel_outcomes.specs.Rules.{rowOf, isAllowed, isPermanent, isNoise, pastNoise, nextAttempt, endingOf, tableVerdict, verdictOf, repeatedNumber}
+use Rattle.channel.specs.Units.{withUnit, freshWith, bitsFrom, freshOf, hasRequest, acceptsAt, operationAt}
 use Rattle.channel_turns.specs.Scans.{scanFrom, workingIn, priorityIn, ordinaryIn, nextTurn}
 use Rattle.channel_turns.specs.Turns.{judgeOf, goesOn, repeatOf, markAfter, urgentAfter, endOf, bookOf}
 use Rattle.channel_turns.specs.Starts.{startOf, askOf}
@@ -28,14 +29,14 @@ use Rattle.pool.specs.Serving.{servingFile}
 use Rattle.state_sound.specs.Files.{isBlank}
 use Rattle.state.specs.Places.{beforeStart}
 use Rattle.state.specs.Stores.{withFile, withChannel}
-use Rattle.state_sound.specs.Soundness.{numbersInRange, noBufferHeldTwice, eachHasItsOwn, requestsFit, channelsWork, readsAloneTake, writesHaveBlocks, fullBlocksRight, partBuffersRight, placesRight, attemptsInLimit, sound, freeMaskRight}
+use Rattle.state_sound.specs.Soundness.{positionRight, numbersInRange, noBufferHeldTwice, eachHasItsOwn, requestsFit, channelsWork, readsAloneTake, writesHaveBlocks, fullBlocksRight, partBuffersRight, placesRight, attemptsInLimit, sound, freeMaskRight}
 use Rattle.pack_start.specs.Fresh.{freshRows, freshState, freshBy}
 use Rattle.call_open.specs.Open.{openRows, openOn}
 use Rattle.pack_open.specs.Open.{openBy}
 use Rattle.pack_request.specs.Changes.{changedState}
 use Rattle.call_request.specs.Ask.{opOf, askRefusal, askedFile, askedChannel, askOn}
 use Rattle.pack_request.specs.Calls.{askBy, reportBy, reportByArea}
-use Rattle.call_request.specs.Report.{reportRefusal, reportedFile, reportedArea, reportOn, reportOnArea}
+use Rattle.call_request.specs.Report.{lengthWrong, reportRefusal, reportedFile, reportedArea, reportOn, reportOnArea}
 use Rattle.call_record.specs.Blocks.{sealedIn, sealedArea}
 use Rattle.call_record.specs.Put.{putRows, putRefusal, filledArea, putArea, putOn, putOnArea}
 use Rattle.pack_record.specs.Puts.{putBy, putByArea}
@@ -43,5 +44,5 @@ use Rattle.pack.specs.Calls.{answerOf}
 use Rattle.demands.specs.Examples.{play, repeatedFrom, table, allShown, allWanted}
 
 pub examples : allShown table ≡ allWanted table
-unfolding play repeatedFrom table anyOf allOf allPairs countOf firstAlong countAlong paste pastedIn lowest allFrom carryBack sumFrom logicalSum firstHalf lastHalf folded address checkWord blocks.blockSealRefusal blocks.withCheckWord blocks.sealedBlock blocks.judgeRefusal checks.errorOf checks.checkOf checks.isChecked blocks.judgedBlock rowOf isAllowed isPermanent nextAttempt endingOf verdictOf withTurn freshWith bitsFrom freshOf hasRequest acceptsAt operationAt scanFrom workingIn priorityIn ordinaryIn nextTurn startOf askOf judgeOf goesOn repeatOf markAfter urgentAfter endOf bookOf emptySide takenSide partSide oldest filledAt emptiedAt withoutOldest tookBuffer delivered gaveBack metMark putSide putStart added partStart partLength isComplete sealedFile afterPut sendStart sendWords afterWrite openedFile lowestFree freeCount servingFile isBlank beforeStart withFile withChannel numbersInRange noBufferHeldTwice eachHasItsOwn requestsFit channelsWork readsAloneTake writesHaveBlocks fullBlocksRight partBuffersRight placesRight attemptsInLimit sound freshRows freshState freshBy freeOf openRows openOn openBy changedState opOf askRefusal askedFile askedChannel askOn askBy reportRefusal reportedFile reportedArea reportOn reportOnArea reportBy reportByArea sealedIn sealedArea putRows putRefusal filledArea putArea putOn putOnArea putBy putByArea answerOf freeMaskRight freeAfter maskAlong
+unfolding play repeatedFrom table anyOf allOf allPairs countOf firstAlong countAlong paste pastedIn lowest allFrom carryBack sumFrom logicalSum firstHalf lastHalf folded address checkWord blocks.blockSealRefusal blocks.withCheckWord blocks.sealedBlock blocks.judgeRefusal checks.errorOf checks.checkOf checks.isChecked blocks.judgedBlock rowOf isAllowed isPermanent isNoise pastNoise nextAttempt endingOf tableVerdict verdictOf cleanerDue repeatedNumber notedBy recordPassed markPassed withUnit lengthWrong positionRight freshWith bitsFrom freshOf hasRequest acceptsAt operationAt scanFrom workingIn priorityIn ordinaryIn nextTurn startOf askOf judgeOf goesOn repeatOf markAfter urgentAfter endOf bookOf emptySide takenSide partSide oldest filledAt emptiedAt withoutOldest tookBuffer delivered gaveBack metMark putSide putStart added partStart partLength isComplete sealedFile afterPut sendStart sendWords afterWrite openedFile lowestFree freeCount servingFile isBlank beforeStart withFile withChannel numbersInRange noBufferHeldTwice eachHasItsOwn requestsFit channelsWork readsAloneTake writesHaveBlocks fullBlocksRight partBuffersRight placesRight attemptsInLimit sound freshRows freshState freshBy freeOf openRows openOn openBy changedState opOf askRefusal askedFile askedChannel askOn askBy reportRefusal reportedFile reportedArea reportOn reportOnArea reportBy reportByArea sealedIn sealedArea putRows putRefusal filledArea putArea putOn putOnArea putBy putByArea answerOf freeMaskRight freeAfter maskAlong
 examples = refl

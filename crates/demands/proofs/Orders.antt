@@ -24,7 +24,7 @@ use Rattle.channel.specs.declared.Turn.{Turn}
 use Rattle.channel.specs.declared.Turn.the-variants.{Idle, Waiting, Displaced, Working}
 use Rattle.channel.specs.declared.Work.{Work}
 use Rattle.channel.specs.declared.Work.the-variants as work
-use Rattle.channel.specs.Units.{turnAt, workOf, operationAt}
+use Rattle.channel.specs.Units.{positionAt, turnAt, workOf, operationAt}
 use Rattle.channel_turns.specs.Turns.{judgeOf}
 use Rattle.word.specs.declared.Checked.{Checked}
 use Rattle.file.specs.declared.File.{File}
@@ -197,9 +197,9 @@ askAct wrong file f c op priority frozen =
       words = [];
     }
 
-reportAct : Bool → ℕ → File → ℕ → Channel → ℕ → ℕ → ℕ → Bool → List ℕ → List ℕ → Act
-reportAct wrong file f channel c u outcome w frozen area words =
-    let x = reportOn wrong f c u outcome w frozen area words in
+reportAct : Bool → ℕ → File → ℕ → Channel → ℕ → ℕ → ℕ → ℕ → Bool → List ℕ → List ℕ → Act
+reportAct wrong file f channel c u outcome len w frozen area words =
+    let x = reportOn wrong f c u outcome len w frozen area words in
     record {
       refusal = x .refusal;
       added = reported (x .result) (x .delivery) (x .working);
@@ -209,7 +209,7 @@ reportAct wrong file f channel c u outcome w frozen area words =
       channel = channel;
       newFile = x .file;
       newChannel = x .channel;
-      delivers = isDelivery (effectAt c u outcome);
+      delivers = isDelivery (effectAt c u outcome len);
       at = startAt f w (takenSide f);
       words = words;
     }
@@ -217,8 +217,8 @@ reportAct wrong file f channel c u outcome w frozen area words =
 abbrev actOf : State → List ℕ → Call → Act
 actOf s area (ask file op priority) =
     askAct (askWrong s file) file (fileAt s file) (channelAt s (fileAt s file .channel)) op priority (s .frozen)
-actOf s area (report channel unit outcome words) =
-    reportAct (reportWrong s (length area) channel) (fileOf s channel unit) (fileAt s (fileOf s channel unit)) channel (channelAt s channel) unit outcome (s .w)
+actOf s area (report channel unit outcome len words) =
+    reportAct (reportWrong s (length area) channel) (fileOf s channel unit) (fileAt s (fileOf s channel unit)) channel (channelAt s channel) unit outcome len (s .w)
     (s .frozen) area words
 actOf s area (fresh m w masks) = askAct true 0 closedFile noChannel 0 0 false
 actOf s area (opening file channel unit flags size rlen) = askAct true 0 closedFile noChannel 0 0 false
@@ -235,31 +235,31 @@ cond-same true x = refl
 cond-same false x = refl
 
 -- the area after a report, by the report's own answer
-area-is : (wrong : Bool) (f : File) (c : Channel) (u outcome w : ℕ) (frozen : Bool) (area words : List ℕ)
-    → reportOnArea wrong f c u outcome w area words
-    ≡ cond (eqb (reportOn wrong f c u outcome w frozen area words .refusal) 0)
-    (cond (isDelivery (effectAt c u outcome)) (pastedIn (startAt f w (takenSide f)) words area) area) area
+area-is : (wrong : Bool) (f : File) (c : Channel) (u outcome len w : ℕ) (frozen : Bool) (area words : List ℕ)
+    → reportOnArea wrong f c u outcome len w area words
+    ≡ cond (eqb (reportOn wrong f c u outcome len w frozen area words .refusal) 0)
+    (cond (isDelivery (effectAt c u outcome len)) (pastedIn (startAt f w (takenSide f)) words area) area) area
 unfolding reportOn reportOnArea reportedArea
-area-is wrong f c u outcome w frozen area words = go (ℕ-discrete (reportRefusal wrong f c u outcome w area words) 0)
+area-is wrong f c u outcome len w frozen area words = go (ℕ-discrete (reportRefusal wrong f c u outcome len w area words) 0)
   where
     n : ℕ
-    n = reportRefusal wrong f c u outcome w area words
+    n = reportRefusal wrong f c u outcome len w area words
 
     go : Dec (n ≡ 0)
-        → reportOnArea wrong f c u outcome w area words
-        ≡ cond (eqb (reportOn wrong f c u outcome w frozen area words .refusal) 0)
-        (cond (isDelivery (effectAt c u outcome)) (pastedIn (startAt f w (takenSide f)) words area) area) area
-    go (yes e) = rw (eq-eqb (reportRefusal wrong f c u outcome w area words) 0 e)
+        → reportOnArea wrong f c u outcome len w area words
+        ≡ cond (eqb (reportOn wrong f c u outcome len w frozen area words .refusal) 0)
+        (cond (isDelivery (effectAt c u outcome len)) (pastedIn (startAt f w (takenSide f)) words area) area) area
+    go (yes e) = rw (eq-eqb (reportRefusal wrong f c u outcome len w area words) 0 e)
     go (no e) =
-        rw (ne-eqb (reportRefusal wrong f c u outcome w area words) 0 e)
-        (rw (ne-eqb (reportRefusal wrong f c u outcome w area words) 0 e))
+        rw (ne-eqb (reportRefusal wrong f c u outcome len w area words) 0 e)
+        (rw (ne-eqb (reportRefusal wrong f c u outcome len w area words) 0 e))
 
 answer-by : (s : State) (area : List ℕ) (x : Call) → Requests x → answerOf s area x ≡ answerBy (actOf s area x) s area
 unfolding answerOf askBy reportBy reportByArea askAct reportAct
 answer-by s area (ask file op priority) asking = rw (cond-same (eqb (askChange s file op priority .refusal) 0) area)
-answer-by s area (report channel unit outcome words) reporting =
-    ap (told (reportBy s area channel unit outcome words))
-    (area-is (reportWrong s (length area) channel) (fileAt s (fileOf s channel unit)) (channelAt s channel) unit outcome (s .w) (s .frozen) area words)
+answer-by s area (report channel unit outcome len words) reporting =
+    ap (told (reportBy s area channel unit outcome len words))
+    (area-is (reportWrong s (length area) channel) (fileAt s (fileOf s channel unit)) (channelAt s channel) unit outcome len (s .w) (s .frozen) area words)
 
 -- ---- an accepted one, of the file i and the channel c, from the state s to the state t
 
@@ -305,9 +305,9 @@ module _ (s : State) (area : List ℕ) (g : Good s) where
     lies = kept;
   }
 
-  module _ (channel unit outcome : ℕ) (words : List ℕ) (z : answerOf s area (report channel unit outcome words) .refusal ≡ 0) where
+  module _ (channel unit outcome len : ℕ) (words : List ℕ) (z : answerOf s area (report channel unit outcome len words) .refusal ≡ 0) where
     abbrev x : Call
-    x = report channel unit outcome words
+    x = report channel unit outcome len words
 
     abbrev i : ℕ
     i = fileOf s channel unit
@@ -317,12 +317,12 @@ module _ (s : State) (area : List ℕ) (g : Good s) where
 
     served : serves channel unit f ≡ true
     unfolding answerOf
-    served = report-books-own s area channel unit outcome words (g .sixteen) z .bound
+    served = report-books-own s area channel unit outcome len words (g .sixteen) z .bound
 
-    effect-lies : (b : Bool) → isDelivery (effectAt (channelAt s channel) unit outcome) ≡ b → Lies s i area (answerOf s area x .area)
+    effect-lies : (b : Bool) → isDelivery (effectAt (channelAt s channel) unit outcome len) ≡ b → Lies s i area (answerOf s area x .area)
     unfolding answerOf reportRefusal reportAct
     effect-lies true d =
-        let D = report-delivers s area channel unit outcome words (g .sixteen) (sym (report-exactly s area channel unit outcome words .number) ∙ z) d in
+        let D = report-delivers s area channel unit outcome len words (g .sixteen) (sym (report-exactly s area channel unit outcome len words .number) ∙ z) d in
         let b = bufferAt f (takenSide f) .number in
         written b (answerOf s area x .area) (D .held)
         (subst (Only (b * s .w) (s .w) area) (sym (D .pasted))
@@ -339,20 +339,20 @@ module _ (s : State) (area : List ℕ) (g : Good s) where
     report-did = record {
       isOpen = and-left (f .opened) _ served;
       bound = eqb-true (f .channel) channel (and-left (eqb (f .channel) channel) _ (and-right (f .opened) _ served));
-      frame = report-frame s area channel unit outcome words;
+      frame = report-frame s area channel unit outcome len words;
       same =
-          ap (λ (k : File). k .channel) (report-file s area channel unit outcome words (g .sixteen) z)
-          ∙ reported-channel (effectAt (channelAt s channel) unit outcome) f (length words) _
+          ap (λ (k : File). k .channel) (report-file s area channel unit outcome len words (g .sixteen) z)
+          ∙ reported-channel (effectAt (channelAt s channel) unit outcome len) f (length words) _
           ∙ eqb-true (f .channel) channel (and-left (eqb (f .channel) channel) _ (and-right (f .opened) _ served));
       good = call-kept s area g x;
-      lies = effect-lies (isDelivery (effectAt (channelAt s channel) unit outcome)) refl;
+      lies = effect-lies (isDelivery (effectAt (channelAt s channel) unit outcome len)) refl;
     }
 
   did : (x : Call) → Requests x → answerOf s area x .refusal ≡ 0
       → Did s area (actOf s area x .file) (actOf s area x .channel) (answerOf s area x .state) (answerOf s area x .area)
   unfolding askAct reportAct
   did (ask file op priority) asking z = ask-did file op priority z
-  did (report channel unit outcome words) reporting z = report-did channel unit outcome words z
+  did (report channel unit outcome len words) reporting z = report-did channel unit outcome len words z
 
 -- ---- what another call goes by
 
@@ -364,11 +364,11 @@ first-same next test other (suc n) u e =
     ∙ ap (λ (f : Found). cond (other u) (At u) f) (first-same next test other n (next u) e)
 
 -- a report goes by the area only where it shows a block
-shown-alike : (wrong : Bool) (k : ℕ) (f : File) (n : ℕ) (c : Channel) (u outcome w : ℕ) (frozen : Bool) (xs zs words : List ℕ)
-    → shownBlock (effectAt c u outcome) w f zs ≡ shownBlock (effectAt c u outcome) w f xs
-    → reportAct wrong k f n c u outcome w frozen zs words ≡ reportAct wrong k f n c u outcome w frozen xs words
+shown-alike : (wrong : Bool) (k : ℕ) (f : File) (n : ℕ) (c : Channel) (u outcome len w : ℕ) (frozen : Bool) (xs zs words : List ℕ)
+    → shownBlock (effectAt c u outcome len) w f zs ≡ shownBlock (effectAt c u outcome len) w f xs
+    → reportAct wrong k f n c u outcome len w frozen zs words ≡ reportAct wrong k f n c u outcome len w frozen xs words
 unfolding reportAct reportOn reportRefusal
-shown-alike wrong k f n c u outcome w frozen xs zs words e = rw e
+shown-alike wrong k f n c u outcome len w frozen xs zs words e = rw e
 
 work-asked : (t : Turn) → isWrite (workOf t) ≡ true → isWrite (requested t) ≡ true
 work-asked Idle e = e
@@ -471,26 +471,26 @@ module _ (s : State) (area : List ℕ) (g : Good s) (i c : ℕ) (t : State) (zs 
             buffer ys kept = refl
             buffer ys (written b _ h O) = others-same s g i b h area ys O (fileOf s n u) not-own isOpen k o
 
-    shown-same : (outcome : ℕ) → shownBlock (effectAt (channelAt s n) u outcome) (s .w) own zs ≡ shownBlock (effectAt (channelAt s n) u outcome) (s .w) own area
+    shown-same : (outcome len : ℕ) → shownBlock (effectAt (channelAt s n) u outcome len) (s .w) own zs ≡ shownBlock (effectAt (channelAt s n) u outcome len) (s .w) own area
     unfolding operationAt
-    shown-same outcome = go (effectAt (channelAt s n) u outcome) refl
+    shown-same outcome len = go (effectAt (channelAt s n) u outcome len) refl
       where
-        go : (x : Effect) → effectAt (channelAt s n) u outcome ≡ x → shownBlock x (s .w) own zs ≡ shownBlock x (s .w) own area
+        go : (x : Effect) → effectAt (channelAt s n) u outcome len ≡ x → shownBlock x (s .w) own zs ≡ shownBlock x (s .w) own area
         go Delivers e = refl
         go MeetsMark e = refl
         go GivesBack e = refl
         go Sends e =
-            let sends = sym (sends-exactly (operationAt (channelAt s n) u) (judgeOf (channelAt s n) u outcome)) ∙ ap isSending e in
+            let sends = sym (sends-exactly (operationAt (channelAt s n) u) (positionAt (channelAt s n) u) (judgeOf (channelAt s n) u outcome len)) ∙ ap isSending e in
             block-same (writes (and-left (isWrite (operationAt (channelAt s n) u)) _ sends))
           where
             writes : isWrite (operationAt (channelAt s n) u) ≡ true → isWrite (requested (turnAt (channelAt s n) u)) ≡ true
             writes = work-asked (turnAt (channelAt s n) u)
         go Keeps e = refl
 
-    report-same : (outcome : ℕ) (words : List ℕ) → actOf t zs (report n u outcome words) ≡ actOf s area (report n u outcome words)
-    report-same outcome words =
+    report-same : (outcome len : ℕ) (words : List ℕ) → actOf t zs (report n u outcome len words) ≡ actOf s area (report n u outcome len words)
+    report-same outcome len words =
         rw (right-same, serving-same, file-same, channel-same, long, D .frame .buffers, D .frame .words, D .frame .frozen)
-        (shown-alike _ (fileOf s n u) own n (channelAt s n) u outcome (s .w) (s .frozen) area zs words (shown-same outcome))
+        (shown-alike _ (fileOf s n u) own n (channelAt s n) u outcome len (s .w) (s .frozen) area zs words (shown-same outcome len))
 
 -- ---- the answer to another call
 
@@ -509,32 +509,32 @@ refused-says : (s : State) (area : List ℕ) (x : Call) → answerOf s area x .r
 refused-says s area x h = ap says (call-alone s area x h)
 
 -- the words that an answer shows are the same in an area that shows the same block
-shows-alike : (wrong : Bool) (k : ℕ) (f : File) (n : ℕ) (c : Channel) (u outcome w : ℕ) (frozen : Bool) (xs zs words : List ℕ)
-    → shownBlock (effectAt c u outcome) w f zs ≡ shownBlock (effectAt c u outcome) w f xs
-    → let A = reportAct wrong k f n c u outcome w frozen xs words in partOf (A .start) (A .count) (areaBy A zs) ≡ partOf (A .start) (A .count) (areaBy A xs)
+shows-alike : (wrong : Bool) (k : ℕ) (f : File) (n : ℕ) (c : Channel) (u outcome len w : ℕ) (frozen : Bool) (xs zs words : List ℕ)
+    → shownBlock (effectAt c u outcome len) w f zs ≡ shownBlock (effectAt c u outcome len) w f xs
+    → let A = reportAct wrong k f n c u outcome len w frozen xs words in partOf (A .start) (A .count) (areaBy A zs) ≡ partOf (A .start) (A .count) (areaBy A xs)
 unfolding reportAct reportOn
-shows-alike wrong k f n c u outcome w frozen xs zs words e = go (ℕ-discrete (reportRefusal wrong f c u outcome w xs words) 0) (effectAt c u outcome) refl
+shows-alike wrong k f n c u outcome len w frozen xs zs words e = go (ℕ-discrete (reportRefusal wrong f c u outcome len w xs words) 0) (effectAt c u outcome len) refl
   where
     A : Act
-    A = reportAct wrong k f n c u outcome w frozen xs words
+    A = reportAct wrong k f n c u outcome len w frozen xs words
 
-    go : Dec (reportRefusal wrong f c u outcome w xs words ≡ 0) → (x : Effect) → effectAt c u outcome ≡ x
+    go : Dec (reportRefusal wrong f c u outcome len w xs words ≡ 0) → (x : Effect) → effectAt c u outcome len ≡ x
         → partOf (A .start) (A .count) (areaBy A zs) ≡ partOf (A .start) (A .count) (areaBy A xs)
-    go (no h) x q = rw (ne-eqb (reportRefusal wrong f c u outcome w xs words) 0 h)
-    go (yes z) Delivers q = rw (eq-eqb (reportRefusal wrong f c u outcome w xs words) 0 z, q)
-    go (yes z) MeetsMark q = rw (eq-eqb (reportRefusal wrong f c u outcome w xs words) 0 z, q)
-    go (yes z) GivesBack q = rw (eq-eqb (reportRefusal wrong f c u outcome w xs words) 0 z, q)
+    go (no h) x q = rw (ne-eqb (reportRefusal wrong f c u outcome len w xs words) 0 h)
+    go (yes z) Delivers q = rw (eq-eqb (reportRefusal wrong f c u outcome len w xs words) 0 z, q)
+    go (yes z) MeetsMark q = rw (eq-eqb (reportRefusal wrong f c u outcome len w xs words) 0 z, q)
+    go (yes z) GivesBack q = rw (eq-eqb (reportRefusal wrong f c u outcome len w xs words) 0 z, q)
     go (yes z) Sends q =
         let shown : shownBlock Sends w f zs ≡ shownBlock Sends w f xs = rw q at e in
-        rw (eq-eqb (reportRefusal wrong f c u outcome w xs words) 0 z, q) shown
-    go (yes z) Keeps q = rw (eq-eqb (reportRefusal wrong f c u outcome w xs words) 0 z, q)
+        rw (eq-eqb (reportRefusal wrong f c u outcome len w xs words) 0 z, q) shown
+    go (yes z) Keeps q = rw (eq-eqb (reportRefusal wrong f c u outcome len w xs words) 0 z, q)
 
 module _ (s : State) (area : List ℕ) (g : Good s) (i c : ℕ) (t : State) (zs : List ℕ) (D : Did s area i c t zs) where
   -- a call that is on a channel, and not on that one
   data Elsewhere : Call → Type 0 where
     asked : (file op priority : ℕ) → fileAt s file .opened ≡ true → fileAt s file .channel ≢ c → Elsewhere (ask file op priority)
     closed : (file op priority : ℕ) → fileAt s file .opened ≡ false → Elsewhere (ask file op priority)
-    heard : (channel unit outcome : ℕ) (words : List ℕ) → channel ≢ c → Elsewhere (report channel unit outcome words)
+    heard : (channel unit outcome len : ℕ) (words : List ℕ) → channel ≢ c → Elsewhere (report channel unit outcome len words)
 
   elsewhere : (y : Call) → Requests y → (On s c y → ⊥) → Elsewhere y
   elsewhere (ask file op priority) asking apart = go (fileAt s file .opened) refl
@@ -542,7 +542,7 @@ module _ (s : State) (area : List ℕ) (g : Good s) (i c : ℕ) (t : State) (zs 
       go : (b : Bool) → fileAt s file .opened ≡ b → Elsewhere (ask file op priority)
       go true o = asked file op priority o (λ e. apart (asks o e))
       go false o = closed file op priority o
-  elsewhere (report channel unit outcome words) reporting apart = heard channel unit outcome words (λ e. apart (reports e))
+  elsewhere (report channel unit outcome len words) reporting apart = heard channel unit outcome len words (λ e. apart (reports e))
 
   says-same : (y : Call) → Elsewhere y → says (answerOf t zs y) ≡ says (answerOf s area y)
   unfolding askAct
@@ -559,20 +559,20 @@ module _ (s : State) (area : List ℕ) (g : Good s) (i c : ℕ) (t : State) (zs 
       refused-says t zs y (λ e. refused (sym number ∙ e))
       ∙ ap (λ (n : ℕ). record { refusal = n; added = addsNothing y; shows = [] }) number
       ∙ sym (refused-says s area y refused)
-  says-same y (heard channel unit outcome words ne) =
-      let same = report-same s area g i c t zs D channel unit ne outcome words in
+  says-same y (heard channel unit outcome len words ne) =
+      let same = report-same s area g i c t zs D channel unit ne outcome len words in
       ap says (answer-by t zs y reporting)
       ∙ ap (λ (A : Act). record { refusal = A .refusal; added = A .added; shows = partOf (A .start) (A .count) (areaBy A zs) }) same
       ∙ ap (λ (ws : List ℕ). record { refusal = actOf s area y .refusal; added = actOf s area y .added; shows = ws })
-      (shows-alike _ (fileOf s channel unit) (fileAt s (fileOf s channel unit)) channel (channelAt s channel) unit outcome (s .w) (s .frozen) area zs words
-      (shown-same s area g i c t zs D channel unit ne outcome))
+      (shows-alike _ (fileOf s channel unit) (fileAt s (fileOf s channel unit)) channel (channelAt s channel) unit outcome len (s .w) (s .frozen) area zs words
+      (shown-same s area g i c t zs D channel unit ne outcome len))
       ∙ sym (ap says (answer-by s area y reporting))
 
   -- an accepted one does after it what it does before it
   act-same : (y : Call) → Elsewhere y → answerOf s area y .refusal ≡ 0 → actOf t zs y ≡ actOf s area y
   act-same y (asked file op priority o ne) z = ask-same s area g i c t zs D file op priority ne
   act-same y (closed file op priority o) z = absurd (one-or-five (askWrong s file || (ltb 2 op || ltb 1 priority)) (sym (closed-number s area file op priority o) ∙ z))
-  act-same y (heard channel unit outcome words ne) z = report-same s area g i c t zs D channel unit ne outcome words
+  act-same y (heard channel unit outcome len words ne) z = report-same s area g i c t zs D channel unit ne outcome len words
 
 -- ---- both accepted
 
@@ -609,8 +609,8 @@ record Fits (s : State) (xs : List ℕ) (A : Act) : Type 0 where
 fits : (s : State) (area : List ℕ) → Good s → (x : Call) → Requests x → answerOf s area x .refusal ≡ 0 → actOf s area x .delivers ≡ true → Fits s area (actOf s area x)
 unfolding answerOf askAct reportAct reportRefusal
 fits s area g (ask file op priority) asking z d = true-not-false d refl
-fits s area g (report channel unit outcome words) reporting z d =
-    let D = report-delivers s area channel unit outcome words (g .sixteen) (sym (report-exactly s area channel unit outcome words .number) ∙ z) d in
+fits s area g (report channel unit outcome len words) reporting z d =
+    let D = report-delivers s area channel unit outcome len words (g .sixteen) (sym (report-exactly s area channel unit outcome len words .number) ∙ z) d in
     record { buffer = bufferAt (fileAt s (fileOf s channel unit)) (takenSide (fileAt s (fileOf s channel unit))) .number; place = refl; held = D .held; room = D .room; inside = D .inside }
 
 buffers-apart : (w a b n k : ℕ) → a ≢ b → n ≤ w → k ≤ w → (a * w + n ≤ b * w) ⊎ (b * w + k ≤ a * w)
@@ -625,7 +625,7 @@ buffers-apart w a b n k ne l r = go (decLt a b) (decLt b a)
 on-channel : (s : State) (area : List ℕ) (g : Good s) (x : Call) → Requests x → answerOf s area x .refusal ≡ 0 → On s (actOf s area x .channel) x
 unfolding askAct reportAct
 on-channel s area g (ask file op priority) asking z = asks (ask-did s area g file op priority z .isOpen) refl
-on-channel s area g (report channel unit outcome words) reporting z = reports refl
+on-channel s area g (report channel unit outcome len words) reporting z = reports refl
 
 module _ (s : State) (area : List ℕ) (g : Good s) (x y : Call) (rx : Requests x) (ry : Requests y) (apart : (c : ℕ) → On s c x → On s c y → ⊥)
     (zx : answerOf s area x .refusal ≡ 0) (zy : answerOf s area y .refusal ≡ 0) where
@@ -767,8 +767,8 @@ turned s area x y E = record { first = E .second; second = E .first; state = sym
 was-sound : (s : State) (area : List ℕ) (x : Call) → Requests x → length (s .files) ≡ fileCount → answerOf s area x .refusal ≡ 0 → sound s ≡ true
 unfolding answerOf askRefusal reportRefusal
 was-sound s area (ask file op priority) asking n z = ask-was-sound s file op priority (sym (ask-exactly s file op priority .number) ∙ z)
-was-sound s area (report channel unit outcome words) reporting n z =
-    report-was-sound s area channel unit outcome words n (sym (report-exactly s area channel unit outcome words .number) ∙ z)
+was-sound s area (report channel unit outcome len words) reporting n z =
+    report-was-sound s area channel unit outcome len words n (sym (report-exactly s area channel unit outcome len words .number) ∙ z)
 
 pub either-order : (s : State) (area : List ℕ) (x y : Call) → length (s .files) ≡ fileCount → Requests x → Requests y
     → ((c : ℕ) → On s c x → On s c y → ⊥) → EitherOrder s area x y

@@ -15,7 +15,7 @@ use Rattle.channel.specs.declared.Request.{Request}
 use Rattle.channel.specs.declared.Turn.{Turn}
 use Rattle.channel.specs.declared.Turn.the-variants.{Idle, Waiting, Displaced, Working}
 use Rattle.channel.specs.declared.Channel.{Channel}
-use Rattle.channel.specs.Units.{unitCount, size, turnAt, isIdle, workOf, operationAt, hasRequest, isWorking}
+use Rattle.channel.specs.Units.{positionAt, unitCount, size, turnAt, isIdle, workOf, operationAt, hasRequest, isWorking}
 use Rattle.channel_outcomes.specs.declared.Ending.{Ending}
 use Rattle.channel_outcomes.specs.declared.Ending.the-variants.{Good, Opposite, MarkRead, MediumEnd, LostRedundancy, LostIncomplete}
 use Rattle.channel_outcomes.specs.declared.Verdict.{Verdict}
@@ -46,12 +46,12 @@ use Rattle.pack_request.specs.Calls.{askWrong}
 use Rattle.pack_request.proofs.AskTheorems.{ask-ready, ask-exactly, ask-frame, ask-working}
 use Rattle.pack_request.proofs.ReportTheorems.{Booked, again, ended, report-exactly, view, report-event, report-frame, report-working}
 use Rattle.pack.specs.Calls.{Call, fresh, opening, close, ask, report, get, put, seal, skip, freeze, thaw, answerOf}
-use Rattle.pack.specs.Histories.{isAccepted}
+use Rattle.pack.specs.Histories.{isRepeat, isAccepted}
 use Rattle.pack.specs.Books.{toldResult, Pending, Book, isUrgent, isOrdinary, booked, bookedAt}
 use Rattle.pack.proofs.Kept as kept
 use Rattle.pack.proofs.Kept.{call-kept}
 use Rattle.pack.proofs.Seen.{stationAt, eventIf, seen, call-agrees}
-use Rattle.pack.proofs.Counted.{result-is}
+use Rattle.pack.proofs.Counted.{repeats-told, result-is}
 use Rattle.pack.proofs.Booking.{asHeld, lastAs, MarkIs, Shows, call-shows}
 use Rattle.demands.specs.Turns as turns
 use Rattle.demands.specs.Turns.{worksFor, NoneWorks, SomeWorks, Earlier, fromZero, above, below, Starts, isPending, Begins, asks, thaws, Changes, reports, begins, afresh, Turns, Continues, toldWorking, Tells}
@@ -260,9 +260,9 @@ module _ (c : ℕ) (s : State) (area : List ℕ) (g : kept.Good s) (b₀ : Book)
   stopped (close file) z f = stopped-by (seen c s area (close file)) _ (call-agrees c s area g (close file)) (D (close file) .frozen ∙ f)
   stopped (ask file op priority) z f =
       stopped-by (seen c s area (ask file op priority)) _ (call-agrees c s area g (ask file op priority)) (D (ask file op priority) .frozen ∙ f)
-  stopped (report channel unit outcome words) z f =
-      stopped-by (seen c s area (report channel unit outcome words)) _ (call-agrees c s area g (report channel unit outcome words))
-      (D (report channel unit outcome words) .frozen ∙ f)
+  stopped (report channel unit outcome len words) z f =
+      stopped-by (seen c s area (report channel unit outcome len words)) _ (call-agrees c s area g (report channel unit outcome len words))
+      (D (report channel unit outcome len words) .frozen ∙ f)
   stopped (get file) z f = stopped-by (seen c s area (get file)) _ (call-agrees c s area g (get file)) (D (get file) .frozen ∙ f)
   stopped (put file words) z f = stopped-by (seen c s area (put file words)) _ (call-agrees c s area g (put file words)) (D (put file words) .frozen ∙ f)
   stopped (seal file) z f = stopped-by (seen c s area (seal file)) _ (call-agrees c s area g (seal file)) (D (seal file) .frozen ∙ f)
@@ -286,16 +286,16 @@ module _ (c : ℕ) (s : State) (area : List ℕ) (g : kept.Good s) (b₀ : Book)
       go (yes e) (inr b) =
           ask-busy (stationAt c s) (fileAt s file .unit) (opOf op) (isPriority priority)
           (stepTo history.accepted (stationAt c (then (ask file op priority)))) (ask-took file op priority z e) b u
-  unchanged (report channel unit outcome words) z n u = go (ℕ-discrete channel c)
+  unchanged (report channel unit outcome len words) z n u = go (ℕ-discrete channel c)
     where
-      go : Dec (channel ≡ c) → worksFor (then (report channel unit outcome words)) c u ≡ worksFor s c u
+      go : Dec (channel ≡ c) → worksFor (then (report channel unit outcome len words)) c u ≡ worksFor s c u
       go (yes e) = absurd (n (reports e))
       go (no ne) =
-          let flag : (isAccepted (answerOf s area (report channel unit outcome words)) && eqb channel c) ≡ false =
-          rw (eq-eqb (answerOf s area (report channel unit outcome words) .refusal) 0 z, ne-eqb channel c ne) in
+          let flag : (isAccepted (answerOf s area (report channel unit outcome len words)) && eqb channel c) ≡ false =
+          rw (eq-eqb (answerOf s area (report channel unit outcome len words) .refusal) 0 z, ne-eqb channel c ne) in
           same-by u
-          (subst (λ (x : Bool). Agrees (stationAt c s) (eventIf x (history.report unit outcome) (reportAnswer (judgeOf (channelAt s channel) unit outcome)))
-          (stationAt c (then (report channel unit outcome words)))) flag (call-agrees c s area g (report channel unit outcome words)))
+          (subst (λ (x : Bool). Agrees (stationAt c s) (eventIf x (history.report unit outcome len) (reportAnswer (judgeOf (channelAt s channel) unit outcome len)))
+          (stationAt c (then (report channel unit outcome len words)))) flag (call-agrees c s area g (report channel unit outcome len words)))
   unchanged (get file) z n u = same-by u (call-agrees c s area g (get file))
   unchanged (put file words) z n u = same-by u (call-agrees c s area g (put file words))
   unchanged (seal file) z n u = same-by u (call-agrees c s area g (seal file))
@@ -321,49 +321,49 @@ module _ (c : ℕ) (s : State) (area : List ℕ) (g : kept.Good s) (b₀ : Book)
 
 -- ---- an accepted report
 
-ends-some : (x : Ending) → endingNumber x ≡ 0 → ⊥
-ends-some Good e = omega arith
-ends-some Opposite e = omega arith
-ends-some MarkRead e = omega arith
-ends-some MediumEnd e = omega arith
-ends-some LostRedundancy e = omega arith
-ends-some LostIncomplete e = omega arith
+ends-some : (x : Ending) → isRepeat (endingNumber x) ≡ false
+ends-some Good = refl
+ends-some Opposite = refl
+ends-some MarkRead = refl
+ends-some MediumEnd = refl
+ends-some LostRedundancy = refl
+ends-some LostIncomplete = refl
 
-module _ (s : State) (area : List ℕ) (g : kept.Good s) (channel unit outcome : ℕ) (words : List ℕ) (b₀ : Book) (S : Shows (stationAt channel s) b₀)
-    (z : answerOf s area (report channel unit outcome words) .refusal ≡ 0) where
+module _ (s : State) (area : List ℕ) (g : kept.Good s) (channel unit outcome len : ℕ) (words : List ℕ) (b₀ : Book) (S : Shows (stationAt channel s) b₀)
+    (z : answerOf s area (report channel unit outcome len words) .refusal ≡ 0) where
   abbrev t : State
-  t = answerOf s area (report channel unit outcome words) .state
+  t = answerOf s area (report channel unit outcome len words) .state
 
   abbrev b : Book
-  b = bookedAt channel s (record { call = report channel unit outcome words; area = area }) b₀
+  b = bookedAt channel s (record { call = report channel unit outcome len words; area = area }) b₀
 
   abbrev e : Channel
   e = channelAt s channel
 
   abbrev result : ℕ
-  result = toldResult (answerOf s area (report channel unit outcome words) .added)
+  result = toldResult (answerOf s area (report channel unit outcome len words) .added)
 
   shown : Shows (stationAt channel t) b
-  shown = call-shows channel s area g b₀ S (report channel unit outcome words)
+  shown = call-shows channel s area g b₀ S (report channel unit outcome len words)
 
-  became : (v : Verdict) → judgeOf e unit outcome ≡ v → channelAt t channel ≡ bookOf e unit v (s .frozen)
+  became : (v : Verdict) → judgeOf e unit outcome len ≡ v → channelAt t channel ≡ bookOf e unit v (s .frozen)
   unfolding answerOf step reportOf
   became v j =
-      sym (ap (λ (x : Step). x .after .channel) (report-event s area channel unit outcome words (g .sixteen) z .event))
+      sym (ap (λ (x : Step). x .after .channel) (report-event s area channel unit outcome len words (g .sixteen) z .event))
       ∙ ap (λ (x : Verdict). bookOf e unit x (s .frozen)) j
 
   was-frozen : (f : Bool) → b .frozen ≡ f → s .frozen ≡ f
   unfolding answerOf
-  was-frozen f q = sym (report-frame s area channel unit outcome words .frozen) ∙ shown .frozen ∙ q
+  was-frozen f q = sym (report-frame s area channel unit outcome len words .frozen) ∙ shown .frozen ∙ q
 
-  told-as : result ≡ resultNumber (judgeOf e unit outcome)
+  told-as : result ≡ resultNumber (positionAt e unit) (judgeOf e unit outcome len)
   unfolding answerOf
-  told-as = result-is channel s area channel unit outcome words z
+  told-as = result-is channel s area channel unit outcome len words z
 
   one : OneWorks e
   one = sound-facts s (g .right) .channels channel .one
 
-  goes-again : (r q : Request) → turnAt e unit ≡ Working r → judgeOf e unit outcome ≡ Repeats q → Continues channel unit result s t b
+  goes-again : (r q : Request) → turnAt e unit ≡ Working r → judgeOf e unit outcome len ≡ Repeats q → Continues channel unit result s t b
   unfolding bookOf
   goes-again r q i j = record {
     worked = ap isWorking i;
@@ -372,7 +372,7 @@ module _ (s : State) (area : List ℕ) (g : kept.Good s) (channel unit outcome :
         starts-from t channel b shown
         (subst StartedFrom (sym (now false (was-frozen false f)))
         (aside-starts e one unit r i q (own ∙ p) x (apart x p (turn .0)) (other x (apart x p (turn .0)) ∙ turn .0))) .priority x turn;
-    next = λ f n. absurd (n (told-as ∙ ap resultNumber j));
+    next = λ f n. true-not-false (ap isRepeat (told-as ∙ ap (resultNumber (positionAt e unit)) j) ∙ repeats-told (positionAt e unit) q) n;
     halts = λ f u. ap (λ (d : Channel). isWorking (turnAt d u)) (now true (was-frozen true f)) ∙ repeat-halts e one unit r i q u;
   }
     where
@@ -401,31 +401,31 @@ module _ (s : State) (area : List ℕ) (g : kept.Good s) (channel unit outcome :
       goes-on (inl p) = onward-urgent e unit r q i (own ∙ p)
       goes-on (inr p) = onward-alone e unit r q i (λ y ne. other y ne ∙ p y)
 
-  goes-out : (r : Request) (x : Ending) → turnAt e unit ≡ Working r → judgeOf e unit outcome ≡ Ends x → Continues channel unit result s t b
+  goes-out : (r : Request) (x : Ending) → turnAt e unit ≡ Working r → judgeOf e unit outcome len ≡ Ends x → Continues channel unit result s t b
   unfolding bookOf
   goes-out r x i j = record {
     worked = ap isWorking i;
-    onward = λ f k alt. absurd (ends-some x (sym (told-as ∙ ap resultNumber j) ∙ k));
-    displaced = λ f k p y turn. absurd (ends-some x (sym (told-as ∙ ap resultNumber j) ∙ k));
-    next = λ f n. starts-from t channel b shown (subst StartedFrom (sym (now false (was-frozen false f))) (end-starts e one unit r i));
-    halts = λ f u. ap (λ (d : Channel). isWorking (turnAt d u)) (now true (was-frozen true f)) ∙ end-halts e one unit r i u;
+    onward = λ f k alt. true-not-false k (ap isRepeat (told-as ∙ ap (resultNumber (positionAt e unit)) j) ∙ ends-some x);
+    displaced = λ f k p y turn. true-not-false k (ap isRepeat (told-as ∙ ap (resultNumber (positionAt e unit)) j) ∙ ends-some x);
+    next = λ f n. starts-from t channel b shown (subst StartedFrom (sym (now false (was-frozen false f))) (end-starts e one unit r i x));
+    halts = λ f u. ap (λ (d : Channel). isWorking (turnAt d u)) (now true (was-frozen true f)) ∙ end-halts e one unit r i x u;
   }
     where
-      now : (f : Bool) → s .frozen ≡ f → channelAt t channel ≡ endOf e unit f
-      now f k = became (Ends x) j ∙ ap (endOf e unit) k
+      now : (f : Bool) → s .frozen ≡ f → channelAt t channel ≡ endOf e unit x f
+      now f k = became (Ends x) j ∙ ap (endOf e unit x) k
 
   pub report-continues : Continues channel unit result s t b
   unfolding answerOf reportRefusal
-  report-continues = go (view s area channel unit outcome words (g .sixteen) (sym (report-exactly s area channel unit outcome words .number) ∙ z))
+  report-continues = go (view s area channel unit outcome len words (g .sixteen) (sym (report-exactly s area channel unit outcome len words .number) ∙ z))
     where
-      go : Booked e unit outcome → Continues channel unit result s t b
+      go : Booked e unit outcome len → Continues channel unit result s t b
       go (again r q i j) = goes-again r q i j
       go (ended r x i j) = goes-out r x i j
 
-  pub report-tells : Tells t channel (toldWorking (answerOf s area (report channel unit outcome words) .added))
+  pub report-tells : Tells t channel (toldWorking (answerOf s area (report channel unit outcome len words) .added))
   unfolding answerOf
   report-tells =
-      tells t channel b shown (call-kept s area g (report channel unit outcome words)) _ (report-working s area channel unit outcome words (g .sixteen) z)
+      tells t channel b shown (call-kept s area g (report channel unit outcome len words)) _ (report-working s area channel unit outcome len words (g .sixteen) z)
 
 pub ask-tells : (s : State) (area : List ℕ) → kept.Good s → (file op priority : ℕ) (b₀ : Book) → Shows (stationAt (fileAt s file .channel) s) b₀
     → answerOf s area (ask file op priority) .refusal ≡ 0
@@ -455,11 +455,11 @@ ask-single s area file op priority b S z =
 
 -- ---- a report that is refused 11, and an ask that is refused 8
 
-pub report-idle : (s : State) (area : List ℕ) (channel unit outcome : ℕ) (words : List ℕ)
-    → answerOf s area (report channel unit outcome words) .refusal ≡ 11 → worksFor s channel unit ≡ false
+pub report-idle : (s : State) (area : List ℕ) (channel unit outcome len : ℕ) (words : List ℕ)
+    → answerOf s area (report channel unit outcome len words) .refusal ≡ 11 → worksFor s channel unit ≡ false
 unfolding answerOf operationAt
-report-idle s area channel unit outcome words z =
-    let one = row-past 11 1 _ _ (λ q. omega arith) (sym (report-exactly s area channel unit outcome words .number) ∙ z) in
+report-idle s area channel unit outcome len words z =
+    let one = row-past 11 1 _ _ (λ q. omega arith) (sym (report-exactly s area channel unit outcome len words .number) ∙ z) in
     let two = row-past 11 2 _ _ (λ q. omega arith) (one .1) in
     go (turnAt (channelAt s channel) unit)
     (row-given 11 (isIdleFor (workOf (turnAt (channelAt s channel) unit))) _

@@ -1,5 +1,6 @@
 -- The witness: what its calls answer, and the ledgers that they lead to, in one claim, by computation. Assumes nothing.
-use mathlib.Core.Path.{_≡_, refl}
+use mathlib.Core.Path.{_≡_, refl, ap, _∙_}
+use mathlib.Core.List.{List, _++_}
 use Rattle.area.specs.Lists.{anyOf, allOf, allPairs, countOf, firstAlong, countAlong}
 use Rattle.area.specs.Parts.{paste, pastedIn}
 use Rattle.area.specs.Refusals.{lowest}
@@ -8,8 +9,9 @@ use Rattle.word.specs.Sums.{carryBack, sumFrom, logicalSum, firstHalf, lastHalf
 use Rattle.word.specs.CheckWords.{address, checkWord}
 use Rattle.block.specs.Blocks as blocks
 use Rattle.word.specs.Checks as checks
-use Rattle.channel_outcomes.specs.Rules.{rowOf, isAllowed, isPermanent, nextAttempt, endingOf, verdictOf}
-use Rattle.channel.specs.Units.{withTurn, freshWith, bitsFrom, freshOf, hasRequest, acceptsAt, operationAt}
+use Rattle.channel_outcomes.specs.Positions as positions
+use Rattle.channel_outcomes.specs.Rules.{rowOf, isAllowed, isPermanent, isNoise, pastNoise, nextAttempt, endingOf, tableVerdict, verdictOf, repeatedNumber}
+use Rattle.channel.specs.Units.{withUnit, freshWith, bitsFrom, freshOf, hasRequest, acceptsAt, operationAt}
 use Rattle.channel_turns.specs.Scans.{scanFrom, workingIn, priorityIn, ordinaryIn, nextTurn}
 use Rattle.channel_turns.specs.Turns.{judgeOf, goesOn, repeatOf, markAfter, urgentAfter, endOf, bookOf}
 use Rattle.channel_turns.specs.Starts.{startOf, askOf, thawOf}
@@ -27,14 +29,14 @@ use Rattle.pool.specs.Serving.{servingFile}
 use Rattle.state_sound.specs.Files.{isBlank}
 use Rattle.state.specs.Places.{beforeStart}
 use Rattle.state.specs.Stores.{withFile, withChannel}
-use Rattle.state_sound.specs.Soundness.{numbersInRange, noBufferHeldTwice, eachHasItsOwn, requestsFit, channelsWork, readsAloneTake, writesHaveBlocks, fullBlocksRight, partBuffersRight, placesRight, attemptsInLimit, sound, freeMaskRight}
+use Rattle.state_sound.specs.Soundness.{positionRight, numbersInRange, noBufferHeldTwice, eachHasItsOwn, requestsFit, channelsWork, readsAloneTake, writesHaveBlocks, fullBlocksRight, partBuffersRight, placesRight, attemptsInLimit, sound, freeMaskRight}
 use Rattle.pack_start.specs.Fresh.{freshRows, freshState, freshBy}
 use Rattle.call_open.specs.Open.{openRows, openOn}
 use Rattle.pack_open.specs.Open.{openBy}
 use Rattle.pack_request.specs.Changes.{changedState}
 use Rattle.call_request.specs.Ask.{opOf, askRefusal, askedFile, askedChannel, askOn}
 use Rattle.pack_request.specs.Calls.{askBy, reportBy, reportByArea}
-use Rattle.call_request.specs.Report.{reportRefusal, reportedFile, reportedArea, reportOn, reportOnArea}
+use Rattle.call_request.specs.Report.{lengthWrong, reportRefusal, reportedFile, reportedArea, reportOn, reportOnArea}
 use Rattle.call_record.specs.Blocks.{sealedIn, sealedArea}
 use Rattle.call_record.specs.Put.{putRows, putRefusal, filledArea, putArea, putOn, putOnArea}
 use Rattle.pack_record.specs.Puts.{putBy, putByArea}
@@ -50,8 +52,23 @@ use Rattle.call_open.specs.Close.{closeRows, closeOn}
 use Rattle.pack_open.specs.Close.{closeBy}
 use Rattle.pack_start.specs.Freeze.{stateRows, frozenState, thawedState, freezeBy, thawBy}
 use Rattle.demands_ledger.specs.Ledgers.{ledgerAfter}
-use Rattle.demands.specs.Witness.{toldBy, steps1, steps2, steps3, midway, readAll, wroteAll, played, wanted}
+use Rattle.demands.specs.Witness.{Told, toldBy, steps1, steps2, steps3, callsOf, tellsOf, lent, Noted, notedBy, midway, readAll, wroteAll, Course, steps, played, wanted}
+
+-- in two halves, as one would be long to compute
+first-half : (toldBy beforeStart lent (callsOf steps) ≡ tellsOf steps) × (notedBy 0 (callsOf (steps1 ++ steps2)) ≡ midway)
+unfolding toldBy ledgerAfter steps1 steps2 steps3 midway readAll wroteAll anyOf allOf allPairs countOf firstAlong countAlong paste pastedIn lowest allFrom carryBack sumFrom logicalSum firstHalf lastHalf folded address checkWord blocks.blockSealRefusal blocks.withCheckWord blocks.sealedBlock blocks.judgeRefusal checks.errorOf checks.checkOf checks.isChecked blocks.judgedBlock rowOf isAllowed isPermanent isNoise pastNoise nextAttempt endingOf tableVerdict verdictOf positions.cleanerDue repeatedNumber positions.notedBy positions.recordPassed positions.markPassed withUnit lengthWrong positionRight freshWith bitsFrom freshOf hasRequest acceptsAt operationAt scanFrom workingIn priorityIn ordinaryIn nextTurn startOf askOf judgeOf goesOn repeatOf markAfter urgentAfter endOf bookOf emptySide takenSide partSide oldest filledAt emptiedAt withoutOldest tookBuffer delivered gaveBack metMark putSide putStart added partStart partLength isComplete sealedFile afterPut sendStart sendWords afterWrite openedFile lowestFree freeCount servingFile isBlank beforeStart withFile withChannel numbersInRange noBufferHeldTwice eachHasItsOwn requestsFit channelsWork readsAloneTake writesHaveBlocks fullBlocksRight partBuffersRight placesRight attemptsInLimit sound freshRows freshState freshBy freeOf openRows openOn openBy changedState opOf askRefusal askedFile askedChannel askOn askBy reportRefusal reportedFile reportedArea reportOn reportOnArea reportBy reportByArea sealedIn sealedArea putRows putRefusal filledArea putArea putOn putOnArea putBy putByArea answerOf passed lookedAt found afterFound getFrom getRows getRefusal getOn getBy getWords skipRows skipRefusal skipOn skipBy sealRows sealRefusal sealOn sealOnArea sealBy sealByArea closeRows closeOn closeBy stateRows frozenState thawedState freezeBy thawBy thawOf freeMaskRight freeAfter maskAlong
+first-half = (refl, refl)
+
+second-half : (notedBy 0 (callsOf steps) ≡ readAll) × (notedBy 1 (callsOf steps) ≡ wroteAll)
+unfolding toldBy ledgerAfter steps1 steps2 steps3 midway readAll wroteAll anyOf allOf allPairs countOf firstAlong countAlong paste pastedIn lowest allFrom carryBack sumFrom logicalSum firstHalf lastHalf folded address checkWord blocks.blockSealRefusal blocks.withCheckWord blocks.sealedBlock blocks.judgeRefusal checks.errorOf checks.checkOf checks.isChecked blocks.judgedBlock rowOf isAllowed isPermanent isNoise pastNoise nextAttempt endingOf tableVerdict verdictOf positions.cleanerDue repeatedNumber positions.notedBy positions.recordPassed positions.markPassed withUnit lengthWrong positionRight freshWith bitsFrom freshOf hasRequest acceptsAt operationAt scanFrom workingIn priorityIn ordinaryIn nextTurn startOf askOf judgeOf goesOn repeatOf markAfter urgentAfter endOf bookOf emptySide takenSide partSide oldest filledAt emptiedAt withoutOldest tookBuffer delivered gaveBack metMark putSide putStart added partStart partLength isComplete sealedFile afterPut sendStart sendWords afterWrite openedFile lowestFree freeCount servingFile isBlank beforeStart withFile withChannel numbersInRange noBufferHeldTwice eachHasItsOwn requestsFit channelsWork readsAloneTake writesHaveBlocks fullBlocksRight partBuffersRight placesRight attemptsInLimit sound freshRows freshState freshBy freeOf openRows openOn openBy changedState opOf askRefusal askedFile askedChannel askOn askBy reportRefusal reportedFile reportedArea reportOn reportOnArea reportBy reportByArea sealedIn sealedArea putRows putRefusal filledArea putArea putOn putOnArea putBy putByArea answerOf passed lookedAt found afterFound getFrom getRows getRefusal getOn getBy getWords skipRows skipRefusal skipOn skipBy sealRows sealRefusal sealOn sealOnArea sealBy sealByArea closeRows closeOn closeBy stateRows frozenState thawedState freezeBy thawBy thawOf freeMaskRight freeAfter maskAlong
+second-half = (refl, refl)
+
+abbrev course : List Told → Noted → Noted → Noted → Course
+course tells mid read wrote = record { tells = tells; mid = mid; read = read; wrote = wrote }
 
 pub witness : played ≡ wanted
-unfolding toldBy ledgerAfter steps1 steps2 steps3 midway readAll wroteAll anyOf allOf allPairs countOf firstAlong countAlong paste pastedIn lowest allFrom carryBack sumFrom logicalSum firstHalf lastHalf folded address checkWord blocks.blockSealRefusal blocks.withCheckWord blocks.sealedBlock blocks.judgeRefusal checks.errorOf checks.checkOf checks.isChecked blocks.judgedBlock rowOf isAllowed isPermanent nextAttempt endingOf verdictOf withTurn freshWith bitsFrom freshOf hasRequest acceptsAt operationAt scanFrom workingIn priorityIn ordinaryIn nextTurn startOf askOf judgeOf goesOn repeatOf markAfter urgentAfter endOf bookOf emptySide takenSide partSide oldest filledAt emptiedAt withoutOldest tookBuffer delivered gaveBack metMark putSide putStart added partStart partLength isComplete sealedFile afterPut sendStart sendWords afterWrite openedFile lowestFree freeCount servingFile isBlank beforeStart withFile withChannel numbersInRange noBufferHeldTwice eachHasItsOwn requestsFit channelsWork readsAloneTake writesHaveBlocks fullBlocksRight partBuffersRight placesRight attemptsInLimit sound freshRows freshState freshBy freeOf openRows openOn openBy changedState opOf askRefusal askedFile askedChannel askOn askBy reportRefusal reportedFile reportedArea reportOn reportOnArea reportBy reportByArea sealedIn sealedArea putRows putRefusal filledArea putArea putOn putOnArea putBy putByArea answerOf passed lookedAt found afterFound getFrom getRows getRefusal getOn getBy getWords skipRows skipRefusal skipOn skipBy sealRows sealRefusal sealOn sealOnArea sealBy sealByArea closeRows closeOn closeBy stateRows frozenState thawedState freezeBy thawBy thawOf freeMaskRight freeAfter maskAlong
-witness = refl
+witness =
+    ap (λ (t : List Told). course t (notedBy 0 (callsOf (steps1 ++ steps2))) (notedBy 0 (callsOf steps)) (notedBy 1 (callsOf steps))) (first-half .0)
+    ∙ ap (λ (n : Noted). course (tellsOf steps) n (notedBy 0 (callsOf steps)) (notedBy 1 (callsOf steps))) (first-half .1)
+    ∙ ap (λ (n : Noted). course (tellsOf steps) midway n (notedBy 1 (callsOf steps))) (second-half .0)
+    ∙ ap (course (tellsOf steps) midway readAll) (second-half .1)

@@ -127,27 +127,27 @@ module _ (s : State) (area : List ℕ) (ledgers : ℕ → Ledger) (K : Kept s ar
       (sym (chosen-is f (ledgers i .chosen) (K .told i .chose o))) (file-cuts (s .w) f area (ledgers i .puts) (ledgers i .sent) (ledgers i .seals) T) in
       record { blocks = C .blocks; part = partIn (s .w) f area; after = C .after; filling = C .filling }
 
-  module _ (A : Asked s ledgers) (channel unit outcome : ℕ) (words : List ℕ)
-      (z : answerOf s area (report channel unit outcome words) .refusal ≡ 0) where
+  module _ (A : Asked s ledgers) (channel unit outcome len : ℕ) (words : List ℕ)
+      (z : answerOf s area (report channel unit outcome len words) .refusal ≡ 0) where
     abbrev i : ℕ
     i = fileOf s channel unit
 
     noted-is : (j : ℕ) → isOn channel unit (ledgers j) ≡ true
-        → noted j (report channel unit outcome words) (answerOf s area (report channel unit outcome words)) (ledgers j)
-        ≡ withReport words (answerOf s area (report channel unit outcome words)) (ledgers j)
+        → noted j (report channel unit outcome len words) (answerOf s area (report channel unit outcome len words)) (ledgers j)
+        ≡ withReport words (answerOf s area (report channel unit outcome len words)) (ledgers j)
     noted-is j on =
-        cond-true (cond (isOn channel unit (ledgers j)) (withReport words (answerOf s area (report channel unit outcome words)) (ledgers j))
+        cond-true (cond (isOn channel unit (ledgers j)) (withReport words (answerOf s area (report channel unit outcome len words)) (ledgers j))
         (ledgers j)) (ledgers j)
-        (eq-eqb (answerOf s area (report channel unit outcome words) .refusal) 0 z)
-        ∙ cond-true (withReport words (answerOf s area (report channel unit outcome words)) (ledgers j)) (ledgers j) on
+        (eq-eqb (answerOf s area (report channel unit outcome len words) .refusal) 0 z)
+        ∙ cond-true (withReport words (answerOf s area (report channel unit outcome len words)) (ledgers j)) (ledgers j) on
 
     here : isOn channel unit (ledgers i) ≡ true
-        → HandsOut (ledgers i) (withReport words (answerOf s area (report channel unit outcome words)) (ledgers i))
-        (answerOf s area (report channel unit outcome words))
+        → HandsOut (ledgers i) (withReport words (answerOf s area (report channel unit outcome len words)) (ledgers i))
+        (answerOf s area (report channel unit outcome len words))
     unfolding answerOf
     here on = record {
       write = λ e.
-          let R = write-full s area ledgers K A channel unit outcome words z e in
+          let R = write-full s area ledgers K A channel unit outcome len words z e in
           let o = sym (K .told i .opened) ∙ and-left (ledgers i .opened) _ on in
           let F = sent-first (s .w) (fileAt s i) area (R .1) in
           let b = partOf (sendStart (s .w) (fileAt s i)) (sendWords (fileAt s i)) area in
@@ -159,29 +159,29 @@ module _ (s : State) (area : List ℕ) (ledgers : ℕ → Ledger) (K : Kept s ar
             block = b;
             due = D;
             out = λ h.
-                let q = shown-out s area ledgers K A channel unit outcome words z e h in (
+                let q = shown-out s area ledgers K A channel unit outcome len words z e h in (
                   q,
                   ap (λ (v : List ℕ). ledgers i .sent ++ asBlock v) q
                       ∙ ap (λ (v : List (List ℕ)). ledgers i .sent ++ v)
                       (due-block (ledgers i .chosen) (ledgers i .puts) (ledgers i .seals) (ledgers i .sent) b D),
                 );
             again = λ h.
-                let q = shown-again s area ledgers K A channel unit outcome words z e h in (
+                let q = shown-again s area ledgers K A channel unit outcome len words z e h in (
                   q,
                   subst (λ (v : List (List ℕ)). Due (ledgers i .chosen) (ledgers i .puts) (ledgers i .seals) v b)
                       (sym (ap (λ (v : List ℕ). ledgers i .sent ++ asBlock v) q ∙ append-nil (ledgers i .sent))) D,
                 );
           };
-      other = λ ne. shown-other s area ledgers K A channel unit outcome words z ne;
+      other = λ ne. shown-other s area ledgers K A channel unit outcome len words z ne;
     }
 
     pub ledger-sent : (j : ℕ) → isOn channel unit (ledgers j) ≡ true
-        → HandsOut (ledgers j) (noted j (report channel unit outcome words) (answerOf s area (report channel unit outcome words)) (ledgers j))
-        (answerOf s area (report channel unit outcome words))
+        → HandsOut (ledgers j) (noted j (report channel unit outcome len words) (answerOf s area (report channel unit outcome len words)) (ledgers j))
+        (answerOf s area (report channel unit outcome len words))
     unfolding answerOf
     ledger-sent j on =
-        subst (λ (h : Ledger). HandsOut (ledgers j) h (answerOf s area (report channel unit outcome words))) (sym (noted-is j on))
+        subst (λ (h : Ledger). HandsOut (ledgers j) h (answerOf s area (report channel unit outcome len words))) (sym (noted-is j on))
         (subst (λ (k : ℕ). isOn channel unit (ledgers k) ≡ true
-        → HandsOut (ledgers k) (withReport words (answerOf s area (report channel unit outcome words)) (ledgers k))
-        (answerOf s area (report channel unit outcome words)))
-        (sym (on-file s area ledgers K A channel unit outcome words z j on)) here on)
+        → HandsOut (ledgers k) (withReport words (answerOf s area (report channel unit outcome len words)) (ledgers k))
+        (answerOf s area (report channel unit outcome len words)))
+        (sym (on-file s area ledgers K A channel unit outcome len words z j on)) here on)

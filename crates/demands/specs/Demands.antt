@@ -125,10 +125,10 @@ pub record AnswersWithin (most c u : ℕ) (d : State) (later : List Lent) : Type
   -- its answer comes by the time that so many reports have been accepted on that channel since: until then there are fewer
   pub soon : count (isAnswerFor c u) d later ≡ 0 → count (isReportOn c) d later < most
 
--- "its answer comes by the time 101 x (U + P) reports have been accepted on that channel since"
+-- "its answer comes by the time 101 x (U + P) reports have been accepted on that channel since"; with noise records (M-106) "demand 3's 101 reads 201"
 abbrev pub Answers : ℕ → ℕ → ℕ → Book → State → List Lent → Type 0
-Answers U c u b d later = AnswersWithin (101 * (U + priorities c b d later)) c u d later
+Answers U c u b d later = AnswersWithin (201 * (U + priorities c b d later)) c u d later
 
--- M-112: "an accepted priority request is answered by the time 101 × U + 1 reports have been accepted on its channel"
+-- M-112: "an accepted priority request is answered by the time 101 × U + 1 reports have been accepted on its channel (201 for 101 with M-106)"
 abbrev pub AnswersUrgent : ℕ → ℕ → ℕ → State → List Lent → Type 0
-AnswersUrgent U c u d later = AnswersWithin (101 * U + 1) c u d later
+AnswersUrgent U c u d later = AnswersWithin (201 * U + 1) c u d later

@@ -13,7 +13,7 @@ use Rattle.word.specs.CheckWords.{checkWord, nextNumber}
 use Rattle.channel.specs.declared.Turn.{Turn}
 use Rattle.channel.specs.declared.Turn.the-variants.{Idle, Waiting, Displaced, Working}
 use Rattle.channel.specs.declared.Channel.{Channel}
-use Rattle.channel_outcomes.specs.Rules.{good, redundancy}
+use Rattle.channel_outcomes.specs.Rules.{good, redundancy, noLength}
 use Rattle.channel.specs.Units.{turnAt}
 use Rattle.channel_turns.specs.Scans.{workingIn}
 use Rattle.state.specs.declared.State.{State}
@@ -72,14 +72,14 @@ asksFirst file = ask file 0 1
 
 -- reports of a unit of channel 0: a good read of the word 5, and a redundancy
 abbrev pub reads : ℕ → Call
-reads unit = report 0 unit good (5 ∷ [])
+reads unit = report 0 unit good noLength (5 ∷ [])
 
 -- what is found of that word as the first block of a file without check words
 abbrev pub five : Delivery
 five = With (record { error = 0; sum = 5; number = 1; sumread = 0; numberread = 0 })
 
 abbrev pub fails : ℕ → Call
-fails unit = report 0 unit redundancy []
+fails unit = report 0 unit redundancy noLength []
 
 -- an accepted call that adds nothing, before anything is asked
 abbrev pub quiet : Seen

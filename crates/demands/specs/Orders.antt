@@ -11,13 +11,13 @@ use Rattle.pack.specs.Calls.{Call, ask, report, Added, Answer, answerOf}
 -- "an ask or a report"
 pub data Requests : Call → Type 0 where
   asking : {file op priority : ℕ} → Requests (ask file op priority)
-  reporting : {channel unit outcome : ℕ} {words : List ℕ} → Requests (report channel unit outcome words)
+  reporting : {channel unit outcome len : ℕ} {words : List ℕ} → Requests (report channel unit outcome len words)
 
 -- "on one channel": an ask is on the channel that its file is open on, a report on the one that it names; an ask of a file that is not open
 -- is on none
 pub data On (s : State) (c : ℕ) : Call → Type 0 where
   asks : {file op priority : ℕ} → fileAt s file .opened ≡ true → fileAt s file .channel ≡ c → On s c (ask file op priority)
-  reports : {channel unit outcome : ℕ} {words : List ℕ} → channel ≡ c → On s c (report channel unit outcome words)
+  reports : {channel unit outcome len : ℕ} {words : List ℕ} → channel ≡ c → On s c (report channel unit outcome len words)
 
 -- what an answer says: the refusal, or what it adds and the words that it shows
 pub record Says : Type 0 where

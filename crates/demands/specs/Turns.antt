@@ -1,7 +1,7 @@
 -- "Requests, reports, turns" (document 01) over histories: who works on a channel after each accepted call, by the requests that have no answer in
 -- the channel's book. Assumes nothing.
 use mathlib.Core.Path.{_≡_}
-use mathlib.Core.Logic.{_≢_, _⊎_}
+use mathlib.Core.Logic.{_⊎_}
 use mathlib.Core.Bool.{Bool, true, false}
 use mathlib.Core.Option.{Option, none, some}
 use mathlib.Core.List.{List}
@@ -11,6 +11,7 @@ use Rattle.state.specs.declared.State.{State}
 use Rattle.state.specs.Places.{fileAt, channelAt}
 use Rattle.pack_start.specs.declared.Masks.{Masks}
 use Rattle.pack.specs.Calls.{Call, fresh, ask, report, thaw, Added, nothing, working, reported, got}
+use Rattle.pack.specs.Histories.{isRepeat}
 use Rattle.pack.specs.Books.{Pending, Book, isUrgent, isOrdinary}
 
 -- ---- who works
@@ -70,7 +71,7 @@ pub data Begins (c : ℕ) (s : State) : Call → Type 0 where
 
 -- a report on channel c, an ask on it or a thaw while it works for no unit; and a fresh start
 pub data Changes (c : ℕ) (s : State) : Call → Type 0 where
-  reports : {channel unit outcome : ℕ} {words : List ℕ} → channel ≡ c → Changes c s (report channel unit outcome words)
+  reports : {channel unit outcome len : ℕ} {words : List ℕ} → channel ≡ c → Changes c s (report channel unit outcome len words)
   begins : {call : Call} → Begins c s call → NoneWorks s c → Changes c s call
   afresh : {m w : ℕ} {masks : Masks} → Changes c s (fresh m w masks)
 
@@ -94,12 +95,12 @@ pub record Continues (c u result : ℕ) (s t : State) (b : Book) : Type 0 where
   pub worked : worksFor s c u ≡ true
   -- "the incomplete operation continues", with its next attempt: if it is a priority one ("a priority operation is not displaced"), or no priority
   -- request waits
-  pub onward : b .frozen ≡ false → result ≡ 0 → (isUrgent (b .requests u) ≡ true) ⊎ ((y : ℕ) → isUrgent (b .requests y) ≡ false)
+  pub onward : b .frozen ≡ false → isRepeat result ≡ true → (isUrgent (b .requests u) ≡ true) ⊎ ((y : ℕ) → isUrgent (b .requests y) ≡ false)
       → worksFor t c u ≡ true
   -- "a waiting priority request starts, displacing an incomplete ordinary one"
-  pub displaced : b .frozen ≡ false → result ≡ 0 → isUrgent (b .requests u) ≡ false → (x : ℕ) → PriorityTurn b x → worksFor t c x ≡ true
+  pub displaced : b .frozen ≡ false → isRepeat result ≡ true → isUrgent (b .requests u) ≡ false → (x : ℕ) → PriorityTurn b x → worksFor t c x ≡ true
   -- after an answer: "a waiting priority request starts ..; else a scan starts a waiting or displaced one"
-  pub next : b .frozen ≡ false → result ≢ 0 → Starts b t c
+  pub next : b .frozen ≡ false → isRepeat result ≡ false → Starts b t c
   -- in a freeze "reports are still booked, and an incomplete operation then waits like a displaced one"
   pub halts : b .frozen ≡ true → NoneWorks t c
 

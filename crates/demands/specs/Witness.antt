@@ -5,7 +5,7 @@ use mathlib.Core.List.{List, [], _∷_, _++_, map}
 use lib.ListN.{replicate}
 use Rattle.call_request.specs.declared.Delivery.the-variants.{Without, With}
 use Rattle.word.specs.declared.Checked.{Checked}
-use Rattle.channel_outcomes.specs.Rules.{good, redundancy, incompleteWord, fileMark, endOfMedium}
+use Rattle.channel_outcomes.specs.Rules.{good, redundancy, incompleteWord, fileMark, endOfMedium, noLength}
 use Rattle.file_input.specs.declared.Got.the-variants.{Record, Leftover, Error, End, Nothing}
 use Rattle.state.specs.declared.State.{State}
 use Rattle.state.specs.Places.{beforeStart}
@@ -57,9 +57,9 @@ steps1 =
     -- an ordinary write is displaced by a priority read, goes on, and ends well
     ∷ so (ask 1 1 0) (told 0 (working 1) [])
     ∷ so (ask 0 0 1) (told 0 (working 1) [])
-    ∷ so (report 0 1 redundancy []) (told 0 (reported 0 Without 0) [])
-    ∷ so (report 0 0 good (1 ∷ 2 ∷ 786433 ∷ [])) (told 0 (reported 1 (With (found 0 3 1 3 1)) 1) [])
-    ∷ so (report 0 1 good []) (told 0 (reported 1 Without 255) (5 ∷ 1310721 ∷ []))
+    ∷ so (report 0 1 redundancy noLength []) (told 0 (reported 0 Without 0) [])
+    ∷ so (report 0 0 good noLength (1 ∷ 2 ∷ 786433 ∷ [])) (told 0 (reported 1 (With (found 0 3 1 3 1)) 1) [])
+    ∷ so (report 0 1 good noLength []) (told 0 (reported 1 Without 255) (5 ∷ 1310721 ∷ []))
     ∷ []
 
 -- what is read
@@ -69,14 +69,14 @@ steps2 =
     -- a read that a freeze stops, and that ends in the opposite mode with a block in error
     ∷ so (ask 0 0 0) (told 0 (working 0) [])
     ∷ so freeze done
-    ∷ so (report 0 0 redundancy []) (told 0 (reported 0 Without 255) [])
+    ∷ so (report 0 0 redundancy noLength []) (told 0 (reported 0 Without 255) [])
     ∷ so thaw done
-    ∷ so (report 0 0 redundancy []) (told 0 (reported 0 Without 0) [])
-    ∷ so (report 0 0 redundancy []) (told 0 (reported 0 Without 0) [])
-    ∷ so (report 0 0 good (3 ∷ 0 ∷ [])) (told 0 (reported 2 (With (found 3 3 2 0 0)) 255) [])
+    ∷ so (report 0 0 redundancy noLength []) (told 0 (reported 0 Without 0) [])
+    ∷ so (report 0 0 redundancy noLength []) (told 0 (reported 0 Without 0) [])
+    ∷ so (report 0 0 good noLength (3 ∷ 0 ∷ [])) (told 0 (reported 2 (With (found 3 3 2 0 0)) 255) [])
     ∷ so (get 0) (told 0 (got (Error (found 3 3 2 0 0))) [])
     ∷ so (ask 0 0 0) (told 0 (working 0) [])
-    ∷ so (report 0 0 good (4 ∷ 5 ∷ 2359299 ∷ [])) (told 0 (reported 1 (With (found 0 9 3 9 3)) 255) [])
+    ∷ so (report 0 0 good noLength (4 ∷ 5 ∷ 2359299 ∷ [])) (told 0 (reported 1 (With (found 0 9 3 9 3)) 255) [])
     ∷ []
 
 -- what is left, skipped and closed
@@ -87,16 +87,16 @@ steps3 =
     ∷ so (skip 0) done
     ∷ so (get 0) (told 0 (got Nothing) [])
     ∷ so (ask 0 0 0) (told 0 (working 0) [])
-    ∷ so (report 0 0 fileMark []) (told 0 (reported 3 Without 255) [])
+    ∷ so (report 0 0 fileMark noLength []) (told 0 (reported 3 Without 255) [])
     ∷ so (get 0) (told 0 (got End) [])
     ∷ so (ask 0 0 0) (told 10 (working 0) [])
     -- a write that ends permanently; its block is sent again, to the end of the medium; then a mark
     ∷ so (ask 1 1 0) (told 0 (working 1) [])
-    ∷ so (report 0 1 incompleteWord []) (told 0 (reported 6 Without 255) [])
+    ∷ so (report 0 1 incompleteWord noLength []) (told 0 (reported 6 Without 255) [])
     ∷ so (ask 1 1 0) (told 0 (working 1) [])
-    ∷ so (report 0 1 endOfMedium []) (told 0 (reported 4 Without 255) (6 ∷ 7 ∷ 3407874 ∷ []))
+    ∷ so (report 0 1 endOfMedium noLength []) (told 0 (reported 4 Without 255) (6 ∷ 7 ∷ 3407874 ∷ []))
     ∷ so (ask 1 2 0) (told 0 (working 1) [])
-    ∷ so (report 0 1 good []) (told 0 (reported 1 Without 255) [])
+    ∷ so (report 0 1 good noLength []) (told 0 (reported 1 Without 255) [])
     ∷ so (close 1) done
     ∷ so (close 0) done
     ∷ []

@@ -25,7 +25,7 @@ module _ (s : State) (area : List ℕ) (ledgers : ℕ → Ledger) (K : Kept s ar
   accepted-kept (opening file channel unit flags size rlen) z = open-kept s area ledgers K file channel unit flags size rlen z
   accepted-kept (close file) z = close-kept s area ledgers K file z
   accepted-kept (ask file op priority) z = ask-kept s area ledgers K file op priority z
-  accepted-kept (report channel unit outcome words) z = report-kept s area ledgers K channel unit outcome words z
+  accepted-kept (report channel unit outcome len words) z = report-kept s area ledgers K channel unit outcome len words z
   accepted-kept (get file) z = get-kept s area ledgers K file z
   accepted-kept (put file words) z = put-kept s area ledgers K file words z
   accepted-kept (seal file) z = seal-kept s area ledgers K file z

@@ -17,7 +17,7 @@ use Rattle.channel.specs.declared.Turn.{Turn}
 use Rattle.channel.specs.declared.Turn.the-variants.{Idle, Waiting}
 use Rattle.channel.specs.declared.Channel.{Channel}
 use Rattle.channel.specs.declared.Work.the-variants.{At, Nothing}
-use Rattle.channel.specs.Units.{isIdle, turnAt, withTurn}
+use Rattle.channel.specs.Units.{isIdle, turnAt, withUnit, withTurn}
 use Rattle.channel_turns.specs.Starts.{newRequest}
 use Rattle.channel_turns.specs.Turns.{judgeOf}
 use Rattle.channel_theorems.specs.History as history
@@ -67,7 +67,7 @@ incomplete-op q t (aside g) = refl
 
 abbrev isAsk : Event → Bool
 isAsk (history.ask u op p) = true
-isAsk (history.report u o) = false
+isAsk (history.report u o l) = false
 isAsk history.freeze = false
 isAsk history.thaw = false
 
@@ -94,12 +94,12 @@ module _ (s : Station) (y : ℕ) (op : Op) where
       → requested (turnAt (s .channel) y) ≡ At op
   other-request e o refuses n h = h
   other-request e o (asks u op' p known idle) n h = true-not-false refl n
-  other-request e o (repeats u oc r q t i j k) n h =
+  other-request e o (repeats u oc len r q t stood i j k stands) n h =
       at-set (s .channel) u t (busy-inside (s .channel) u (ap isIdle i))
       (λ z v. requested (v .turn) ≡ At op → requested (turnAt (s .channel) z) ≡ At op)
-      (λ g. ap requested i ∙ sym (ap At (verdict-again r oc q j .sameOp)) ∙ sym (incomplete-op q t k) ∙ g) (λ z ne g. g) y
-      (sym (start-alike (withTurn (s .channel) u t) (s .frozen) y .0) ∙ h)
-  other-request e o (ends u oc r i) n h =
+      (λ g. ap requested i ∙ sym (ap At (verdict-again r oc len q j .sameOp)) ∙ sym (incomplete-op q t k) ∙ g) (λ z ne g. g) y
+      (sym (start-alike (withUnit (s .channel) u t stood) (s .frozen) y .0) ∙ h)
+  other-request e o (ends u oc len r how stood i judged stands) n h =
       at-set (s .channel) u Idle (busy-inside (s .channel) u (ap isIdle i))
       (λ z v. requested (v .turn) ≡ At op → requested (turnAt (s .channel) z) ≡ At op) (λ g. absurd (no-op g)) (λ z ne g. g) y
       (sym (start-alike _ (s .frozen) y .0) ∙ h)
@@ -312,10 +312,10 @@ module _ (s : State) (area : List ℕ) (ledgers : ℕ → Ledger) (K : Kept s ar
       quiet-asked (close file) z (λ c. call-agrees c s area (K .good) (close file)) (λ c. refl)
       (one-like (eqb file) withClose (λ g. record { chosen = refl; opened = λ p. true-not-false p refl })) (one-asked (eqb file) withClose (λ g. refl))
   accepted-asked (ask file op priority) z = ask-asked file op priority z
-  accepted-asked (report channel unit outcome words) z =
-      let a = answerOf s area (report channel unit outcome words) in
-      quiet-asked (report channel unit outcome words) z (λ c. call-agrees c s area (K .good) (report channel unit outcome words))
-      (λ c. event-quiet (isAccepted a && eqb channel c) (history.report unit outcome) (reportAnswer (judgeOf (channelAt s channel) unit outcome)) refl)
+  accepted-asked (report channel unit outcome len words) z =
+      let a = answerOf s area (report channel unit outcome len words) in
+      quiet-asked (report channel unit outcome len words) z (λ c. call-agrees c s area (K .good) (report channel unit outcome len words))
+      (λ c. event-quiet (isAccepted a && eqb channel c) (history.report unit outcome len) (reportAnswer (judgeOf (channelAt s channel) unit outcome len)) refl)
       (one-like (λ i. isOn channel unit (ledgers i)) (withReport words a) (λ g. record { chosen = refl; opened = λ p. p }))
       (one-asked (λ i. isOn channel unit (ledgers i)) (withReport words a) (λ g. refl))
   accepted-asked (get file) z =

@@ -12,6 +12,7 @@ use Rattle.area.proofs.Walks.{true-not-false, or-left, or-right}
 use Rattle.area.proofs.Marks.{cond-true}
 use Rattle.channel.specs.declared.Op.{Op}
 use Rattle.channel.specs.declared.Op.the-variants.{Read, Write, Mark}
+use Rattle.channel.specs.declared.Position.{Position}
 use Rattle.channel.specs.declared.Request.{Request}
 use Rattle.channel.specs.declared.Turn.{Turn}
 use Rattle.channel.specs.declared.Turn.the-variants.{Idle, Waiting, Displaced, Working}
@@ -21,8 +22,9 @@ use Rattle.channel_outcomes.specs.declared.Verdict.{Verdict}
 use Rattle.channel_outcomes.specs.declared.Verdict.the-variants.{Refused, Repeats, Ends}
 use Rattle.channel_outcomes.specs.declared.Ending.{Ending}
 use Rattle.channel_outcomes.specs.declared.Ending.the-variants.{Good, Opposite, MarkRead, MediumEnd, LostRedundancy, LostIncomplete}
-use Rattle.channel_outcomes.specs.Rules.{good, redundancy, incompleteWord, fileMark, rowOf, isAllowed, isFailure, isPermanent, nextAttempt, goodEnding, endingOf, verdictOf, endingNumber, resultNumber}
-use Rattle.channel.specs.Units.{turnAt, workOf, operationAt}
+use Rattle.channel_outcomes.specs.Positions.{cleanerDue}
+use Rattle.channel_outcomes.specs.Rules.{good, redundancy, incompleteWord, fileMark, rowOf, isAllowed, isFailure, isPermanent, isNoise, pastNoise, nextAttempt, goodEnding, endingOf, tableVerdict, verdictOf, endingNumber, repeatedNumber, resultNumber}
+use Rattle.channel.specs.Units.{positionAt, turnAt, workOf, operationAt}
 use Rattle.channel_turns.specs.Turns.{judgeTurn, judgeOf}
 use Rattle.file.specs.declared.File.{File}
 use Rattle.file_input.specs.Delivers.{hasFull}
@@ -45,37 +47,37 @@ good-read a = go (eqb a 4)
     go true = refl
     go false = refl
 
-good-verdict : (q : Request) → q .op ≡ Read → verdictOf q 0 ≡ Ends (endingOf (q .op) (q .attempts) 0)
-unfolding verdictOf isAllowed rowOf anyOf
-good-verdict q e = cond-true (Ends (endingOf (q .op) (q .attempts) 0)) _ (ap (λ (o : Op). isAllowed o 0) e)
+good-verdict : (q : Request) (len : ℕ) → q .op ≡ Read → verdictOf q 0 len ≡ Ends (endingOf (q .op) (q .attempts) 0)
+unfolding verdictOf tableVerdict isNoise isAllowed rowOf anyOf
+good-verdict q len e = cond-true (Ends (endingOf (q .op) (q .attempts) 0)) _ (ap (λ (o : Op). isAllowed o 0) e)
 
-good-delivers : (q : Request) (op : Op) → q .op ≡ op → takesNoWords (work.At op) ≡ false
-    → isDelivery (effectOf (work.At (q .op)) (verdictOf q 0)) ≡ true
-good-delivers q Read e t =
-    ap (λ (v : Verdict). isDelivery (effectOf (work.At (q .op)) v)) (good-verdict q e)
+good-delivers : (q : Request) (len : ℕ) (op : Op) → q .op ≡ op → takesNoWords (work.At op) ≡ false
+    → isDelivery (effectOf (work.At (q .op)) (verdictOf q 0 len)) ≡ true
+good-delivers q len Read e t =
+    ap (λ (v : Verdict). isDelivery (effectOf (work.At (q .op)) v)) (good-verdict q len e)
     ∙ ap (λ (o : Op). isDelivery (effectOf (work.At o) (Ends (endingOf o (q .attempts) 0)))) e ∙ good-read (q .attempts)
-good-delivers q Write e t = true-not-false refl t
-good-delivers q Mark e t = true-not-false refl t
+good-delivers q len Write e t = true-not-false refl t
+good-delivers q len Mark e t = true-not-false refl t
 
-turn-delivers : (t : Turn) → takesNoWords (workOf t) ≡ false → isIdleFor (workOf t) ≡ false → isDelivery (effectOf (workOf t) (judgeTurn t 0)) ≡ true
-turn-delivers Idle n i = true-not-false refl i
-turn-delivers (Waiting q) n i = true-not-false refl i
-turn-delivers (Displaced q) n i = true-not-false refl i
-turn-delivers (Working q) n i = good-delivers q (q .op) refl n
+turn-delivers : (t : Turn) (len : ℕ) → takesNoWords (workOf t) ≡ false → isIdleFor (workOf t) ≡ false → isDelivery (effectOf (workOf t) (judgeTurn t 0 len)) ≡ true
+turn-delivers Idle len n i = true-not-false refl i
+turn-delivers (Waiting q) len n i = true-not-false refl i
+turn-delivers (Displaced q) len n i = true-not-false refl i
+turn-delivers (Working q) len n i = good-delivers q len (q .op) refl n
 
-pub words-delivered : (c : Channel) (u outcome : ℕ) (words : List ℕ)
+pub words-delivered : (c : Channel) (u outcome len : ℕ) (words : List ℕ)
     → (ltb 0 (length words) && (ltb 0 outcome || takesNoWords (operationAt c u))) ≡ false
-    → isIdleFor (operationAt c u) ≡ false → isDelivery (effectAt c u outcome) ≡ false → words ≡ []
+    → isIdleFor (operationAt c u) ≡ false → isDelivery (effectAt c u outcome len) ≡ false → words ≡ []
 unfolding operationAt judgeOf
-words-delivered c u outcome [] r i d = refl
-words-delivered c u outcome (x ∷ words) r i d =
+words-delivered c u outcome len [] r i d = refl
+words-delivered c u outcome len (x ∷ words) r i d =
     let some : ltb 0 (suc (length words)) ≡ true = lt-ltb 0 (suc (length words)) (omega arith) in
     let both : (ltb 0 outcome || takesNoWords (workOf (turnAt c u))) ≡ false =
     sym (ap (λ (b : Bool). b && (ltb 0 outcome || takesNoWords (workOf (turnAt c u)))) some) ∙ r in
     let least = ltb-false 0 outcome (or-left (ltb 0 outcome) _ both) in
     let zero-is : 0 ≡ outcome = omega arith in
-    true-not-false (turn-delivers (turnAt c u) (or-right (ltb 0 outcome) _ both) i)
-    (ap (λ (n : ℕ). isDelivery (effectOf (workOf (turnAt c u)) (judgeTurn (turnAt c u) n))) zero-is ∙ d)
+    true-not-false (turn-delivers (turnAt c u) len (or-right (ltb 0 outcome) _ both) i)
+    (ap (λ (n : ℕ). isDelivery (effectOf (workOf (turnAt c u)) (judgeTurn (turnAt c u) n len))) zero-is ∙ d)
 
 -- ---- a mark is read by the report that answers 03
 
@@ -108,18 +110,28 @@ mark-outcome op a o = go (eqb o good) (eqb o redundancy) (eqb o incompleteWord) 
     go false false false false q e = absurd (let n : _≡_ {A = ℕ} 4 3 = ap endingNumber e in omega arith)
 
 -- a read alone meets one
-mark-read : (q : Request) (o : ℕ) → verdictOf q o ≡ Ends MarkRead → isAllowed (q .op) 3 ≡ true
-unfolding verdictOf
-mark-read q o = go (isAllowed (q .op) o) (not (isFailure o) || isPermanent q o) refl
+mark-read : (q : Request) (o l : ℕ) → verdictOf q o l ≡ Ends MarkRead → isAllowed (q .op) 3 ≡ true
+unfolding verdictOf tableVerdict
+mark-read q o l = go (isNoise q o l) (isAllowed (q .op) o) (not (isFailure o) || isPermanent q o) refl
   where
-    go : (a b : Bool) → isAllowed (q .op) o ≡ a
-        → cond a (cond b (Ends (endingOf (q .op) (q .attempts) o)) (Repeats (nextAttempt q o))) (Refused 12) ≡ Ends MarkRead
+    go : (n a b : Bool) → isAllowed (q .op) o ≡ a
+        → cond n (Repeats (pastNoise q)) (cond a (cond b (Ends (endingOf (q .op) (q .attempts) o)) (Repeats (nextAttempt q o))) (Refused 12)) ≡ Ends MarkRead
         → isAllowed (q .op) 3 ≡ true
-    go true true p e =
+    go true a b p e = absurd (let z : _≡_ {A = ℕ} 0 1 = cc in omega arith)
+    go false true true p e =
         let k : endingOf (q .op) (q .attempts) o ≡ MarkRead = cc in
         sym (ap (isAllowed (q .op)) (mark-outcome (q .op) (q .attempts) o k)) ∙ p
-    go true false p e = absurd (let z : _≡_ {A = ℕ} 0 1 = cc in omega arith)
-    go false b p e = absurd (let z : _≡_ {A = ℕ} 0 1 = cc in omega arith)
+    go false true false p e = absurd (let z : _≡_ {A = ℕ} 0 1 = cc in omega arith)
+    go false false b p e = absurd (let z : _≡_ {A = ℕ} 0 1 = cc in omega arith)
+
+-- an operation that is repeated meets none
+repeats-no-mark : (p : Position) (q : Request) → eqb (repeatedNumber p q) 3 ≡ false
+unfolding repeatedNumber
+repeats-no-mark p q = go (cleanerDue p q)
+  where
+    go : (b : Bool) → eqb (cond b 7 0) 3 ≡ false
+    go true = refl
+    go false = refl
 
 ending-met : (op : Op) (e : Ending) → (e ≡ MarkRead → isAllowed op 3 ≡ true) → eqb (endingNumber e) 3 ≡ meets (opEffect op e)
 unfolding isAllowed rowOf anyOf
@@ -142,13 +154,14 @@ ending-met Mark MediumEnd h = refl
 ending-met Mark LostRedundancy h = refl
 ending-met Mark LostIncomplete h = refl
 
-pub mark-met : (c : Channel) (u outcome : ℕ) → Booked c u outcome → eqb (resultNumber (judgeOf c u outcome)) 3 ≡ meets (effectAt c u outcome)
+pub mark-met : (c : Channel) (u outcome len : ℕ) → Booked c u outcome len → eqb (resultNumber (positionAt c u) (judgeOf c u outcome len)) 3 ≡ meets (effectAt c u outcome len)
 unfolding judgeOf operationAt
-mark-met c u outcome (again r q t j) =
-    ap (λ (v : Verdict). eqb (resultNumber v) 3) j ∙ sym (ap (λ (v : Verdict). meets (effectOf (operationAt c u) v)) j)
-mark-met c u outcome (ended r e t j) =
-    ap (λ (v : Verdict). eqb (resultNumber v) 3) j
-    ∙ ending-met (r .op) e (λ m. mark-read r outcome (sym (ap (λ (x : Turn). judgeTurn x outcome) t) ∙ j ∙ ap Ends m))
+mark-met c u outcome len (again r q t j) =
+    ap (λ (v : Verdict). eqb (resultNumber (positionAt c u) v) 3) j ∙ repeats-no-mark (positionAt c u) q
+    ∙ sym (ap (λ (v : Verdict). meets (effectOf (operationAt c u) v)) j)
+mark-met c u outcome len (ended r e t j) =
+    ap (λ (v : Verdict). eqb (resultNumber (positionAt c u) v) 3) j
+    ∙ ending-met (r .op) e (λ m. mark-read r outcome len (sym (ap (λ (x : Turn). judgeTurn x outcome len) t) ∙ j ∙ ap Ends m))
     ∙ sym (ap (λ (v : Verdict). meets (effectOf (operationAt c u) v)) j ∙ ap (λ (x : Turn). meets (effectOf (workOf x) (Ends e))) t)
 
 -- ---- a write's file is an output file with a full block

@@ -13,7 +13,7 @@ use Rattle.channel.specs.declared.Op.the-variants.{Read, Write, Mark}
 use Rattle.channel.specs.declared.Turn.{Turn}
 use Rattle.channel.specs.declared.Channel.{Channel}
 use Rattle.channel.specs.declared.Work.the-variants as work
-use Rattle.channel.specs.Units.{turnAt, workOf, operationAt}
+use Rattle.channel.specs.Units.{positionAt, turnAt, workOf, operationAt}
 use Rattle.channel_turns.specs.Turns.{judgeOf}
 use Rattle.file.specs.declared.Side.{Side}
 use Rattle.file.specs.declared.Side.the-variants.{Neither}
@@ -92,8 +92,8 @@ shows-sent Keeps w f xs words e = true-not-false e refl
 
 -- ---- an accepted report
 
-module _ (s : State) (area : List ℕ) (ledgers : ℕ → Ledger) (K : Kept s area ledgers) (A : Asked s ledgers) (channel unit outcome : ℕ)
-    (words : List ℕ) (z : reportBy s area channel unit outcome words .refusal ≡ 0) where
+module _ (s : State) (area : List ℕ) (ledgers : ℕ → Ledger) (K : Kept s area ledgers) (A : Asked s ledgers) (channel unit outcome len : ℕ)
+    (words : List ℕ) (z : reportBy s area channel unit outcome len words .refusal ≡ 0) where
   abbrev i : ℕ
   i = fileOf s channel unit
 
@@ -104,13 +104,13 @@ module _ (s : State) (area : List ℕ) (ledgers : ℕ → Ledger) (K : Kept s ar
   c = channelAt s channel
 
   bound : serves channel unit (fileAt s (fileOf s channel unit)) ≡ true
-  bound = report-books-own s area channel unit outcome words (K .good .sixteen) z .bound
+  bound = report-books-own s area channel unit outcome len words (K .good .sixteen) z .bound
 
   -- the file that is open on its unit, by its ledger
   pub on-file : (j : ℕ) → isOn channel unit (ledgers j) ≡ true → j ≡ fileOf s channel unit
   on-file j e =
-      report-books-own s area channel unit outcome words (K .good .sixteen) z .only j
-      (sym (on-same s area ledgers K channel unit outcome words z j) ∙ e)
+      report-books-own s area channel unit outcome len words (K .good .sixteen) z .only j
+      (sym (on-same s area ledgers K channel unit outcome len words z j) ∙ e)
 
   on-request : (op : Op) → requested (turnAt c unit) ≡ work.At op → op ≡ opOf (ledgers i .asked)
   on-request op r =
@@ -122,47 +122,47 @@ module _ (s : State) (area : List ℕ) (ledgers : ℕ → Ledger) (K : Kept s ar
   -- a write is worked for exactly if one was asked for
   writes : isWrite (operationAt c unit) ≡ isWriteOp (opOf (ledgers i .asked))
   unfolding operationAt
-  writes = let R = ready s area ledgers K channel unit outcome words z in go (booked c unit outcome (R .works) (R .allowed))
+  writes = let R = ready s area ledgers K channel unit outcome len words z in go (booked c unit outcome len (R .works) (R .allowed))
     where
-      go : Booked c unit outcome → isWrite (operationAt c unit) ≡ isWriteOp (opOf (ledgers i .asked))
+      go : Booked c unit outcome len → isWrite (operationAt c unit) ≡ isWriteOp (opOf (ledgers i .asked))
       go (again r q t j) = ap (λ (x : Turn). isWrite (workOf x)) t ∙ ap isWriteOp (on-request (r .op) (ap requested t))
       go (ended r e t j) = ap (λ (x : Turn). isWrite (workOf x)) t ∙ ap isWriteOp (on-request (r .op) (ap requested t))
 
   pub write-full : ledgers i .asked ≡ 1 → (f .output ≡ true) × (isSide (oldest f) ≡ true)
-  write-full e = sending s area ledgers K channel unit outcome words z (writes ∙ asks-write (ledgers i .asked) e)
+  write-full e = sending s area ledgers K channel unit outcome len words z (writes ∙ asks-write (ledgers i .asked) e)
 
   abbrev result : ℕ
-  result = reportBy s area channel unit outcome words .result
+  result = reportBy s area channel unit outcome len words .result
 
   abbrev shown : List ℕ
   shown =
-      partOf (reportBy s area channel unit outcome words .start) (reportBy s area channel unit outcome words .count)
-      (reportByArea s area channel unit outcome words)
+      partOf (reportBy s area channel unit outcome len words .start) (reportBy s area channel unit outcome len words .count)
+      (reportByArea s area channel unit outcome len words)
 
-  sends : isSending (effectAt c unit outcome) ≡ (isWriteOp (opOf (ledgers i .asked)) && (eqb result 1 || eqb result 4))
+  sends : isSending (effectAt c unit outcome len) ≡ (isWriteOp (opOf (ledgers i .asked)) && (eqb result 1 || eqb result 4))
   unfolding reportBy
   sends =
-      sends-exactly (operationAt c unit) (judgeOf c unit outcome)
+      sends-exactly (operationAt c unit) (positionAt c unit) (judgeOf c unit outcome len)
       ∙ ap₂ (λ (b : Bool) (n : ℕ). b && (eqb n 1 || eqb n 4)) writes
-      (sym (ap (λ (x : ReportChange). x .result) (change s area ledgers K channel unit outcome words z)))
+      (sym (ap (λ (x : ReportChange). x .result) (change s area ledgers K channel unit outcome len words z)))
 
-  shown-is : shown ≡ partOf (shownStart (effectAt c unit outcome) (s .w) f) (shownCount (effectAt c unit outcome) f)
-      (reportByArea s area channel unit outcome words)
+  shown-is : shown ≡ partOf (shownStart (effectAt c unit outcome len) (s .w) f) (shownCount (effectAt c unit outcome len) f)
+      (reportByArea s area channel unit outcome len words)
   unfolding reportBy
   shown-is =
-      ap (λ (x : ReportChange). partOf (x .start) (x .count) (reportByArea s area channel unit outcome words))
-      (change s area ledgers K channel unit outcome words z)
+      ap (λ (x : ReportChange). partOf (x .start) (x .count) (reportByArea s area channel unit outcome len words))
+      (change s area ledgers K channel unit outcome len words z)
 
   -- "if it ends a write with 01 or 04, the block's words"
   pub shown-out : ledgers i .asked ≡ 1 → (eqb result 1 || eqb result 4) ≡ true → shown ≡ partOf (sendStart (s .w) f) (sendWords f) area
   shown-out e h =
-      shown-is ∙ ap (partOf (shownStart (effectAt c unit outcome) (s .w) f) (shownCount (effectAt c unit outcome) f))
-      (after-area s area ledgers K channel unit outcome words z)
-      ∙ shows-sent (effectAt c unit outcome) (s .w) f area words
+      shown-is ∙ ap (partOf (shownStart (effectAt c unit outcome len) (s .w) f) (shownCount (effectAt c unit outcome len) f))
+      (after-area s area ledgers K channel unit outcome len words z)
+      ∙ shows-sent (effectAt c unit outcome len) (s .w) f area words
       (sends ∙ ap₂ (λ (a b : Bool). a && b) (asks-write (ledgers i .asked) e) h)
 
   shown-none : (isWriteOp (opOf (ledgers i .asked)) && (eqb result 1 || eqb result 4)) ≡ false → shown ≡ []
-  shown-none h = shown-is ∙ shows-none (effectAt c unit outcome) (s .w) f (reportByArea s area channel unit outcome words) (sends ∙ h)
+  shown-none h = shown-is ∙ shows-none (effectAt c unit outcome len) (s .w) f (reportByArea s area channel unit outcome len words) (sends ∙ h)
 
   pub shown-other : ledgers i .asked ≢ 1 → shown ≡ []
   shown-other ne = shown-none (ap (λ (b : Bool). b && (eqb result 1 || eqb result 4)) (asks-other (ledgers i .asked) ne))

@@ -16,7 +16,7 @@ use Rattle.block.specs.Blocks.{judgedBlock}
 use Rattle.channel.specs.declared.Channel.{Channel}
 use Rattle.channel_outcomes.specs.Rules.{resultNumber, outcomeCount}
 use Rattle.channel_turns.specs.Scans.{workingIn, unitNumber}
-use Rattle.channel.specs.Units.{turnAt, operationAt, unitCount}
+use Rattle.channel.specs.Units.{positionAt, turnAt, operationAt, unitCount}
 use Rattle.channel_turns.specs.Turns.{judgeOf, bookOf}
 use Rattle.call_request.specs.declared.Delivery.the-variants.{Without, With}
 use Rattle.word.specs.Checks.{unchecked}
@@ -41,7 +41,7 @@ use Rattle.call_request.specs.declared.Effect.{Effect}
 use Rattle.call_request.specs.declared.Effect.the-variants.{Delivers, MeetsMark, GivesBack, Sends, Keeps}
 use Rattle.call_request.specs.declared.ReportChange.{ReportChange}
 use Rattle.call_request.specs.Effects.{isDelivery}
-use Rattle.call_request.specs.Report.{effectAt, shownStart, shownCount, reportRefusal, deliveryCheck, deliveryOf, toldBy, reportedFile, reportedArea, reportOn, reportOnArea}
+use Rattle.call_request.specs.Report.{lengthWrong, effectAt, shownStart, shownCount, reportRefusal, deliveryCheck, deliveryOf, toldBy, reportedFile, reportedArea, reportOn, reportOnArea}
 use Rattle.pack_request.specs.Calls.{fileOf, reportWrong, reportChange, reportBy, reportByArea}
 use Rattle.pack_request.proofs.Changed.{here-file}
 use Rattle.pack_request.proofs.ReportTheorems.{booked, ReportReady, report-ready, report-exactly, report-frame, isOpen, requested-ready, report-books-own}
@@ -58,8 +58,8 @@ use Rattle.demands_ledger.proofs.Frames.{marking, Kept, others-same, ke
 use Rattle.demands_ledger.proofs.Booked.{plus, plus-none, told-back, told-mark, told-sent, told-came}
 use Rattle.demands_ledger.proofs.Deliveries.{words-delivered, meets, mark-met, write-ready}
 
-module _ (s : State) (area : List ℕ) (ledgers : ℕ → Ledger) (K : Kept s area ledgers) (channel unit outcome : ℕ) (words : List ℕ)
-    (z : reportBy s area channel unit outcome words .refusal ≡ 0) where
+module _ (s : State) (area : List ℕ) (ledgers : ℕ → Ledger) (K : Kept s area ledgers) (channel unit outcome len : ℕ) (words : List ℕ)
+    (z : reportBy s area channel unit outcome len words .refusal ≡ 0) where
   abbrev i : ℕ
   i = fileOf s channel unit
 
@@ -70,35 +70,35 @@ module _ (s : State) (area : List ℕ) (ledgers : ℕ → Ledger) (K : Kept s ar
   c = channelAt s channel
 
   abbrev effect : Effect
-  effect = effectAt c unit outcome
+  effect = effectAt c unit outcome len
 
   abbrev L : Ledger
   L = ledgers i
 
-  number : reportRefusal (reportWrong s (length area) channel) f c unit outcome (s .w) area words ≡ 0
+  number : reportRefusal (reportWrong s (length area) channel) f c unit outcome len (s .w) area words ≡ 0
   unfolding reportRefusal
-  number = sym (report-exactly s area channel unit outcome words .number) ∙ z
+  number = sym (report-exactly s area channel unit outcome len words .number) ∙ z
 
-  pub ready : ReportReady (reportWrong s (length area) channel) f c unit outcome (s .w) area words
-  ready = report-ready (reportWrong s (length area) channel) f c unit outcome (s .w) area words number
+  pub ready : ReportReady (reportWrong s (length area) channel) f c unit outcome len (s .w) area words
+  ready = report-ready (reportWrong s (length area) channel) f c unit outcome len (s .w) area words number
 
   long : s .m * s .w ≤ length area
   long = ltb-false (length area) (s .m * s .w) (or-left (areaShort s (length area)) _ (or-right (not (sound s)) _ (ready .right)))
 
   open-file : f .opened ≡ true
-  open-file = isOpen s area channel unit outcome words (K .good .sixteen) number
+  open-file = isOpen s area channel unit outcome len words (K .good .sixteen) number
 
   S : Sound (s .m) (s .w) f
   S = sound-facts s (K .good .right) .files i open-file
 
   no-words : isDelivery effect ≡ false → words ≡ []
   no-words =
-      let x = report-exactly s area channel unit outcome words in
+      let x = report-exactly s area channel unit outcome len words in
       let row = x .table .none (sym (x .number) ∙ z) 1 _ here in
-      words-delivered c unit outcome words (or-right (leb unitCount unit || leb outcomeCount outcome) _ (or-right (reportWrong s (length area) channel) _ row))
+      words-delivered c unit outcome len words (or-right (leb unitCount unit || leb outcomeCount outcome) _ (or-right (reportWrong s (length area) channel || lengthWrong outcome len (operationAt c unit) (length words)) _ row))
       (ready .works)
 
-  pub after-area : reportByArea s area channel unit outcome words ≡ reportedArea effect f (s .w) words area
+  pub after-area : reportByArea s area channel unit outcome len words ≡ reportedArea effect f (s .w) words area
   unfolding reportByArea reportOnArea
   after-area = cond-true (reportedArea effect f (s .w) words area) area (eq-eqb _ 0 number)
 
@@ -116,20 +116,20 @@ module _ (s : State) (area : List ℕ) (ledgers : ℕ → Ledger) (K : Kept s ar
 
   pub sending : isWrite (operationAt c unit) ≡ true → (f .output ≡ true) × (hasFull f ≡ true)
   unfolding operationAt
-  sending h = write-ready (turnAt c unit) f h (requested-ready s area channel unit outcome words (K .good .sixteen) number)
+  sending h = write-ready (turnAt c unit) f h (requested-ready s area channel unit outcome len words (K .good .sixteen) number)
 
   told-reported : (x : Effect) → effect ≡ x
       → Told (s .w) (reportedFile x f (length words) (deliveryCheck x f words)) (reportedArea x f (s .w) words area) (madeLedger x)
   unfolding reportedFile reportedArea afterWrite
   told-reported Delivers e =
       let d : isDelivery effect ≡ true = ap isDelivery e in
-      let D = report-delivers s area channel unit outcome words (K .good .sixteen) number d in
+      let D = report-delivers s area channel unit outcome len words (K .good .sixteen) number d in
       told-came (s .m) (s .w) f S area long L words (D .side) (ready .fits d) (D .inside) (D .room) open-file (K .told i)
   told-reported MeetsMark e = nothing-more (metMark f) true (no-words (ap isDelivery e)) (told-mark (s .w) f area L (K .told i))
   told-reported GivesBack e = nothing-more (gaveBack f) false (no-words (ap isDelivery e)) (told-back (s .w) f area L (K .told i))
   told-reported Sends e =
       let writes : isWrite (operationAt c unit) ≡ true =
-      and-left (isWrite (operationAt c unit)) _ (sym (sends-exactly (operationAt c unit) (judgeOf c unit outcome)) ∙ ap isSending e) in
+      and-left (isWrite (operationAt c unit)) _ (sym (sends-exactly (operationAt c unit) (positionAt c unit) (judgeOf c unit outcome len)) ∙ ap isSending e) in
       let R = sending writes in
       subst (λ (ws : List ℕ). Told (s .w) (withoutOldest f) area
       (plus L false (asBlock (partOf (sendStart (s .w) f) (sendWords f) area)) (asBlock ws)
@@ -138,21 +138,21 @@ module _ (s : State) (area : List ℕ) (ledgers : ℕ → Ledger) (K : Kept s ar
       (told-sent (s .m) (s .w) f S area long L open-file (R .0) (R .1) (K .told i))
   told-reported Keeps e = nothing-more f false (no-words (ap isDelivery e)) (K .told i)
 
-  pub change : reportChange s area channel unit outcome words ≡ record {
+  pub change : reportChange s area channel unit outcome len words ≡ record {
     refusal = 0;
-    result = resultNumber (judgeOf c unit outcome);
+    result = resultNumber (positionAt c unit) (judgeOf c unit outcome len);
     delivery = deliveryOf effect (deliveryCheck effect f words);
-    working = unitNumber (workingIn (bookOf c unit (judgeOf c unit outcome) (s .frozen)));
+    working = unitNumber (workingIn (bookOf c unit (judgeOf c unit outcome len) (s .frozen)));
     start = shownStart effect (s .w) f;
     count = shownCount effect f;
     file = reportedFile effect f (length words) (deliveryCheck effect f words);
-    channel = bookOf c unit (judgeOf c unit outcome) (s .frozen);
+    channel = bookOf c unit (judgeOf c unit outcome len) (s .frozen);
   }
   unfolding reportOn
-  change = rw (eq-eqb (reportRefusal (reportWrong s (length area) channel) f c unit outcome (s .w) area words) 0 number)
+  change = rw (eq-eqb (reportRefusal (reportWrong s (length area) channel) f c unit outcome len (s .w) area words) 0 number)
 
-  met : eqb (resultNumber (judgeOf c unit outcome)) 3 ≡ meets effect
-  met = mark-met c unit outcome (booked c unit outcome (ready .works) (ready .allowed))
+  met : eqb (resultNumber (positionAt c unit) (judgeOf c unit outcome len)) 3 ≡ meets effect
+  met = mark-met c unit outcome len (booked c unit outcome len (ready .works) (ready .allowed))
 
   -- what the answer tells of the delivery is what was found
   told-delivery : toldBy (deliveryOf effect (deliveryCheck effect f words)) ≡ deliveryCheck effect f words
@@ -164,28 +164,28 @@ module _ (s : State) (area : List ℕ) (ledgers : ℕ → Ledger) (K : Kept s ar
       go false = refl
 
   -- the file after it stands in its place
-  after-file : fileAt (reportBy s area channel unit outcome words .state) i ≡ reportChange s area channel unit outcome words .file
+  after-file : fileAt (reportBy s area channel unit outcome len words .state) i ≡ reportChange s area channel unit outcome len words .file
   unfolding reportBy
   after-file =
-      let x = reportChange s area channel unit outcome words in
+      let x = reportChange s area channel unit outcome len words in
       here-file s i channel (x .refusal) (x .file) (x .channel) (ap (λ (y : ReportChange). y .refusal) change) (place-of s i open-file)
 
   -- no word of another file's buffers changes
   still : (j : ℕ) → j ≢ i → fileAt s j .opened ≡ true → (k : Side) → owns (fileAt s j) k ≡ true
-      → partOf (bufferAt (fileAt s j) k .number * s .w) (s .w) (reportByArea s area channel unit outcome words)
+      → partOf (bufferAt (fileAt s j) k .number * s .w) (s .w) (reportByArea s area channel unit outcome len words)
       ≡ partOf (bufferAt (fileAt s j) k .number * s .w) (s .w) area
   unfolding reportedArea
   still j ne o k p = go (isDelivery effect) refl
     where
       go : (t : Bool) → isDelivery effect ≡ t
-          → partOf (bufferAt (fileAt s j) k .number * s .w) (s .w) (reportByArea s area channel unit outcome words)
+          → partOf (bufferAt (fileAt s j) k .number * s .w) (s .w) (reportByArea s area channel unit outcome len words)
           ≡ partOf (bufferAt (fileAt s j) k .number * s .w) (s .w) area
       go true d =
-          let D = report-delivers s area channel unit outcome words (K .good .sixteen) number d in
+          let D = report-delivers s area channel unit outcome len words (K .good .sixteen) number d in
           let at = startAt f (s .w) (takenSide f) in
           let only = only-wider at (length words) at (s .w) area (pastedIn at words area) (pasted-only at words area (D .inside)) (omega arith)
           (omega (arith, D .room)) in
-          others-same s (K .good) i (bufferAt f (takenSide f) .number) (D .held) area (reportByArea s area channel unit outcome words)
+          others-same s (K .good) i (bufferAt f (takenSide f) .number) (D .held) area (reportByArea s area channel unit outcome len words)
           (subst (Only at (s .w) area) (paste-fitting at words area (D .inside) ∙ sym (D .pasted)) only) j ne o k p
       go false d =
           ap (partOf (bufferAt (fileAt s j) k .number * s .w) (s .w))
@@ -206,35 +206,35 @@ module _ (s : State) (area : List ℕ) (ledgers : ℕ → Ledger) (K : Kept s ar
           ∙ sym (ap (λ (b : Bool). b && (eqb (fileAt s j .channel) channel && eqb (fileAt s j .unit) unit)) o)
 
   abbrev pub noting : ℕ → Ledger
-  noting j = cond (isOn channel unit (ledgers j)) (withReport words (answerOf s area (report channel unit outcome words)) (ledgers j)) (ledgers j)
+  noting j = cond (isOn channel unit (ledgers j)) (withReport words (answerOf s area (report channel unit outcome len words)) (ledgers j)) (ledgers j)
 
-  noting-here : noting i ≡ withReport words (answerOf s area (report channel unit outcome words)) (ledgers i)
-  noting-here = cond-true _ (ledgers i) (on-same i ∙ report-books-own s area channel unit outcome words (K .good .sixteen) z .bound)
+  noting-here : noting i ≡ withReport words (answerOf s area (report channel unit outcome len words)) (ledgers i)
+  noting-here = cond-true _ (ledgers i) (on-same i ∙ report-books-own s area channel unit outcome len words (K .good .sixteen) z .bound)
 
   noting-other : (j : ℕ) → j ≢ i → noting j ≡ ledgers j
   noting-other j ne =
-      cond-false (withReport words (answerOf s area (report channel unit outcome words)) (ledgers j)) (ledgers j)
+      cond-false (withReport words (answerOf s area (report channel unit outcome len words)) (ledgers j)) (ledgers j)
       (go (serves channel unit (fileAt s j)) refl)
     where
       go : (t : Bool) → serves channel unit (fileAt s j) ≡ t → isOn channel unit (ledgers j) ≡ false
-      go true e = absurd (ne (report-books-own s area channel unit outcome words (K .good .sixteen) z .only j e))
+      go true e = absurd (ne (report-books-own s area channel unit outcome len words (K .good .sixteen) z .only j e))
       go false e = on-same j ∙ e
 
-  pub report-kept : Kept (reportBy s area channel unit outcome words .state) (reportByArea s area channel unit outcome words) noting
+  pub report-kept : Kept (reportBy s area channel unit outcome len words .state) (reportByArea s area channel unit outcome len words) noting
   unfolding answerOf reportBy
   report-kept =
-      let t = reportBy s area channel unit outcome words .state in
-      let zs = reportByArea s area channel unit outcome words in
-      let F = report-frame s area channel unit outcome words in
-      kept-file s t area zs ledgers noting K (call-kept s area (K .good) (report channel unit outcome words)) i (F .words) (F .files) noting-other
+      let t = reportBy s area channel unit outcome len words .state in
+      let zs = reportByArea s area channel unit outcome len words in
+      let F = report-frame s area channel unit outcome len words in
+      kept-file s t area zs ledgers noting K (call-kept s area (K .good) (report channel unit outcome len words)) i (F .words) (F .files) noting-other
       still
       (subst (λ (h : File). Told (s .w) h zs (noting i)) (sym after-file)
-      (subst (Told (s .w) (reportChange s area channel unit outcome words .file) zs) (sym noting-here)
+      (subst (Told (s .w) (reportChange s area channel unit outcome len words .file) zs) (sym noting-here)
       (subst (λ (x : ReportChange). Told (s .w) (x .file) zs
       (plus L (eqb (x .result) 3) (asBlock (partOf (x .start) (x .count) zs)) (asBlock words)
       (owedFor (L .chosen .sequence) (L .chosen .check) (toldBy (x .delivery)) words))) (sym change)
       (subst (λ (e : Checked). Told (s .w) (reportedFile effect f (length words) (deliveryCheck effect f words)) zs
-      (plus L (eqb (resultNumber (judgeOf c unit outcome)) 3) (asBlock (partOf (shownStart effect (s .w) f) (shownCount effect f) zs)) (asBlock words)
+      (plus L (eqb (resultNumber (positionAt c unit) (judgeOf c unit outcome len)) 3) (asBlock (partOf (shownStart effect (s .w) f) (shownCount effect f) zs)) (asBlock words)
       (owedFor (L .chosen .sequence) (L .chosen .check) e words))) (sym told-delivery)
       (subst (λ (mark : Bool). Told (s .w) (reportedFile effect f (length words) (deliveryCheck effect f words)) zs
       (plus L mark (asBlock (partOf (shownStart effect (s .w) f) (shownCount effect f) zs)) (asBlock words)
@@ -246,14 +246,14 @@ module _ (s : State) (area : List ℕ) (ledgers : ℕ → Ledger) (K : Kept s ar
 
   -- what it answers of the block is the judgement of the words as delivered, with the number that the block is due
   pub report-judged : words ≢ []
-      → reportBy s area channel unit outcome words .delivery ≡ With (judgedBlock words (f .sequence) (f .check) (numberAfter 1 (L .came)) .found)
+      → reportBy s area channel unit outcome len words .delivery ≡ With (judgedBlock words (f .sequence) (f .check) (numberAfter 1 (L .came)) .found)
   unfolding reportBy
   report-judged some = go (isDelivery effect) refl
     where
       go : (t : Bool) → isDelivery effect ≡ t
-          → reportChange s area channel unit outcome words .delivery ≡ With (judgedBlock words (f .sequence) (f .check) (numberAfter 1 (L .came)) .found)
+          → reportChange s area channel unit outcome len words .delivery ≡ With (judgedBlock words (f .sequence) (f .check) (numberAfter 1 (L .came)) .found)
       go true d =
-          let D = report-delivers s area channel unit outcome words (K .good .sixteen) number d in
+          let D = report-delivers s area channel unit outcome len words (K .good .sixteen) number d in
           ap (λ (x : ReportChange). x .delivery) change ∙ cond-true (With (deliveryCheck effect f words)) Without d
           ∙ ap With (cond-true (judgedBlock words (f .sequence) (f .check) (f .block) .found) unchecked d)
           ∙ ap (λ (n : ℕ). With (judgedBlock words (f .sequence) (f .check) n .found))

@@ -1,14 +1,18 @@
 -- The four kinds of call that demand 3 counts are, call by call, the kinds of event that the channel counts. Assumes nothing.
 use mathlib.Core.Path.{_≡_, refl, sym, ap, _∙_}
-use mathlib.Core.Bool.{Bool, true, false, not, _&&_, and-true, and-false}
+use mathlib.Core.Bool.{Bool, true, false, not, cond, _&&_, and-true, and-false}
 use mathlib.Core.List.{List}
 use Prim.Native.Nat.{ℕ}
 use lib.Dec.{eqb}
 use borrow.Author.Tests.{eqb-true}
 use Rattle.channel_outcomes.specs.declared.Ending.the-variants.{Good, Opposite, MarkRead, MediumEnd, LostRedundancy, LostIncomplete}
+use Rattle.channel.specs.declared.Position.{Position}
+use Rattle.channel.specs.declared.Request.{Request}
+use Rattle.channel.specs.Units.{positionAt}
 use Rattle.channel_outcomes.specs.declared.Verdict.{Verdict}
 use Rattle.channel_outcomes.specs.declared.Verdict.the-variants.{Refused, Repeats, Ends}
-use Rattle.channel_outcomes.specs.Rules.{resultNumber}
+use Rattle.channel_outcomes.specs.Positions.{cleanerDue}
+use Rattle.channel_outcomes.specs.Rules.{repeatedNumber, resultNumber}
 use Rattle.channel_turns.specs.Turns.{judgeOf}
 use Rattle.channel_theorems.specs.History as history
 use Rattle.channel_theorems.specs.History.{accepted, reportAnswer, aReport, aPriority, aRequestOf, anAnswerTo, isAnswered}
@@ -21,13 +25,22 @@ use Rattle.pack_request.specs.Calls.{reportBy}
 use Rattle.pack_request.proofs.ReportTheorems.{report-exactly, report-event}
 use Rattle.pack.specs.Calls.{Call, fresh, opening, close, ask, report, get, put, seal, skip, freeze, thaw, Answer, answerOf}
 use Rattle.pack.specs.Histories as h
-use Rattle.pack.specs.Histories.{isAccepted, ofReport, ofAsk, isAnswerFor, isPriorityOn, isRequestOf, isAnswer}
+use Rattle.pack.specs.Histories.{isAccepted, ofReport, ofAsk, isAnswerFor, isPriorityOn, isRequestOf, isRepeat, isAnswer}
 use Rattle.area.specs.Lists.{oneIf}
 use Rattle.pack.specs.Tables.{rowsOf}
 use Rattle.area.specs.Refusals.{lowest}
 use Rattle.channel.specs.declared.Op.{Op}
 use Rattle.pack.proofs.Seen.{eventIf, seen}
 use Rattle.pack.proofs.Around.{Matches}
+
+-- a repeated operation's result is 00 or 07
+pub repeats-told : (p : Position) (q : Request) → isRepeat (repeatedNumber p q) ≡ true
+unfolding repeatedNumber
+repeats-told p q = go (cleanerDue p q)
+  where
+    go : (b : Bool) → isRepeat (cond b 7 0) ≡ true
+    go true = refl
+    go false = refl
 
 module _ (c : ℕ) where
   -- ---- what an event counts for
@@ -56,16 +69,16 @@ module _ (c : ℕ) where
         shown-if event (isAccepted (answerOf s area (ask file op priority)) && eqb (fileAt s file .channel) c) _ _
         ∙ split (isAccepted (answerOf s area (ask file op priority))) (eqb (fileAt s file .channel) c) _ kind (λ a. e)
 
-    report-seen : (event : history.Event → history.Answer → Bool) (channel unit outcome : ℕ) (words : List ℕ) (kind : Bool)
-        → (reportBy s area channel unit outcome words .refusal ≡ 0
-        → (eqb channel c && event (history.report unit outcome) (reportAnswer (judgeOf (channelAt s channel) unit outcome))) ≡ kind)
-        → countShown event (seen c s area (report channel unit outcome words))
-        ≡ oneIf (isAccepted (answerOf s area (report channel unit outcome words)) && kind)
+    report-seen : (event : history.Event → history.Answer → Bool) (channel unit outcome len : ℕ) (words : List ℕ) (kind : Bool)
+        → (reportBy s area channel unit outcome len words .refusal ≡ 0
+        → (eqb channel c && event (history.report unit outcome len) (reportAnswer (judgeOf (channelAt s channel) unit outcome len))) ≡ kind)
+        → countShown event (seen c s area (report channel unit outcome len words))
+        ≡ oneIf (isAccepted (answerOf s area (report channel unit outcome len words)) && kind)
     unfolding answerOf
-    report-seen event channel unit outcome words kind e =
-        shown-if event (isAccepted (answerOf s area (report channel unit outcome words)) && eqb channel c) _ _
-        ∙ split (isAccepted (answerOf s area (report channel unit outcome words))) (eqb channel c) _ kind
-        (λ a. e (eqb-true (reportBy s area channel unit outcome words .refusal) 0 a))
+    report-seen event channel unit outcome len words kind e =
+        shown-if event (isAccepted (answerOf s area (report channel unit outcome len words)) && eqb channel c) _ _
+        ∙ split (isAccepted (answerOf s area (report channel unit outcome len words))) (eqb channel c) _ kind
+        (λ a. e (eqb-true (reportBy s area channel unit outcome len words .refusal) 0 a))
 
     every-seen : (event : history.Event → history.Answer → Bool) (b : Bool) (e : history.Event) → event e accepted ≡ false
         → countShown event (eventIf b e accepted) ≡ oneIf (b && false)
@@ -75,9 +88,9 @@ module _ (c : ℕ) where
     module _ (event : history.Event → history.Answer → Bool) (quietly : event history.freeze accepted ≡ false)
         (thaws : event history.thaw accepted ≡ false) where
       reports-match : (test : Answer → ℕ → ℕ → Bool) → ((u : ℕ) (op : Op) (p : Bool) → event (history.ask u op p) accepted ≡ false)
-          → ((channel unit outcome : ℕ) (words : List ℕ) → reportBy s area channel unit outcome words .refusal ≡ 0
-          → (eqb channel c && event (history.report unit outcome) (reportAnswer (judgeOf (channelAt s channel) unit outcome)))
-          ≡ test (answerOf s area (report channel unit outcome words)) channel unit)
+          → ((channel unit outcome len : ℕ) (words : List ℕ) → reportBy s area channel unit outcome len words .refusal ≡ 0
+          → (eqb channel c && event (history.report unit outcome len) (reportAnswer (judgeOf (channelAt s channel) unit outcome len)))
+          ≡ test (answerOf s area (report channel unit outcome len words)) channel unit)
           → (call : Call) → countShown event (seen c s area call)
           ≡ oneIf (isAccepted (answerOf s area call) && ofReport (test (answerOf s area call)) call)
       reports-match test asks e (fresh m w masks) = unseen (fresh m w masks)
@@ -86,9 +99,9 @@ module _ (c : ℕ) where
       reports-match test asks e (ask file op priority) =
           ask-seen event file op priority false
           (ap (λ (b : Bool). eqb (fileAt s file .channel) c && b) (asks _ _ _) ∙ and-false (eqb (fileAt s file .channel) c))
-      reports-match test asks e (report channel unit outcome words) =
-          report-seen event channel unit outcome words (test (answerOf s area (report channel unit outcome words)) channel unit)
-          (e channel unit outcome words)
+      reports-match test asks e (report channel unit outcome len words) =
+          report-seen event channel unit outcome len words (test (answerOf s area (report channel unit outcome len words)) channel unit)
+          (e channel unit outcome len words)
       reports-match test asks e (get file) = unseen (get file)
       reports-match test asks e (put file words) = unseen (put file words)
       reports-match test asks e (seal file) = unseen (seal file)
@@ -96,7 +109,7 @@ module _ (c : ℕ) where
       reports-match test asks e freeze = every-seen event (isAccepted (answerOf s area freeze)) history.freeze quietly
       reports-match test asks e thaw = every-seen event (isAccepted (answerOf s area thaw)) history.thaw thaws
 
-      asks-match : (test : ℕ → ℕ → Bool) → ((u o : ℕ) (a : history.Answer) → event (history.report u o) a ≡ false)
+      asks-match : (test : ℕ → ℕ → Bool) → ((u o l : ℕ) (a : history.Answer) → event (history.report u o l) a ≡ false)
           → ((file op priority : ℕ)
           → (eqb (fileAt s file .channel) c && event (history.ask (fileAt s file .unit) (opOf op) (isPriority priority)) accepted)
           ≡ test file priority)
@@ -105,9 +118,9 @@ module _ (c : ℕ) where
       asks-match test reports e (opening file channel unit flags size rlen) = unseen (opening file channel unit flags size rlen)
       asks-match test reports e (close file) = unseen (close file)
       asks-match test reports e (ask file op priority) = ask-seen event file op priority (test file priority) (e file op priority)
-      asks-match test reports e (report channel unit outcome words) =
-          report-seen event channel unit outcome words false
-          (λ z. ap (λ (b : Bool). eqb channel c && b) (reports unit outcome _) ∙ and-false (eqb channel c))
+      asks-match test reports e (report channel unit outcome len words) =
+          report-seen event channel unit outcome len words false
+          (λ z. ap (λ (b : Bool). eqb channel c && b) (reports unit outcome len _) ∙ and-false (eqb channel c))
       asks-match test reports e (get file) = unseen (get file)
       asks-match test reports e (put file words) = unseen (put file words)
       asks-match test reports e (seal file) = unseen (seal file)
@@ -115,48 +128,48 @@ module _ (c : ℕ) where
       asks-match test reports e freeze = every-seen event (isAccepted (answerOf s area freeze)) history.freeze quietly
       asks-match test reports e thaw = every-seen event (isAccepted (answerOf s area thaw)) history.thaw thaws
 
-    -- the result of an accepted report is the channel's verdict; every result but 00 answers
-    pub result-is : (channel unit outcome : ℕ) (words : List ℕ) → reportBy s area channel unit outcome words .refusal ≡ 0
-        → reportBy s area channel unit outcome words .result ≡ resultNumber (judgeOf (channelAt s channel) unit outcome)
+    -- the result of an accepted report is the channel's verdict; every result but 00 and 07 answers
+    pub result-is : (channel unit outcome len : ℕ) (words : List ℕ) → reportBy s area channel unit outcome len words .refusal ≡ 0
+        → reportBy s area channel unit outcome len words .result ≡ resultNumber (positionAt (channelAt s channel) unit) (judgeOf (channelAt s channel) unit outcome len)
     unfolding reportBy reportOn reportRefusal rowsOf
-    result-is channel unit outcome words z =
-        let n : lowest (rowsOf s area (report channel unit outcome words)) ≡ 0 = sym (report-exactly s area channel unit outcome words .number) ∙ z in
+    result-is channel unit outcome len words z =
+        let n : lowest (rowsOf s area (report channel unit outcome len words)) ≡ 0 = sym (report-exactly s area channel unit outcome len words .number) ∙ z in
         rw n
 
-  answers-by : (v : Verdict) → isAnswered (reportAnswer v) ≡ not (eqb (resultNumber v) 0)
-  answers-by (Refused n) = refl
-  answers-by (Repeats q) = refl
-  answers-by (Ends Good) = refl
-  answers-by (Ends Opposite) = refl
-  answers-by (Ends MarkRead) = refl
-  answers-by (Ends MediumEnd) = refl
-  answers-by (Ends LostRedundancy) = refl
-  answers-by (Ends LostIncomplete) = refl
+  answers-by : (p : Position) (v : Verdict) → isAnswered (reportAnswer v) ≡ not (isRepeat (resultNumber p v))
+  answers-by p (Refused n) = refl
+  answers-by p (Repeats q) = ap not (sym (repeats-told p q))
+  answers-by p (Ends Good) = refl
+  answers-by p (Ends Opposite) = refl
+  answers-by p (Ends MarkRead) = refl
+  answers-by p (Ends MediumEnd) = refl
+  answers-by p (Ends LostRedundancy) = refl
+  answers-by p (Ends LostIncomplete) = refl
 
   -- reports, answers, priority requests and requests are what the channel counts as such
   pub report-matches : Matches c (h.isReportOn c) aReport
   unfolding Matches
   report-matches s area g =
       reports-match s area aReport refl refl (λ a channel unit. eqb channel c) (λ u op p. refl)
-      (λ channel unit outcome words z.
-      ap (λ (b : Bool). eqb channel c && b) (report-event s area channel unit outcome words (g .sixteen) z .counted) ∙ and-true (eqb channel c))
+      (λ channel unit outcome len words z.
+      ap (λ (b : Bool). eqb channel c && b) (report-event s area channel unit outcome len words (g .sixteen) z .counted) ∙ and-true (eqb channel c))
 
   pub answer-matches : (u : ℕ) → Matches c (isAnswerFor c u) (anAnswerTo u)
   unfolding Matches answerOf
   answer-matches u s area g =
       reports-match s area (anAnswerTo u) refl refl (λ a channel unit. eqb channel c && (eqb unit u && isAnswer (a .added))) (λ v op p. refl)
-      (λ channel unit outcome words z.
+      (λ channel unit outcome len words z.
       ap (λ (b : Bool). eqb channel c && (eqb unit u && b))
-      (answers-by (judgeOf (channelAt s channel) unit outcome) ∙ ap (λ (n : ℕ). not (eqb n 0)) (sym (result-is s area channel unit outcome words z))))
+      (answers-by (positionAt (channelAt s channel) unit) (judgeOf (channelAt s channel) unit outcome len) ∙ ap (λ (n : ℕ). not (isRepeat n)) (sym (result-is s area channel unit outcome len words z))))
 
   pub priority-matches : Matches c (isPriorityOn c) aPriority
   unfolding Matches
   priority-matches s area g =
-      asks-match s area aPriority refl refl (λ file priority. eqb (fileAt s file .channel) c && isPriority priority) (λ u o a. refl)
+      asks-match s area aPriority refl refl (λ file priority. eqb (fileAt s file .channel) c && isPriority priority) (λ u o l a. refl)
       (λ file op priority. ap (λ (b : Bool). eqb (fileAt s file .channel) c && b) (and-true (isPriority priority)))
 
   pub request-matches : (u : ℕ) → Matches c (isRequestOf c u) (aRequestOf u)
   unfolding Matches
   request-matches u s area g =
-      asks-match s area (aRequestOf u) refl refl (λ file priority. eqb (fileAt s file .channel) c && eqb (fileAt s file .unit) u) (λ v o a. refl)
+      asks-match s area (aRequestOf u) refl refl (λ file priority. eqb (fileAt s file .channel) c && eqb (fileAt s file .unit) u) (λ v o l a. refl)
       (λ file op priority. ap (λ (b : Bool). eqb (fileAt s file .channel) c && b) (and-true (eqb (fileAt s file .unit) u)))

@@ -90,9 +90,9 @@ module _ (s : State) (area : List ℕ) (g : Good s) where
   call-kept (close file) = record { right = close-kept s file (g .right); sixteen = close-length file ∙ g .sixteen }
   call-kept (ask file op priority) =
       record { right = ask-kept s file op priority (g .right); sixteen = ask-frame s file op priority .fileCount ∙ g .sixteen }
-  call-kept (report channel unit outcome words) = record {
-    right = report-kept s area channel unit outcome words (g .sixteen) (g .right);
-    sixteen = report-frame s area channel unit outcome words .fileCount ∙ g .sixteen;
+  call-kept (report channel unit outcome len words) = record {
+    right = report-kept s area channel unit outcome len words (g .sixteen) (g .right);
+    sixteen = report-frame s area channel unit outcome len words .fileCount ∙ g .sixteen;
   }
   call-kept (get file) = record { right = get-kept s area file (g .right); sixteen = get-length file ∙ g .sixteen }
   call-kept (put file words) = record { right = put-kept s area file words (g .right); sixteen = put-length file words ∙ g .sixteen }

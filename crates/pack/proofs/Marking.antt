@@ -14,17 +14,19 @@ use Rattle.area.specs.Lists.{anyOf}
 use Rattle.area.proofs.Walks.{true-not-false, and-left, and-right, and-both}
 use Rattle.channel.specs.declared.Op.{Op}
 use Rattle.channel.specs.declared.Op.the-variants.{Read, Write, Mark}
+use Rattle.channel.specs.declared.Position.{Position}
 use Rattle.channel.specs.declared.Request.{Request}
 use Rattle.channel.specs.declared.Turn.{Turn}
 use Rattle.channel.specs.declared.Turn.the-variants.{Working}
 use Rattle.channel.specs.declared.Channel.{Channel}
 use Rattle.channel.specs.declared.Work.the-variants.{At}
-use Rattle.channel.specs.Units.{turnAt, workOf, operationAt}
+use Rattle.channel.specs.Units.{turnAt, positionAt, workOf, operationAt}
 use Rattle.channel_outcomes.specs.declared.Ending.{Ending}
 use Rattle.channel_outcomes.specs.declared.Ending.the-variants.{Good, Opposite, MarkRead, MediumEnd, LostRedundancy, LostIncomplete}
 use Rattle.channel_outcomes.specs.declared.Verdict.{Verdict}
 use Rattle.channel_outcomes.specs.declared.Verdict.the-variants.{Refused, Repeats, Ends}
-use Rattle.channel_outcomes.specs.Rules.{good, redundancy, incompleteWord, fileMark, rowOf, isAllowed, isFailure, isPermanent, nextAttempt, goodEnding, endingOf, verdictOf, resultNumber}
+use Rattle.channel_outcomes.specs.Positions.{cleanerDue}
+use Rattle.channel_outcomes.specs.Rules.{good, redundancy, incompleteWord, fileMark, rowOf, isAllowed, isFailure, isPermanent, isNoise, pastNoise, nextAttempt, goodEnding, endingOf, tableVerdict, verdictOf, repeatedNumber, resultNumber}
 use Rattle.channel_turns.specs.Turns.{judgeTurn, judgeOf}
 use Rattle.word.specs.CheckWords.{extra, nextNumber}
 use Rattle.word.specs.declared.Checked.{Checked}
@@ -202,38 +204,46 @@ marks (Refused n) = false
 marks (Repeats q) = false
 marks (Ends e) = isMark e
 
-abbrev Meets : Op → Verdict → Type 0
-Meets op v = meetsMark (effectOf (At op) v) ≡ eqb (resultNumber v) 3
+abbrev Meets : Position → Op → Verdict → Type 0
+Meets p op v = meetsMark (effectOf (At op) v) ≡ eqb (resultNumber p v) 3
 
-meets-read : (v : Verdict) → Meets Read v
-meets-read (Refused n) = refl
-meets-read (Repeats q) = refl
-meets-read (Ends Good) = refl
-meets-read (Ends Opposite) = refl
-meets-read (Ends MarkRead) = refl
-meets-read (Ends MediumEnd) = refl
-meets-read (Ends LostRedundancy) = refl
-meets-read (Ends LostIncomplete) = refl
+repeats-no-mark : (p : Position) (q : Request) → false ≡ eqb (repeatedNumber p q) 3
+unfolding repeatedNumber
+repeats-no-mark p q = go (cleanerDue p q)
+  where
+    go : (b : Bool) → false ≡ eqb (cond b 7 0) 3
+    go true = refl
+    go false = refl
 
-meets-write : (v : Verdict) → marks v ≡ false → Meets Write v
-meets-write (Refused n) h = refl
-meets-write (Repeats q) h = refl
-meets-write (Ends Good) h = refl
-meets-write (Ends Opposite) h = refl
-meets-write (Ends MarkRead) h = true-not-false refl h
-meets-write (Ends MediumEnd) h = refl
-meets-write (Ends LostRedundancy) h = refl
-meets-write (Ends LostIncomplete) h = refl
+meets-read : (p : Position) (v : Verdict) → Meets p Read v
+meets-read p (Refused n) = refl
+meets-read p (Repeats q) = repeats-no-mark p q
+meets-read p (Ends Good) = refl
+meets-read p (Ends Opposite) = refl
+meets-read p (Ends MarkRead) = refl
+meets-read p (Ends MediumEnd) = refl
+meets-read p (Ends LostRedundancy) = refl
+meets-read p (Ends LostIncomplete) = refl
 
-meets-mark : (v : Verdict) → marks v ≡ false → Meets Mark v
-meets-mark (Refused n) h = refl
-meets-mark (Repeats q) h = refl
-meets-mark (Ends Good) h = refl
-meets-mark (Ends Opposite) h = refl
-meets-mark (Ends MarkRead) h = true-not-false refl h
-meets-mark (Ends MediumEnd) h = refl
-meets-mark (Ends LostRedundancy) h = refl
-meets-mark (Ends LostIncomplete) h = refl
+meets-write : (p : Position) (v : Verdict) → marks v ≡ false → Meets p Write v
+meets-write p (Refused n) h = refl
+meets-write p (Repeats q) h = repeats-no-mark p q
+meets-write p (Ends Good) h = refl
+meets-write p (Ends Opposite) h = refl
+meets-write p (Ends MarkRead) h = true-not-false refl h
+meets-write p (Ends MediumEnd) h = refl
+meets-write p (Ends LostRedundancy) h = refl
+meets-write p (Ends LostIncomplete) h = refl
+
+meets-mark : (p : Position) (v : Verdict) → marks v ≡ false → Meets p Mark v
+meets-mark p (Refused n) h = refl
+meets-mark p (Repeats q) h = repeats-no-mark p q
+meets-mark p (Ends Good) h = refl
+meets-mark p (Ends Opposite) h = refl
+meets-mark p (Ends MarkRead) h = true-not-false refl h
+meets-mark p (Ends MediumEnd) h = refl
+meets-mark p (Ends LostRedundancy) h = refl
+meets-mark p (Ends LostIncomplete) h = refl
 
 -- an outcome that is not a file mark ends with none
 ending-not : (op : Op) (a o : ℕ) → isMark (goodEnding op a) ≡ false → eqb o fileMark ≡ false → isMark (endingOf op a o) ≡ false
@@ -247,18 +257,20 @@ ending-not op a o g n = go (eqb o good) (eqb o redundancy) (eqb o incompleteWord
     go false false false true e = e
     go false false false false e = refl
 
-verdict-not : (q : Request) (o : ℕ) → isMark (endingOf (q .op) (q .attempts) o) ≡ false → marks (verdictOf q o) ≡ false
-unfolding verdictOf
-verdict-not q o h = go (isAllowed (q .op) o) (not (isFailure o) || isPermanent q o)
+verdict-not : (q : Request) (o l : ℕ) → isMark (endingOf (q .op) (q .attempts) o) ≡ false → marks (verdictOf q o l) ≡ false
+unfolding verdictOf tableVerdict
+verdict-not q o l h = go (isNoise q o l) (isAllowed (q .op) o) (not (isFailure o) || isPermanent q o)
   where
-    go : (a e : Bool) → marks (cond a (cond e (Ends (endingOf (q .op) (q .attempts) o)) (Repeats (nextAttempt q o))) (Refused 12)) ≡ false
-    go true true = h
-    go true false = refl
-    go false e = refl
+    go : (n a e : Bool)
+        → marks (cond n (Repeats (pastNoise q)) (cond a (cond e (Ends (endingOf (q .op) (q .attempts) o)) (Repeats (nextAttempt q o))) (Refused 12))) ≡ false
+    go true a e = refl
+    go false true true = h
+    go false true false = refl
+    go false false e = refl
 
-meets-three : (q : Request) (o : ℕ) → isAllowed (q .op) o ≡ true → Meets (q .op) (verdictOf q o)
+meets-three : (p : Position) (q : Request) (o l : ℕ) → isAllowed (q .op) o ≡ true → Meets p (q .op) (verdictOf q o l)
 unfolding isAllowed rowOf anyOf
-meets-three q o h = by (q .op) refl
+meets-three p q o l h = by (q .op) refl
   where
     never : (op : Op) → q .op ≡ op → isAllowed op fileMark ≡ false → eqb o fileMark ≡ false
     never op e n = go (ℕ-discrete o fileMark)
@@ -267,14 +279,14 @@ meets-three q o h = by (q .op) refl
         go (yes k) = true-not-false (sym (ap (λ (x : Op). isAllowed x o) e ∙ ap (isAllowed op) k) ∙ h) n
         go (no ne) = ne-eqb o fileMark ne
 
-    by : (op : Op) → q .op ≡ op → Meets op (verdictOf q o)
-    by Read e = meets-read (verdictOf q o)
+    by : (op : Op) → q .op ≡ op → Meets p op (verdictOf q o l)
+    by Read e = meets-read p (verdictOf q o l)
     by Write e =
-        meets-write (verdictOf q o)
-        (verdict-not q o (ending-not (q .op) (q .attempts) o (ap (λ (x : Op). isMark (goodEnding x (q .attempts))) e) (never Write e refl)))
+        meets-write p (verdictOf q o l)
+        (verdict-not q o l (ending-not (q .op) (q .attempts) o (ap (λ (x : Op). isMark (goodEnding x (q .attempts))) e) (never Write e refl)))
     by Mark e =
-        meets-mark (verdictOf q o)
-        (verdict-not q o (ending-not (q .op) (q .attempts) o (ap (λ (x : Op). isMark (goodEnding x (q .attempts))) e) (never Mark e refl)))
+        meets-mark p (verdictOf q o l)
+        (verdict-not q o l (ending-not (q .op) (q .attempts) o (ap (λ (x : Op). isMark (goodEnding x (q .attempts))) e) (never Mark e refl)))
 
 -- ---- one call
 
@@ -345,7 +357,7 @@ module _ (i : ℕ) (s : State) (area : List ℕ) (g : kept.Good s) (o : Option O
       go true e = event (answerOf s area (ask file op priority) .state) file read refl e (ask-frame s file op priority .files)
       go false e = happened (answerOf s area (ask file op priority) .state) file (fileAt s file) e (alike-self (fileAt s file)) refl (ask-frame s file op priority .files)
 
-  module _ (channel unit outcome : ℕ) (words : List ℕ) (z : answerOf s area (report channel unit outcome words) .refusal ≡ 0) where
+  module _ (channel unit outcome len : ℕ) (words : List ℕ) (z : answerOf s area (report channel unit outcome len words) .refusal ≡ 0) where
     abbrev c : Channel
     c = channelAt s channel
 
@@ -353,51 +365,51 @@ module _ (i : ℕ) (s : State) (area : List ℕ) (g : kept.Good s) (o : Option O
     j = fileOf s channel unit
 
     abbrev t : State
-    t = answerOf s area (report channel unit outcome words) .state
+    t = answerOf s area (report channel unit outcome len words) .state
 
     abbrev result : ℕ
-    result = toldResult (answerOf s area (report channel unit outcome words) .added)
+    result = toldResult (answerOf s area (report channel unit outcome len words) .added)
 
-    number : reportRefusal (reportWrong s (length area) channel) (fileAt s j) c unit outcome (s .w) area words ≡ 0
+    number : reportRefusal (reportWrong s (length area) channel) (fileAt s j) c unit outcome len (s .w) area words ≡ 0
     unfolding answerOf reportRefusal
-    number = sym (report-exactly s area channel unit outcome words .number) ∙ z
+    number = sym (report-exactly s area channel unit outcome len words .number) ∙ z
 
-    ready : ReportReady (reportWrong s (length area) channel) (fileAt s j) c unit outcome (s .w) area words
-    ready = report-ready (reportWrong s (length area) channel) (fileAt s j) c unit outcome (s .w) area words number
+    ready : ReportReady (reportWrong s (length area) channel) (fileAt s j) c unit outcome len (s .w) area words
+    ready = report-ready (reportWrong s (length area) channel) (fileAt s j) c unit outcome len (s .w) area words number
 
     allowed : (r : Request) → turnAt c unit ≡ Working r → isAllowed (r .op) outcome ≡ true
     unfolding operationAt
     allowed r w = not-false (isAllowed (r .op) outcome) (sym (ap (λ (x : Turn). isForbidden (workOf x) outcome) w) ∙ ready .allowed)
 
-    three : meetsMark (effectAt c unit outcome) ≡ eqb result 3
+    three : meetsMark (effectAt c unit outcome len) ≡ eqb result 3
     unfolding answerOf operationAt judgeOf
-    three = go (view s area channel unit outcome words (g .sixteen) number)
+    three = go (view s area channel unit outcome len words (g .sixteen) number)
       where
-        for : (r : Request) → turnAt c unit ≡ Working r → meetsMark (effectAt c unit outcome) ≡ eqb result 3
+        for : (r : Request) → turnAt c unit ≡ Working r → meetsMark (effectAt c unit outcome len) ≡ eqb result 3
         for r w =
-            ap (λ (x : Turn). meetsMark (effectOf (workOf x) (judgeTurn x outcome))) w
-            ∙ meets-three r outcome (allowed r w)
-            ∙ sym (ap (λ (n : ℕ). eqb n 3) (result-is channel s area channel unit outcome words z ∙ ap (λ (x : Turn). resultNumber (judgeTurn x outcome)) w))
+            ap (λ (x : Turn). meetsMark (effectOf (workOf x) (judgeTurn x outcome len))) w
+            ∙ meets-three (positionAt c unit) r outcome len (allowed r w)
+            ∙ sym (ap (λ (n : ℕ). eqb n 3) (result-is channel s area channel unit outcome len words z ∙ ap (λ (x : Turn). resultNumber (positionAt c unit) (judgeTurn x outcome len)) w))
 
-        go : Booked c unit outcome → meetsMark (effectAt c unit outcome) ≡ eqb result 3
+        go : Booked c unit outcome len → meetsMark (effectAt c unit outcome len) ≡ eqb result 3
         go (again r q w e) = for r w
         go (ended r x w e) = for r w
 
     bound : serves channel unit (fileAt s j) ≡ true
     unfolding answerOf
-    bound = report-books-own s area channel unit outcome words (g .sixteen) z .bound
+    bound = report-books-own s area channel unit outcome len words (g .sixteen) z .bound
 
     others : (k : ℕ) → k ≢ j → fileAt t k ≡ fileAt s k
     unfolding answerOf
-    others = report-books-own s area channel unit outcome words (g .sixteen) z .others .files
+    others = report-books-own s area channel unit outcome len words (g .sixteen) z .others .files
 
-    became : fileAt t j ≡ reportedFile (effectAt c unit outcome) (fileAt s j) (length words) (deliveryCheck (effectAt c unit outcome) (fileAt s j) words)
+    became : fileAt t j ≡ reportedFile (effectAt c unit outcome len) (fileAt s j) (length words) (deliveryCheck (effectAt c unit outcome len) (fileAt s j) words)
     unfolding answerOf
-    became = report-file s area channel unit outcome words (g .sixteen) z
+    became = report-file s area channel unit outcome len words (g .sixteen) z
 
     only : serves channel unit (fileAt s i) ≡ true → i ≡ j
     unfolding answerOf
-    only = report-books-own s area channel unit outcome words (g .sixteen) z .only i
+    only = report-books-own s area channel unit outcome len words (g .sixteen) z .only i
 
     report-known : Known (fileAt t i) (withResult channel unit result o)
     report-known = go o K (ℕ-discrete i j)
@@ -408,7 +420,7 @@ module _ (i : ℕ) (s : State) (area : List ℕ) (g : kept.Good s) (o : Option O
           marked = x .marked || (eqb (x .channel) channel && (eqb (x .unit) unit && eqb result 3));
         })
         mine x Kx =
-            let P = effect-file (effectAt c unit outcome) (fileAt s j) (length words) (deliveryCheck (effectAt c unit outcome) (fileAt s j) words) in
+            let P = effect-file (effectAt c unit outcome len) (fileAt s j) (length words) (deliveryCheck (effectAt c unit outcome len) (fileAt s j) words) in
             let rest = and-right (fileAt s j .opened) _ bound in
             let onChannel : x .channel ≡ channel = sym (Kx .channel) ∙ eqb-true (fileAt s j .channel) channel (and-left (eqb (fileAt s j .channel) channel) _ rest) in
             let onUnit : x .unit ≡ unit = sym (Kx .unit) ∙ eqb-true (fileAt s j .unit) unit (and-right (eqb (fileAt s j .channel) channel) _ rest) in
@@ -419,7 +431,7 @@ module _ (i : ℕ) (s : State) (area : List ℕ) (g : kept.Good s) (o : Option O
               channel = ap (λ (f : File). f .channel) became ∙ P .0 .channel ∙ Kx .channel;
               unit = ap (λ (f : File). f .unit) became ∙ P .0 .unit ∙ Kx .unit;
               marked =
-                  ap (λ (f : File). f .marked) became ∙ P .1 ∙ ap (λ (b : Bool). b || meetsMark (effectAt c unit outcome)) (Kx .marked)
+                  ap (λ (f : File). f .marked) became ∙ P .1 ∙ ap (λ (b : Bool). b || meetsMark (effectAt c unit outcome len)) (Kx .marked)
                   ∙ ap (λ (b : Bool). x .marked || b) (three ∙ sym flags);
             }
 
@@ -454,7 +466,7 @@ module _ (i : ℕ) (s : State) (area : List ℕ) (g : kept.Good s) (o : Option O
   accepted-known (opening file channel unit flags size rlen) z = open-known file channel unit flags size rlen z
   accepted-known (close file) z = close-known file z
   accepted-known (ask file op priority) z = ask-known file op priority z
-  accepted-known (report channel unit outcome words) z = report-known channel unit outcome words z
+  accepted-known (report channel unit outcome len words) z = report-known channel unit outcome len words z
   accepted-known (get file) z = event (answerOf s area (get file) .state) file files.get refl (get-file s area file z) (get-frame s area file .0)
   accepted-known (put file words) z = event (answerOf s area (put file words) .state) file files.put refl (put-file s area file words z) (put-frame s area file words .0)
   accepted-known (seal file) z = event (answerOf s area (seal file) .state) file files.seal refl (seal-file s area file z) (seal-frame s area file .0)

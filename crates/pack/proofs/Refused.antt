@@ -46,7 +46,7 @@ module _ (s : State) (area : List ℕ) where
   call-exactly (opening file channel unit flags size rlen) = open-exactly s file channel unit flags size rlen
   call-exactly (close file) = close-exactly s file
   call-exactly (ask file op priority) = let x = ask-exactly s file op priority in (x .number, x .table)
-  call-exactly (report channel unit outcome words) = let x = report-exactly s area channel unit outcome words in (x .number, x .table)
+  call-exactly (report channel unit outcome len words) = let x = report-exactly s area channel unit outcome len words in (x .number, x .table)
   call-exactly (get file) = get-exactly s area file
   call-exactly (put file words) = put-exactly s area file words
   call-exactly (seal file) = seal-exactly s area file
@@ -61,7 +61,7 @@ module _ (s : State) (area : List ℕ) where
   call-numbered (opening file channel unit flags size rlen) = refl
   call-numbered (close file) = refl
   call-numbered (ask file op priority) = refl
-  call-numbered (report channel unit outcome words) = refl
+  call-numbered (report channel unit outcome len words) = refl
   call-numbered (get file) = refl
   call-numbered (put file words) = refl
   call-numbered (seal file) = refl
@@ -89,8 +89,8 @@ module _ (s : State) (area : List ℕ) where
   call-alone (opening file channel unit flags size rlen) h = plain-alone _ (open-refused s file channel unit flags size rlen h)
   call-alone (close file) h = plain-alone _ (close-refused s file h)
   call-alone (ask file op priority) h = let x = ask-exactly s file op priority .alone h in rw (x .0, x .1)
-  call-alone (report channel unit outcome words) h =
-      let x = report-exactly s area channel unit outcome words .alone h in
+  call-alone (report channel unit outcome len words) h =
+      let x = report-exactly s area channel unit outcome len words .alone h in
       rw (x .untouched, x .answer)
   call-alone (get file) h = let x = get-refused s area file h in rw (x .0, x .1, x .2)
   call-alone (put file words) h = let x = put-refused s area file words h in rw (x .0, x .1)

@@ -52,9 +52,9 @@ seen c s area (close file) = none
 seen c s area (ask file op priority) =
     eventIf (isAccepted (answerOf s area (ask file op priority)) && eqb (fileAt s file .channel) c)
     (history.ask (fileAt s file .unit) (opOf op) (isPriority priority)) accepted
-seen c s area (report channel unit outcome words) =
-    eventIf (isAccepted (answerOf s area (report channel unit outcome words)) && eqb channel c)
-    (history.report unit outcome) (reportAnswer (judgeOf (channelAt s channel) unit outcome))
+seen c s area (report channel unit outcome len words) =
+    eventIf (isAccepted (answerOf s area (report channel unit outcome len words)) && eqb channel c)
+    (history.report unit outcome len) (reportAnswer (judgeOf (channelAt s channel) unit outcome len))
 seen c s area (get file) = none
 seen c s area (put file words) = none
 seen c s area (seal file) = none
@@ -68,7 +68,7 @@ nextOf s area (fresh m w masks) = s
 nextOf s area (opening file channel unit flags size rlen) = answerOf s area (opening file channel unit flags size rlen) .state
 nextOf s area (close file) = answerOf s area (close file) .state
 nextOf s area (ask file op priority) = answerOf s area (ask file op priority) .state
-nextOf s area (report channel unit outcome words) = answerOf s area (report channel unit outcome words) .state
+nextOf s area (report channel unit outcome len words) = answerOf s area (report channel unit outcome len words) .state
 nextOf s area (get file) = answerOf s area (get file) .state
 nextOf s area (put file words) = answerOf s area (put file words) .state
 nextOf s area (seal file) = answerOf s area (seal file) .state
@@ -129,30 +129,30 @@ module _ (c : ℕ) (s : State) (area : List ℕ) where
       go (no h) k = rw (ne-eqb (askBy s file op priority .refusal) 0 h, ask-exactly s file op priority .alone h .0)
 
   module _ (g : Good s) where
-    report-agrees : (channel unit outcome : ℕ) (words : List ℕ)
-        → Agrees (stationAt c s) (seen c s area (report channel unit outcome words))
-        (stationAt c (answerOf s area (report channel unit outcome words) .state))
+    report-agrees : (channel unit outcome len : ℕ) (words : List ℕ)
+        → Agrees (stationAt c s) (seen c s area (report channel unit outcome len words))
+        (stationAt c (answerOf s area (report channel unit outcome len words) .state))
     unfolding answerOf
-    report-agrees channel unit outcome words = go (ℕ-discrete (reportBy s area channel unit outcome words .refusal) 0) (ℕ-discrete channel c)
+    report-agrees channel unit outcome len words = go (ℕ-discrete (reportBy s area channel unit outcome len words .refusal) 0) (ℕ-discrete channel c)
       where
         To : Type 0
         To =
-            Agrees (stationAt c s) (seen c s area (report channel unit outcome words))
-            (stationAt c (answerOf s area (report channel unit outcome words) .state))
+            Agrees (stationAt c s) (seen c s area (report channel unit outcome len words))
+            (stationAt c (answerOf s area (report channel unit outcome len words) .state))
 
-        go : Dec (reportBy s area channel unit outcome words .refusal ≡ 0) → Dec (channel ≡ c) → To
+        go : Dec (reportBy s area channel unit outcome len words .refusal ≡ 0) → Dec (channel ≡ c) → To
         go (yes e) (yes k) =
-            rw (eq-eqb (reportBy s area channel unit outcome words .refusal) 0 e, eq-eqb channel c k)
+            rw (eq-eqb (reportBy s area channel unit outcome len words .refusal) 0 e, eq-eqb channel c k)
             (subst (λ (d : ℕ). Agrees (stationAt d s)
-            (some (record { event = history.report unit outcome; answer = reportAnswer (judgeOf (channelAt s channel) unit outcome) }))
-            (stationAt d (reportBy s area channel unit outcome words .state))) k
-            (report-event s area channel unit outcome words (g .sixteen) e .event))
+            (some (record { event = history.report unit outcome len; answer = reportAnswer (judgeOf (channelAt s channel) unit outcome len) }))
+            (stationAt d (reportBy s area channel unit outcome len words .state))) k
+            (report-event s area channel unit outcome len words (g .sixteen) e .event))
         go (yes e) (no k) =
-            let F = report-frame s area channel unit outcome words in
-            rw (eq-eqb (reportBy s area channel unit outcome words .refusal) 0 e, ne-eqb channel c k) (rw (F .frozen, F .channels c (λ q. k (sym q))))
+            let F = report-frame s area channel unit outcome len words in
+            rw (eq-eqb (reportBy s area channel unit outcome len words .refusal) 0 e, ne-eqb channel c k) (rw (F .frozen, F .channels c (λ q. k (sym q))))
         go (no h) k =
-            rw (ne-eqb (reportBy s area channel unit outcome words .refusal) 0 h)
-            (ap (λ (r : Reporting). stationAt c (r .state)) (report-exactly s area channel unit outcome words .alone h .answer))
+            rw (ne-eqb (reportBy s area channel unit outcome len words .refusal) 0 h)
+            (ap (λ (r : Reporting). stationAt c (r .state)) (report-exactly s area channel unit outcome len words .alone h .answer))
 
     -- each call does to channel c nothing, or one event of it
     pub call-agrees : (call : Call) → Agrees (stationAt c s) (seen c s area call) (stationAt c (nextOf s area call))
@@ -163,7 +163,7 @@ module _ (c : ℕ) (s : State) (area : List ℕ) where
         same-station c s (F .channels) (F .frozen)
     call-agrees (close file) = let F = close-frame s file in same-station c s (F .channels) (F .frozen)
     call-agrees (ask file op priority) = ask-agrees file op priority
-    call-agrees (report channel unit outcome words) = report-agrees channel unit outcome words
+    call-agrees (report channel unit outcome len words) = report-agrees channel unit outcome len words
     call-agrees (get file) = let F = get-frame s area file in same-station c s (F .1) (F .4)
     call-agrees (put file words) = let F = put-frame s area file words in same-station c s (F .1) (F .4)
     call-agrees (seal file) = let F = seal-frame s area file in same-station c s (F .1) (F .4)

@@ -3,13 +3,13 @@ use Prim.Native.Nat.{ℕ, _+_}
 use mathlib.Core.Bool.{Bool, true, false, not, cond, _&&_, _||_}
 use mathlib.Core.Option.{Option, none, some}
 use mathlib.Core.List.{List, [], _∷_}
-use lib.Dec.{eqb}
+use lib.Dec.{ltb, eqb}
 use Rattle.channel.specs.declared.Op.{Op}
 use Rattle.channel.specs.declared.Op.the-variants.{Read, Write, Mark}
 use Rattle.state.specs.declared.State.{State}
 use Rattle.state.specs.Places.{fileAt}
 use Rattle.pack.specs.Calls.{Call, fresh, opening, close, ask, report, get, put, seal, skip, freeze, thaw, Added, nothing, working, reported, got, Answer}
-use Rattle.pack.specs.Histories.{Lent, answerTo, isAccepted}
+use Rattle.pack.specs.Histories.{Lent, answerTo, isAccepted, isRepeat}
 
 -- "Report adds result, ..": the result that an answer gives
 abbrev pub toldResult : Added → ℕ
@@ -24,25 +24,37 @@ toldResult (got g) = 0
 abbrev pub operation : ℕ → Op
 operation op = cond (eqb op 0) Read (cond (eqb op 1) Write Mark)
 
--- a request that has no answer yet; how many of its attempts have failed since it was accepted, and how many of these failures were an
--- incomplete word
+-- a request that has no answer yet; how many of its attempts have failed since it was accepted, how many of these failures were an
+-- incomplete word, and how many noise records it passed over
 pub record Pending : Type 0 where
   pub op : Op
   pub priority : Bool
   pub failures : ℕ
   pub incomplete : ℕ
+  pub noise : ℕ
+
+-- where a unit's reel stands (document 02, M-106): "file marks passed, and records since the last mark", and whether a noise record was met
+pub record Reel : Type 0 where
+  pub marks : ℕ
+  pub records : ℕ
+  pub noise : Bool
+
+-- "zero at the fresh start"
+abbrev pub newReel : Reel
+newReel = record { marks = 0; records = 0; noise = false }
 
 -- of a channel: the request of each unit that has no answer yet; the unit of the last ordinary request that was answered, if any was since the
--- fresh start; that of the last priority request that was; and whether the pack is frozen
+-- fresh start; that of the last priority request that was; where the reel of each unit stands; and whether the pack is frozen
 pub record Book : Type 0 where
   pub requests : ℕ → Option Pending
   pub last : Option ℕ
   pub lastUrgent : Option ℕ
+  pub reels : ℕ → Reel
   pub frozen : Bool
 
 -- as a fresh start leaves it
 abbrev pub blankBook : Book
-blankBook = record { requests = λ u. none; last = none; lastUrgent = none; frozen = false }
+blankBook = record { requests = λ u. none; last = none; lastUrgent = none; reels = λ u. newReel; frozen = false }
 
 abbrev pub isUrgent : Option Pending → Bool
 isUrgent none = false
@@ -54,45 +66,104 @@ isOrdinary (some p) = not (p .priority)
 
 -- as it is accepted; "priority(0/1)"
 abbrev pub newPending : ℕ → ℕ → Pending
-newPending op priority = record { op = operation op; priority = eqb priority 1; failures = 0; incomplete = 0 }
+newPending op priority = record { op = operation op; priority = eqb priority 1; failures = 0; incomplete = 0; noise = 0 }
 
--- after one failure more; "2 incomplete word"
-abbrev pub failedOnce : ℕ → Pending → Pending
-failedOnce outcome p = record {
-  op = p .op;
-  priority = p .priority;
-  failures = p .failures + 1;
-  incomplete = cond (eqb outcome 2) (p .incomplete + 1) (p .incomplete);
+-- "A read's redundancy report may carry a length ..; A length under three is a noise record ..; without a length there is none. At most 100 are
+-- passed in one operation"; 1 is redundancy
+abbrev pub isRead : Op → Bool
+isRead Read = true
+isRead Write = false
+isRead Mark = false
+
+abbrev pub passesOver : ℕ → ℕ → Pending → Bool
+passesOver outcome len p = isRead (p .op) && (eqb outcome 1 && (ltb len 3 && ltb (p .noise) 100))
+
+-- after one failure more; "2 incomplete word"; or after a noise record, "passed over with no attempt used"
+abbrev pub failedOnce : ℕ → ℕ → Pending → Pending
+failedOnce outcome len p =
+    cond (passesOver outcome len p)
+    (record { op = p .op; priority = p .priority; failures = p .failures; incomplete = p .incomplete; noise = p .noise + 1 })
+    (record {
+      op = p .op;
+      priority = p .priority;
+      failures = p .failures + 1;
+      incomplete = cond (eqb outcome 2) (p .incomplete + 1) (p .incomplete);
+      noise = p .noise;
+    })
+
+abbrev pub failed : ℕ → ℕ → Option Pending → Option Pending
+failed outcome len none = none
+failed outcome len (some p) = some (failedOnce outcome len p)
+
+-- ---- where a reel stands after a report
+
+-- "each held at 32,767"
+abbrev pub onePast : ℕ → ℕ
+onePast n = cond (ltb n 32767) (n + 1) 32767
+
+abbrev pub recordPast : Reel → Reel
+recordPast x = record { marks = x .marks; records = onePast (x .records); noise = x .noise }
+
+abbrev pub markPast : Reel → Reel
+markPast x = record { marks = onePast (x .marks); records = 0; noise = x .noise }
+
+-- "Good reads, marks read, and writes and marks ended 01 or 04 move it.": by the operation and the result, "01 good, 02 good in opposite mode,
+-- 03 mark, 04 end of medium"
+abbrev pub reelMoved : Op → ℕ → Reel → Reel
+reelMoved Read result x = cond (eqb result 1 || eqb result 2) (recordPast x) (cond (eqb result 3) (markPast x) x)
+reelMoved Write result x = cond (eqb result 1 || eqb result 4) (recordPast x) x
+reelMoved Mark result x = cond (eqb result 1 || eqb result 4) (markPast x) x
+
+abbrev pub reelAnswered : Option Pending → ℕ → Reel → Reel
+reelAnswered none result x = x
+reelAnswered (some p) result x = reelMoved (p .op) result x
+
+-- a noise record was met
+abbrev pub reelNoted : ℕ → ℕ → Option Pending → Reel → Reel
+reelNoted outcome len none x = x
+reelNoted outcome len (some p) x = record { marks = x .marks; records = x .records; noise = x .noise || passesOver outcome len p }
+
+-- ---- the book with a new request of unit u, with a report of it that repeats the operation, and with one that answers it
+
+abbrev pub withRequest : ℕ → Option Pending → Book → Book
+withRequest u r b = record {
+  requests = λ y. cond (eqb y u) r (b .requests y);
+  last = b .last;
+  lastUrgent = b .lastUrgent;
+  reels = b .reels;
+  frozen = b .frozen;
 }
 
-abbrev pub failed : ℕ → Option Pending → Option Pending
-failed outcome none = none
-failed outcome (some p) = some (failedOnce outcome p)
+abbrev pub withFailure : ℕ → ℕ → ℕ → Book → Book
+withFailure u outcome len b = record {
+  requests = λ y. cond (eqb y u) (failed outcome len (b .requests u)) (b .requests y);
+  last = b .last;
+  lastUrgent = b .lastUrgent;
+  reels = λ y. cond (eqb y u) (reelNoted outcome len (b .requests u) (b .reels u)) (b .reels y);
+  frozen = b .frozen;
+}
 
--- the book with r for unit u, and the book with an answer to unit u
-abbrev pub withRequest : ℕ → Option Pending → Book → Book
-withRequest u r b = record { requests = λ y. cond (eqb y u) r (b .requests y); last = b .last; lastUrgent = b .lastUrgent; frozen = b .frozen }
-
-abbrev pub withAnswer : ℕ → Book → Book
-withAnswer u b = record {
+abbrev pub withAnswer : ℕ → ℕ → Book → Book
+withAnswer u result b = record {
   requests = λ y. cond (eqb y u) none (b .requests y);
   last = cond (isOrdinary (b .requests u)) (some u) (b .last);
   lastUrgent = cond (isUrgent (b .requests u)) (some u) (b .lastUrgent);
+  reels = λ y. cond (eqb y u) (reelAnswered (b .requests u) result (b .reels u)) (b .reels y);
   frozen = b .frozen;
 }
 
 abbrev pub withFreeze : Bool → Book → Book
-withFreeze frozen b = record { requests = b .requests; last = b .last; lastUrgent = b .lastUrgent; frozen = frozen }
+withFreeze frozen b = record { requests = b .requests; last = b .last; lastUrgent = b .lastUrgent; reels = b .reels; frozen = frozen }
 
--- the book of channel c after an accepted call in the state s; "results are 00 repeated, ..": every other result answers the request
+-- the book of channel c after an accepted call in the state s
 abbrev pub booked : ℕ → State → Call → Answer → Book → Book
 booked c s (fresh m w masks) a b = blankBook
 booked c s (opening file channel unit flags size rlen) a b = b
 booked c s (close file) a b = b
 booked c s (ask file op priority) a b =
     cond (eqb (fileAt s file .channel) c) (withRequest (fileAt s file .unit) (some (newPending op priority)) b) b
-booked c s (report channel unit outcome words) a b =
-    cond (eqb channel c) (cond (eqb (toldResult (a .added)) 0) (withRequest unit (failed outcome (b .requests unit)) b) (withAnswer unit b)) b
+booked c s (report channel unit outcome len words) a b =
+    cond (eqb channel c) (cond (isRepeat (toldResult (a .added))) (withFailure unit outcome len b) (withAnswer unit (toldResult (a .added)) b)) b
 booked c s (get file) a b = b
 booked c s (put file words) a b = b
 booked c s (seal file) a b = b
@@ -134,7 +205,7 @@ openedBy i (opening file channel unit flags size rlen) a o =
     cond (eqb file i) (some (record { channel = channel; unit = unit; marked = false })) o
 openedBy i (close file) a o = cond (eqb file i) none o
 openedBy i (ask file op priority) a o = o
-openedBy i (report channel unit outcome words) a o = withResult channel unit (toldResult (a .added)) o
+openedBy i (report channel unit outcome len words) a o = withResult channel unit (toldResult (a .added)) o
 openedBy i (get file) a o = o
 openedBy i (put file words) a o = o
 openedBy i (seal file) a o = o

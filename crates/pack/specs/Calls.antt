@@ -34,8 +34,8 @@ pub data Call : Type 0 where
   close : ℕ → Call
   -- file, operation, priority
   ask : ℕ → ℕ → ℕ → Call
-  -- channel, unit, outcome, words
-  report : ℕ → ℕ → ℕ → List ℕ → Call
+  -- channel, unit, outcome, length (65,536 for none), words
+  report : ℕ → ℕ → ℕ → ℕ → List ℕ → Call
   -- file
   get : ℕ → Call
   -- file, words
@@ -90,8 +90,8 @@ answerOf s area (fresh m w masks) = plainly (freshBy s (length area) m w masks) 
 answerOf s area (opening file channel unit flags size rlen) = plainly (openBy s file channel unit flags size rlen) area
 answerOf s area (close file) = plainly (closeBy s file) area
 answerOf s area (ask file op priority) = asked (askBy s file op priority) area
-answerOf s area (report channel unit outcome words) =
-    told (reportBy s area channel unit outcome words) (reportByArea s area channel unit outcome words)
+answerOf s area (report channel unit outcome len words) =
+    told (reportBy s area channel unit outcome len words) (reportByArea s area channel unit outcome len words)
 answerOf s area (get file) = given (getBy s area file) (getWords s area file) area
 answerOf s area (put file words) = plainly (putBy s area file words) (putByArea s area file words)
 answerOf s area (seal file) = plainly (sealBy s area file) (sealByArea s area file)
@@ -107,7 +107,7 @@ addsNothing (fresh m w masks) = nothing
 addsNothing (opening file channel unit flags size rlen) = nothing
 addsNothing (close file) = nothing
 addsNothing (ask file op priority) = working 0
-addsNothing (report channel unit outcome words) = reported 0 Without 0
+addsNothing (report channel unit outcome len words) = reported 0 Without 0
 addsNothing (get file) = got noAnswer
 addsNothing (put file words) = nothing
 addsNothing (seal file) = nothing

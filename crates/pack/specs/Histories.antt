@@ -1,6 +1,6 @@
 -- Histories: one call after the other, each given the state that the call before it left, and what is counted in them. Assumes nothing.
 use Prim.Native.Nat.{ℕ, _+_}
-use mathlib.Core.Bool.{Bool, true, false, not, cond, _&&_}
+use mathlib.Core.Bool.{Bool, true, false, not, cond, _&&_, _||_}
 use mathlib.Core.List.{List, [], _∷_}
 use lib.Dec.{eqb}
 use Rattle.area.specs.Lists.{oneIf, countOf}
@@ -39,7 +39,7 @@ ofFresh (fresh m w masks) = true
 ofFresh (opening file channel unit flags size rlen) = false
 ofFresh (close file) = false
 ofFresh (ask file op priority) = false
-ofFresh (report channel unit outcome words) = false
+ofFresh (report channel unit outcome len words) = false
 ofFresh (get file) = false
 ofFresh (put file words) = false
 ofFresh (seal file) = false
@@ -52,7 +52,7 @@ ofReport test (fresh m w masks) = false
 ofReport test (opening file channel unit flags size rlen) = false
 ofReport test (close file) = false
 ofReport test (ask file op priority) = false
-ofReport test (report channel unit outcome words) = test channel unit
+ofReport test (report channel unit outcome len words) = test channel unit
 ofReport test (get file) = false
 ofReport test (put file words) = false
 ofReport test (seal file) = false
@@ -65,7 +65,7 @@ ofAsk test (fresh m w masks) = false
 ofAsk test (opening file channel unit flags size rlen) = false
 ofAsk test (close file) = false
 ofAsk test (ask file op priority) = test file priority
-ofAsk test (report channel unit outcome words) = false
+ofAsk test (report channel unit outcome len words) = false
 ofAsk test (get file) = false
 ofAsk test (put file words) = false
 ofAsk test (seal file) = false
@@ -81,11 +81,14 @@ freshStart s call a = ofFresh call
 abbrev pub isReportOn : ℕ → State → Call → Answer → Bool
 isReportOn c s call a = ofReport (λ channel unit. eqb channel c) call
 
--- "results are 00 repeated, ..": every other result answers the request
+-- "results are 00 repeated, .."; "the report's result is 07 in place of 00": every other result answers the request
+abbrev pub isRepeat : ℕ → Bool
+isRepeat result = eqb result 0 || eqb result 7
+
 abbrev pub isAnswer : Added → Bool
 isAnswer nothing = false
 isAnswer (working u) = false
-isAnswer (reported result error u) = not (eqb result 0)
+isAnswer (reported result error u) = not (isRepeat result)
 isAnswer (got g) = false
 
 -- answers to the request of unit u on channel c

@@ -44,8 +44,8 @@ rowsOf s area (opening file channel unit flags size rlen) =
     (freeOf (s .m) (s .files)) (s .w) (wishOf channel unit flags size rlen)
 rowsOf s area (close file) = closeRows (closeOff s file) (fileAt s file) (channelAt s (fileAt s file .channel))
 rowsOf s area (ask file op priority) = askRows (askWrong s file) (fileAt s file) (channelAt s (fileAt s file .channel)) op priority
-rowsOf s area (report channel unit outcome words) =
-    reportRows (reportWrong s (length area) channel) (fileAt s (fileOf s channel unit)) (channelAt s channel) unit outcome (s .w) area words
+rowsOf s area (report channel unit outcome len words) =
+    reportRows (reportWrong s (length area) channel) (fileAt s (fileOf s channel unit)) (channelAt s channel) unit outcome len (s .w) area words
 rowsOf s area (get file) = gets.getRows (misused s (length area) file) (fileAt s file) (getFrom (s .w) (fileAt s file) .got) area
 rowsOf s area (put file words) = putRows (misused s (length area) file) (fileAt s file) (s .w) area words
 rowsOf s area (seal file) = sealRows (misused s (length area) file) (fileAt s file) (s .w) area

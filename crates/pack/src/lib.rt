@@ -63,6 +63,7 @@ pub enum AnyCall {
         channel: u8,
         unit: u8,
         outcome: u8,
+        length: u32,
     },
     Get(u8),
     Put(u8),

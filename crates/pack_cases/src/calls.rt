@@ -14,7 +14,7 @@ use pack::State;
 use word::Checked;
 use word::not_checked;
 
-// The i-th number of a command as a byte, and as a number of two bytes.
+// The i-th number of a command as a byte, as a number of two bytes, and of four.
 fn byte(head: &[u64], i: usize) -> u8 {
     if i < head.len() {
         (head[i] % 256) as u8
@@ -26,6 +26,14 @@ fn byte(head: &[u64], i: usize) -> u8 {
 fn size(head: &[u64], i: usize) -> u16 {
     if i < head.len() {
         (head[i] % 65536) as u16
+    } else {
+        0
+    }
+}
+
+fn long(head: &[u64], i: usize) -> u32 {
+    if i < head.len() {
+        (head[i] % 4294967296) as u32
     } else {
         0
     }
@@ -74,10 +82,12 @@ fn report(head: &[u64]) -> AnyCall {
     let channel = byte(head, 0);
     let unit = byte(head, 1);
     let outcome = byte(head, 2);
+    let length = long(head, 3);
     AnyCall::Report {
         channel,
         unit,
         outcome,
+        length,
     }
 }
 

@@ -53,7 +53,7 @@ fn head_count(kind: u64) -> usize {
         1 => 6,
         2 => 1,
         3 => 3,
-        4 => 4,
+        4 => 5,
         5 => 1,
         6 => 2,
         7 => 1,
@@ -91,7 +91,7 @@ fn within(n: usize, most: usize) -> usize
 // How many words come with a report or a put.
 fn word_count(kind: u64, head: &[u64]) -> usize {
     match kind {
-        4 => count(number(head, 3)),
+        4 => count(number(head, 4)),
         6 => count(number(head, 1)),
         _ => 0,
     }

@@ -1,6 +1,7 @@
 // A state that its caller has changed: one number of it is another.
 use channel::Channel;
 use channel::Op;
+use channel::Position;
 use channel::Request;
 use channel::Turn;
 use channel::UNITS;
@@ -191,6 +192,7 @@ fn request_with(q: Request, field: u64, v: u64) -> Request {
         priority: if field == 3 { v != 0 } else { q.priority },
         attempts: if field == 4 { byte(v) } else { q.attempts },
         incomplete: if field == 5 { byte(v) } else { q.incomplete },
+        noise: if field == 6 { byte(v) } else { q.noise },
     }
 }
 
@@ -209,6 +211,7 @@ fn no_request() -> Request {
         priority: false,
         attempts: 0,
         incomplete: 0,
+        noise: 0,
     }
 }
 
@@ -233,17 +236,29 @@ fn held_with(kind: u64, q: Request, field: u64, v: u64) -> Turn {
     turn_of_kind(kind, request_with(q, field, v))
 }
 
+fn position_with(p: Position, field: u64, v: u64) -> Position {
+    Position {
+        marks: if field == 7 { size(v) } else { p.marks },
+        records: if field == 8 { size(v) } else { p.records },
+        noisy: if field == 9 { v != 0 } else { p.noisy },
+    }
+}
+
 fn unit_with(x: Unit, field: u64, v: u64) -> Unit {
     let t = x.turn;
+    let p = x.position;
+    let position = position_with(p, field, v);
     if field == 0 {
         return Unit {
             declared: v != 0,
             turn: t,
+            position,
         };
     }
     Unit {
         declared: x.declared,
         turn: turn_with(t, field, v),
+        position,
     }
 }
 

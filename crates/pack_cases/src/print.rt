@@ -1,6 +1,7 @@
 // Answers: numbers with one blank between them, a line feed after the last; the words, and the whole state.
 use channel::Channel;
 use channel::Op;
+use channel::Position;
 use channel::Request;
 use channel::Turn;
 use channel::UNITS;
@@ -72,9 +73,11 @@ fn request(kind: u64, q: Request) {
     number(flag(q.priority));
     number(q.attempts as u64);
     number(q.incomplete as u64);
+    number(q.noise as u64);
 }
 
 fn idle() {
+    number(0);
     number(0);
     number(0);
     number(0);
@@ -91,14 +94,23 @@ fn turn(t: Turn) {
     }
 }
 
-// A unit that is declared or has a request.
+fn position(p: Position) {
+    number(p.marks as u64);
+    number(p.records as u64);
+    number(flag(p.noisy));
+}
+
+// A unit that is declared or has a request, or whose position is not zero.
 fn unit(c: Channel, u: usize) {
     let known = channel::is_declared(c, u);
     let t = channel::turn_of(c, u);
-    if known | channel::has_request(c, u) {
+    let p = channel::position_of(c, u);
+    let moved = (0 < p.marks) | ((0 < p.records) | p.noisy);
+    if known | (channel::has_request(c, u) | moved) {
         number(u as u64);
         number(flag(known));
         turn(t);
+        position(p);
     }
 }
 

@@ -23,6 +23,12 @@ turn-of-requires c κs = search needs
 turn-requires : tie.Need-turn-requires Inv-loop μ-loop
 turn-requires c κs = search needs
 
+position-of-requires : tie.Need-position-of-requires Inv-loop μ-loop
+position-of-requires c κs = search needs
+
+position-requires : tie.Need-position-requires Inv-loop μ-loop
+position-requires c κs = search needs
+
 add-u : tie.Need-add-u Inv-loop μ-loop
 add-u c = search needs
 
@@ -66,6 +72,8 @@ whole-spec =
     declared-requires
     turn-of-requires
     turn-requires
+    position-of-requires
+    position-requires
     add-u
     loop-less
     loop-again
