@@ -111,15 +111,15 @@ get-shows s area file =
     refl
 
 -- and so has an accepted report
-module _ (s : State) (area : List ℕ) (channel unit outcome : ℕ) (words : List ℕ) (counts : Counts s) where
+module _ (s : State) (area : List ℕ) (channel unit outcome len : ℕ) (words : List ℕ) (counts : Counts s) where
   abbrev refusal : ℕ
-  refusal = reportRefusal (reportWrong s (length area) channel) (fileAt s (fileOf s channel unit)) (channelAt s channel) unit outcome (s .w) area words
+  refusal = reportRefusal (reportWrong s (length area) channel) (fileAt s (fileOf s channel unit)) (channelAt s channel) unit outcome len (s .w) area words
 
-  booked-count : refusal ≡ 0 → reportBy s area channel unit outcome words .count ≡ shownCount (effectAt (channelAt s channel) unit outcome (length words)) (fileAt s (fileOf s channel unit))
+  booked-count : refusal ≡ 0 → reportBy s area channel unit outcome len words .count ≡ shownCount (effectAt (channelAt s channel) unit outcome len (length words)) (fileAt s (fileOf s channel unit))
   unfolding reportBy reportOn
   booked-count z = rw (eq-eqb refusal 0 z)
 
-  refused-count : (refusal ≡ 0 → ⊥) → reportBy s area channel unit outcome words .count ≡ 0
+  refused-count : (refusal ≡ 0 → ⊥) → reportBy s area channel unit outcome len words .count ≡ 0
   unfolding reportBy reportOn
   refused-count h = rw (ne-eqb refusal 0 h)
 
@@ -130,15 +130,15 @@ module _ (s : State) (area : List ℕ) (channel unit outcome : ℕ) (words : Lis
   count-fits Sends f h = h
   count-fits Keeps f h = omega arith
 
-  report-shows : reportBy s area channel unit outcome words .count ≤ 1024
+  report-shows : reportBy s area channel unit outcome len words .count ≤ 1024
   report-shows =
-      by-test (λ t. eqb refusal 0 ≡ t → reportBy s area channel unit outcome words .count ≤ 1024) (eqb refusal 0)
+      by-test (λ t. eqb refusal 0 ≡ t → reportBy s area channel unit outcome len words .count ≤ 1024) (eqb refusal 0)
       (λ q e.
       let z = eqb-true refusal 0 e in
-      let good = report-was-sound s area channel unit outcome words (counts .files) z in
+      let good = report-was-sound s area channel unit outcome len words (counts .files) z in
       let f = fileAt s (fileOf s channel unit) in
-      let S = sound-facts s good .files (fileOf s channel unit) (isOpen s area channel unit outcome words (counts .files) z) in
-      omega (arith, booked-count z, count-fits (effectAt (channelAt s channel) unit outcome (length words)) f (send-fits (s .m) (s .w) f S), small s good))
+      let S = sound-facts s good .files (fileOf s channel unit) (isOpen s area channel unit outcome len words (counts .files) z) in
+      omega (arith, booked-count z, count-fits (effectAt (channelAt s channel) unit outcome len (length words)) f (send-fits (s .m) (s .w) f S), small s good))
       (λ q e. omega (arith, refused-count (eqb-false refusal 0 e)))
       refl
 
@@ -150,8 +150,8 @@ reply-words s area words (Open q) k = omega arith
 reply-words s area words (Close file) k = omega arith
 reply-words s area words (Ask q) k = omega arith
 reply-words s area words (Report q) k =
-    let x = reportBy s area (q .channel) (q .unit) (q .outcome) words in
-    omega (arith, part-most (x .start) (x .count) (reportByArea s area (q .channel) (q .unit) (q .outcome) words), report-shows s area (q .channel) (q .unit) (q .outcome) words k)
+    let x = reportBy s area (q .channel) (q .unit) (q .outcome) (q .length) words in
+    omega (arith, part-most (x .start) (x .count) (reportByArea s area (q .channel) (q .unit) (q .outcome) (q .length) words), report-shows s area (q .channel) (q .unit) (q .outcome) (q .length) words k)
 reply-words s area words (Get file) k = get-shows s area file
 reply-words s area words (Put q) k = omega arith
 reply-words s area words (Seal file) k = omega arith

@@ -5,10 +5,11 @@ use mathlib.Core.List.{List}
 use Prim.Native.Nat.{ℕ, _+_, _*_, _≤_}
 use lib.ListN.{length}
 use Rattle.area.specs.Lists.{allOf}
+use Rattle.channel_outcomes.specs.Rules.{redundancy}
 use Rattle.session_frame.specs.Digits.{isDigit, bytesOf}
 use Rattle.session_frame.specs.Fields.{byteAt}
 use Rattle.session_frame.specs.declared.Frame.the-variants.{Malformed}
-use Rattle.session_frame.specs.Frames.{longest, reportHead, lengthHead, redundancy, frameOf}
+use Rattle.session_frame.specs.Frames.{longest, reportHead, lengthHead, frameOf}
 
 -- the kind that a line's first byte names, and how many bytes a line of that kind has; a report's outcome is its fourth byte
 pub data Kind (outcome : ℕ) : ℕ → ℕ → Type 0 where

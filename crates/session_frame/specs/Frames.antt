@@ -5,6 +5,7 @@ use Prim.Native.Nat.{ℕ, _-_, _/_, _%_}
 use lib.Dec.{ltb, leb, eqb}
 use lib.ListN.{length, take, drop}
 use Rattle.area.specs.Lists.{allOf}
+use Rattle.channel_outcomes.specs.Rules.{redundancy, noLength}
 use Rattle.session_frame.specs.Digits.{isDigit, bytesOf}
 use Rattle.session_frame.specs.Fields.{byteAt, sizeAt, wordsOf}
 use Rattle.session_frame.specs.declared.ReportFrame.{ReportFrame}
@@ -58,14 +59,6 @@ reportHead = 4
 
 abbrev pub lengthHead : ℕ
 lengthHead = 6
-
--- a length is one of two bytes: this stands for none
-abbrev pub noLength : ℕ
-noLength = 65536
-
--- the outcome whose report may carry a length
-abbrev pub redundancy : ℕ
-redundancy = 1
 
 -- "shown by the bytes left over from fives"
 unfoldable pub showsLength : ℕ → Bool

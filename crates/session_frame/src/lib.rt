@@ -13,9 +13,6 @@ use word::Checked;
 // The most characters that a line has: a report with a length and 1,024 words.
 pub const LONGEST: usize = 10252;
 
-// The length of a report that carries none: past every number of two bytes.
-pub const NO_LENGTH: u32 = 65536;
-
 // The unit masks of the five channels: bit u for unit u.
 pub struct Masks {
     pub a: u16,
@@ -49,7 +46,7 @@ pub struct AskFrame {
     pub priority: u8,
 }
 
-// A report; `length` is the length in words that it carries, NO_LENGTH for none, and `words` is how many words come with it.
+// A report; `length` is the length in words that it carries, `channel_outcomes::NO_LENGTH` for none, and `words` is how many words come with it.
 pub struct ReportFrame {
     pub channel: u8,
     pub unit: u8,

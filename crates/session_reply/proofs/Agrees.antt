@@ -13,6 +13,7 @@ use Rattle.area.proofs.Marks.{cond-true, cond-false}
 use Rattle.area.proofs.Walks.{by-test}
 use Rattle.session_frame.specs.declared.Answer.the-variants as answer
 use Rattle.channel.specs.declared.Channel.{Channel}
+use Rattle.channel.specs.Units.{positionAt}
 use Rattle.channel_outcomes.specs.Rules.{resultNumber}
 use Rattle.channel_turns.specs.Scans.{workingIn, unitNumber}
 use Rattle.channel_turns.specs.Turns.{judgeOf, bookOf}
@@ -119,23 +120,23 @@ ask-alone wrong f c op priority frozen h =
     (record { refusal = askRefusal wrong f c op priority; working = 0; file = f; channel = c }) refl h in
     (ap (λ (x : AskChange). x .file) e, ap (λ (x : AskChange). x .channel) e)
 
-report-alone : (wrong : Bool) (f : File) (c : Channel) (u outcome w : ℕ) (frozen : Bool) (area words : List ℕ)
-    → (reportOn wrong f c u outcome w frozen area words .refusal ≡ 0 → ⊥)
-    → (reportOn wrong f c u outcome w frozen area words .file ≡ f) × (reportOn wrong f c u outcome w frozen area words .channel ≡ c)
+report-alone : (wrong : Bool) (f : File) (c : Channel) (u outcome len w : ℕ) (frozen : Bool) (area words : List ℕ)
+    → (reportOn wrong f c u outcome len w frozen area words .refusal ≡ 0 → ⊥)
+    → (reportOn wrong f c u outcome len w frozen area words .file ≡ f) × (reportOn wrong f c u outcome len w frozen area words .channel ≡ c)
 unfolding reportOn
-report-alone wrong f c u outcome w frozen area words h =
-    let x = effectAt c u outcome (length words) in
-    let e = refused-report (eqb (reportRefusal wrong f c u outcome w area words) 0)
+report-alone wrong f c u outcome len w frozen area words h =
+    let x = effectAt c u outcome len (length words) in
+    let e = refused-report (eqb (reportRefusal wrong f c u outcome len w area words) 0)
     (record {
       refusal = 0;
-      result = resultNumber (judgeOf c u outcome);
+      result = resultNumber (positionAt c u) (judgeOf c u outcome len);
       delivery = deliveryOf x (deliveryCheck x f words);
-      working = unitNumber (workingIn (bookOf c u (judgeOf c u outcome) frozen));
+      working = unitNumber (workingIn (bookOf c u (judgeOf c u outcome len) frozen));
       start = shownStart x w f;
       count = shownCount x f;
       file = reportedFile x f (length words) (deliveryCheck x f words);
-      channel = bookOf c u (judgeOf c u outcome) frozen;
-    }) (refusedReport (reportRefusal wrong f c u outcome w area words) f c) refl h in
+      channel = bookOf c u (judgeOf c u outcome len) frozen;
+    }) (refusedReport (reportRefusal wrong f c u outcome len w area words) f c) refl h in
     (ap (λ (x : ReportChange). x .file) e, ap (λ (x : ReportChange). x .channel) e)
 
 -- ---- every frame
@@ -182,13 +183,13 @@ module _ (s : State) (area words : List ℕ) where
   report-right : (q : ReportFrame) → Right (Report q)
   unfolding Right replyOn turnedOn areaOn requestTurn requestAreaOn wholeTurn bindingTurn recordTurn wholeRefusal wholeState recordOf recordArea bindingOf requestOf requestArea replyTo reportBy reportByArea reportChangeOn reportAreaOn
   report-right q =
-      let x = reportChange s area (q .channel) (q .unit) (q .outcome) words in
+      let x = reportChange s area (q .channel) (q .unit) (q .outcome) (q .length) words in
       ap (λ (u : State). record {
         state = u;
-        area = reportByArea s area (q .channel) (q .unit) (q .outcome) words;
+        area = reportByArea s area (q .channel) (q .unit) (q .outcome) (q .length) words;
         answer = answerOr (x .refusal) (reportAnswer (x .result) (x .delivery) (x .working));
-        words = partOf (x .start) (x .count) (reportByArea s area (q .channel) (q .unit) (q .outcome) words);
-      }) (stored-both s (fileOf s (q .channel) (q .unit)) (q .channel) (x .refusal) (x .file) (x .channel) (report-alone _ _ _ _ _ _ _ _ _))
+        words = partOf (x .start) (x .count) (reportByArea s area (q .channel) (q .unit) (q .outcome) (q .length) words);
+      }) (stored-both s (fileOf s (q .channel) (q .unit)) (q .channel) (x .refusal) (x .file) (x .channel) (report-alone _ _ _ _ _ _ _ _ _ _))
 
   get-right : (file : ℕ) → Right (Get file)
   unfolding Right replyOn turnedOn areaOn requestTurn requestAreaOn wholeTurn bindingTurn recordTurn wholeRefusal wholeState recordOf recordArea bindingOf requestOf requestArea replyTo getBy getWords getTold getOn

@@ -68,7 +68,7 @@ asked-as unsound frozen f c q x a ex ea =
 
 module _ (unsound : Bool) (m w : ℕ) (frozen : Bool) (f : File) (c : Channel) (q : ReportFrame) (area words : List ℕ) where
   pub reported-as : (short : Bool) (x : ReportChange) (a : Answer) → short ≡ ltb (length area) (m * w)
-      → x ≡ reportOn (unsound || (short || leb channelCount (q .channel))) f c (q .unit) (q .outcome) w frozen area words
+      → x ≡ reportOn (unsound || (short || leb channelCount (q .channel))) f c (q .unit) (q .outcome) (q .length) w frozen area words
       → a ≡ answerOr (x .refusal) (reportAnswer (x .result) (x .delivery) (x .working))
       → record { answer = a; start = x .start; count = x .count; file = x .file; channel = x .channel }
       ≡ reportChangeOn unsound m w frozen f c q area words
@@ -81,14 +81,14 @@ module _ (unsound : Bool) (m w : ℕ) (frozen : Bool) (f : File) (c : Channel) (
         count = y .count;
         file = y .file;
         channel = y .channel;
-      }) (ex ∙ ap (λ (t : Bool). reportOn (unsound || (t || leb channelCount (q .channel))) f c (q .unit) (q .outcome) w frozen area words) es)
+      }) (ex ∙ ap (λ (t : Bool). reportOn (unsound || (t || leb channelCount (q .channel))) f c (q .unit) (q .outcome) (q .length) w frozen area words) es)
 
 pub reported-area : (unsound : Bool) (m w : ℕ) (f : File) (c : Channel) (q : ReportFrame) (area words : List ℕ) (short : Bool) (after : List ℕ)
-    → short ≡ ltb (length area) (m * w) → after ≡ reportOnArea (unsound || (short || leb channelCount (q .channel))) f c (q .unit) (q .outcome) w area words
+    → short ≡ ltb (length area) (m * w) → after ≡ reportOnArea (unsound || (short || leb channelCount (q .channel))) f c (q .unit) (q .outcome) (q .length) w area words
     → after ≡ reportAreaOn unsound m w f c q area words
 unfolding reportAreaOn
 reported-area unsound m w f c q area words short after es e =
-    e ∙ ap (λ (t : Bool). reportOnArea (unsound || (t || leb channelCount (q .channel))) f c (q .unit) (q .outcome) w area words) es
+    e ∙ ap (λ (t : Bool). reportOnArea (unsound || (t || leb channelCount (q .channel))) f c (q .unit) (q .outcome) (q .length) w area words) es
 
 module _ (unsound : Bool) (m w : ℕ) (f : File) (file : ℕ) (area : List ℕ) where
   pub got-as : (short : Bool) (x : GetChange) (told a : Answer) (start count : ℕ) → short ≡ ltb (length area) (m * w)

@@ -69,7 +69,7 @@ skipTold unsound f file = let x = skipOn (leb fileCount file || unsound) f in qu
 
 unfoldable pub reportChangeOn : Bool → ℕ → ℕ → Bool → File → Channel → ReportFrame → List ℕ → List ℕ → Change
 reportChangeOn unsound m w frozen f c q area words =
-    let x = reportOn (reportWrongBy unsound m w (length area) (q .channel)) f c (q .unit) (q .outcome) w frozen area words in
+    let x = reportOn (reportWrongBy unsound m w (length area) (q .channel)) f c (q .unit) (q .outcome) (q .length) w frozen area words in
     record {
       answer = answerOr (x .refusal) (reportAnswer (x .result) (x .delivery) (x .working));
       start = x .start;
@@ -80,7 +80,7 @@ reportChangeOn unsound m w frozen f c q area words =
 
 unfoldable pub reportAreaOn : Bool → ℕ → ℕ → File → Channel → ReportFrame → List ℕ → List ℕ → List ℕ
 reportAreaOn unsound m w f c q area words =
-    reportOnArea (reportWrongBy unsound m w (length area) (q .channel)) f c (q .unit) (q .outcome) w area words
+    reportOnArea (reportWrongBy unsound m w (length area) (q .channel)) f c (q .unit) (q .outcome) (q .length) w area words
 
 unfoldable pub getTold : Bool → ℕ → ℕ → File → ℕ → List ℕ → Told
 getTold unsound m w f file area =

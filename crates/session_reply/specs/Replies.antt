@@ -93,8 +93,8 @@ replyTo s area words (Ask q) =
     record { state = x .state; area = area; answer = answerOr (x .refusal) (answer.Asked (x .working)); words = [] }
 -- "Report adds result, check error, working unit and, if it ends a write with 01 or 04, the block's words"
 replyTo s area words (Report q) =
-    let x = reportBy s area (q .channel) (q .unit) (q .outcome) words in
-    let after = reportByArea s area (q .channel) (q .unit) (q .outcome) words in
+    let x = reportBy s area (q .channel) (q .unit) (q .outcome) (q .length) words in
+    let after = reportByArea s area (q .channel) (q .unit) (q .outcome) (q .length) words in
     record {
       state = x .state;
       area = after;

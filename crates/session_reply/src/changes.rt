@@ -152,7 +152,18 @@ pub fn reported(
     let short = is_short(m, w, area.len());
     let j = q.channel as usize;
     let wrong = unsound | (short | (CHANNELS <= j));
-    let x = report_on(wrong, f, c, q.unit, q.outcome, w, frozen, area, words);
+    let x = report_on(
+        wrong,
+        f,
+        c,
+        q.unit,
+        q.outcome,
+        q.length,
+        w,
+        frozen,
+        area,
+        words,
+    );
     let g = x.file;
     let d = x.channel;
     let delivery = x.delivery;

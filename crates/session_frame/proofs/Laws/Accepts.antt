@@ -9,13 +9,14 @@ use lib.Dec.{ltb, leb, eqb}
 use lib.ListN.{length}
 use Rattle.area.specs.Lists.{allOf}
 use Rattle.area.proofs.Walks.{by-test, and-left, and-right, and-both}
+use Rattle.channel_outcomes.specs.Rules.{redundancy, noLength}
 use Rattle.session_frame.specs.Digits.{isDigit, bytesOf, byteDigits, isByte, concatMap}
 use Rattle.session_frame.specs.Fields.{byteAt, sizeAt}
 use Rattle.session_frame.proofs.Laws.Writes.{length-byte, length-concat}
 use Rattle.session_frame.proofs.Laws.Trips.{bytes-back, digits-are}
 use Rattle.session_frame.specs.declared.Frame.{Frame}
 use Rattle.session_frame.specs.declared.Frame.the-variants.{Malformed, Close, Report, Get, Put, Seal, Skip, Freeze, Thaw}
-use Rattle.session_frame.specs.Frames.{longest, isText, sized, worded, wordCount, freshFrom, openFrom, askFrom, reportHead, lengthHead, noLength, redundancy, showsLength, reportWith, reportFrom, putFrom, kindBy, kindOf, frameOf}
+use Rattle.session_frame.specs.Frames.{longest, isText, sized, worded, wordCount, freshFrom, openFrom, askFrom, reportHead, lengthHead, showsLength, reportWith, reportFrom, putFrom, kindBy, kindOf, frameOf}
 use Rattle.session_frame.specs.Formed.{Kind, fresh, opens, close, ask, report, measured, get, put, seal, skip, freeze, thaw, WellFormed, Accepted}
 use Rattle.session_frame.proofs.Laws.Sizes.{worded-yes, report-plain, report-measured, text-long, frame-text, frame-other}
 

@@ -9,6 +9,7 @@ use lib.Dec.{ltb, eqb}
 use lib.ListN.{length, drop, length-drop}
 use lib.Seq.{take-all}
 use Rattle.area.proofs.Walks.{by-test, and-left}
+use Rattle.channel_outcomes.specs.Rules.{redundancy, noLength}
 use Rattle.session_frame.specs.Digits.{bytesOf}
 use Rattle.session_frame.specs.Fields.{byteAt, sizeAt, wordsOf}
 use Rattle.session_frame.proofs.Laws.Bytes.{length-bytes, length-words, size-small}
@@ -16,7 +17,7 @@ use Rattle.session_frame.specs.declared.Frame.{Frame}
 use Rattle.session_frame.specs.declared.ReportFrame.{ReportFrame}
 use Rattle.session_frame.specs.declared.PutFrame.{PutFrame}
 use Rattle.session_frame.specs.declared.Frame.the-variants.{Malformed, Fresh, Open, Close, Ask, Report, Get, Put, Seal, Skip, Freeze, Thaw}
-use Rattle.session_frame.specs.Frames.{longest, isText, sized, worded, wordCount, freshFrom, openFrom, askFrom, reportHead, lengthHead, noLength, redundancy, showsLength, reportWith, reportFrom, wordsAt, putFrom, kindBy, kindOf, frameOf, wordsFrom}
+use Rattle.session_frame.specs.Frames.{longest, isText, sized, worded, wordCount, freshFrom, openFrom, askFrom, reportHead, lengthHead, showsLength, reportWith, reportFrom, wordsAt, putFrom, kindBy, kindOf, frameOf, wordsFrom}
 use Rattle.session_frame.proofs.Laws.Sizes.{words-plain, words-measured, frame-text, frame-other}
 
 -- the count of words that a frame holds is exact, in a line of n bytes

@@ -8,13 +8,14 @@ use borrow.Author.Tests.{lt-ltb, le-ltb, lt-leb, le-leb, eq-eqb, ne-eqb}
 use lib.Dec.{eqb}
 use lib.ListN.{length}
 use Rattle.area.specs.Lists.{allOf}
+use Rattle.channel_outcomes.specs.Rules.{redundancy, noLength}
 use Rattle.session_frame.specs.Digits.{isDigit, bytesOf}
 use Rattle.session_frame.specs.Fields.{byteAt, sizeAt}
 use Rattle.session_frame.proofs.Laws.Bytes.{length-bytes}
 use Rattle.session_frame.specs.declared.ReportFrame.{ReportFrame}
 use Rattle.session_frame.specs.declared.Frame.{Frame}
 use Rattle.session_frame.specs.declared.Frame.the-variants.{Malformed}
-use Rattle.session_frame.specs.Frames.{longest, isText, sized, worded, wordCount, reportHead, lengthHead, noLength, redundancy, showsLength, reportWith, reportFrom, wordsAt, kindBy, kindOf, frameOf}
+use Rattle.session_frame.specs.Frames.{longest, isText, sized, worded, wordCount, reportHead, lengthHead, showsLength, reportWith, reportFrom, wordsAt, kindBy, kindOf, frameOf}
 
 module _ (n size : ℕ) (f : Frame) where
   pub sized-yes : n ≡ size → sized n size f ≡ f
