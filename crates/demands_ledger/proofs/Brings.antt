@@ -179,8 +179,12 @@ module _ (m w : ℕ) (f : File) (S : Sound m w f) (xs : List ℕ) (long : m * w 
       buffer-inside m w (bufferAt f k .number) n (number-less m w f S k own) (omega (arith, size-fits m w f S, N .fit)) in
       let long-part : length (partOf (bufferAt f k .number * w + at) (n - at) xs) ≡ n - at =
       length-part (bufferAt f k .number * w + at) (n - at) xs (omega arith) in
-      omega (arith, length-append (wrongs (e .failed) (e .check)) (map word (partOf (bufferAt f k .number * w + at) (n - at) xs)),
-      length-map (partOf (bufferAt f k .number * w + at) (n - at) xs) word, long-part)
+      omega (
+        arith,
+        length-append (wrongs (e .failed) (e .check)) (map word (partOf (bufferAt f k .number * w + at) (n - at) xs)),
+        length-map (partOf (bufferAt f k .number * w + at) (n - at) xs) word,
+        long-part,
+      )
 
   -- "If that block was used up by an earlier get, it first becomes empty and the next oldest is looked at."
   pub passed-brought : (came : List Came) (gone : List Item) (owed : List (List Item)) → Brought w f xs came gone owed

@@ -56,7 +56,11 @@ pub enum Slot {
     Empty,
     Taken,
     Part(u16),
-    Full { words: u16, at: u16, arrival: Arrival },
+    Full {
+        words: u16,
+        at: u16,
+        arrival: Arrival,
+    },
 }
 
 // A buffer of the pool, and what it holds.

@@ -1,8 +1,8 @@
 // Output: the part-filled block of a file, when it is complete, and sealed.
 use file::File;
 use file::filled_at;
-use file::no_arrival;
 use file::is_side;
+use file::no_arrival;
 use file::part_side;
 use file::part_words;
 use file::slot_at;

@@ -83,9 +83,7 @@ fn place_fits(x: Slot) -> bool
         Slot::Empty => true,
         Slot::Taken => true,
         Slot::Part(_) => true,
-        Slot::Full { words, at, arrival } => {
-            (at <= words) & ((arrival.failed == 0) | (at == 0))
-        }
+        Slot::Full { words, at, arrival } => { (at <= words) & ((arrival.failed == 0) | (at == 0)) }
     }
 }
 
