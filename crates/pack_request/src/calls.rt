@@ -39,8 +39,8 @@ pub fn ask(s: State, file: u8, op: u8, priority: u8) -> Asking
 }
 
 // A report of a unit: its outcome, 0 good, 1 redundancy, 2 incomplete word, 3 file mark, 4 end of medium, the length in words that a read's redundancy
-// report may carry, 65,536 for none, and the words of a block that a good read brings, which go into the area. A refusal gives the state that was
-// passed and changes no word.
+// report may carry, 65,536 for none, and the words of a block that a read brings, well or after a permanent error, which go into the area. A refusal
+// gives the state that was passed and changes no word.
 pub fn report(
     s: State,
     area: &mut [u64],

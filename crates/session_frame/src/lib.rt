@@ -100,7 +100,7 @@ pub enum Answer {
     },
     // get: the number of what it found, and its words
     Got(u8),
-    // get: the number of a check error, and what the check found
+    // get: the number of an error, and what the check found
     GotError {
         number: u8,
         found: Checked,
