@@ -153,7 +153,16 @@ pub fn reported(
     let j = q.channel as usize;
     let wrong = unsound | (short | (CHANNELS <= j));
     let x = report_on(
-        wrong, f, c, q.unit, q.outcome, q.length, w, frozen, area, words,
+        wrong,
+        f,
+        c,
+        q.unit,
+        q.outcome,
+        q.length,
+        w,
+        frozen,
+        area,
+        words,
     );
     let g = x.file;
     let d = x.channel;
