@@ -7,6 +7,7 @@ use mathlib.Core.List.{List, []}
 use Prim.Native.Nat.{ℕ, _+_, _%_, _<_}
 use lib.ListN.{length}
 use Rattle.word.specs.CheckWords.{checkWord, IsCheckWord, blockNumbers}
+use Rattle.word.specs.declared.Checked.{Checked}
 use Rattle.block.specs.Blocks.{judgedBlock}
 use Rattle.call_request.specs.Report.{toldBy}
 use Rattle.word.proofs.Laws.CheckWord.{check-word-is, check-word-only}
@@ -43,6 +44,7 @@ use Rattle.demands.specs.Records.{Finds, Gives, Drops}
 use Rattle.demands.specs.Written.{Cuts, Due, HandsOut}
 use Rattle.demands.proofs.Refusals.{refuses}
 use Rattle.demands.proofs.Buffers.{good-holds, closed-frees, opened-takes, reported-books}
+use Rattle.demands.proofs.Finding.{finds-one}
 use Rattle.demands.proofs.Blocks.{ledger-writes, ledger-closed, ledger-reads, ledger-judged, ledger-found}
 use Rattle.demands.proofs.Results.{reported-results, refused-forbids, reel-stands}
 use Rattle.demands.proofs.Marks.{asked-marks}
@@ -73,6 +75,11 @@ demand2-one-answer = gives-one
 pub demand2-one-due : (c : Choice) (puts seals : List ℕ) (sent : List (List ℕ)) (a b : List ℕ)
     → Due c puts seals sent a → Due c puts seals sent b → a ≡ b
 demand2-one-due = due-one
+
+-- and what is told of a delivered block: `Finds` leaves no choice of it
+pub demand2-one-found : (sequence check : Bool) (before : ℕ) (words : List ℕ) (x y : Checked)
+    → Finds sequence check before words x → Finds sequence check before words y → x ≡ y
+demand2-one-found = finds-one
 
 -- "Each buffer is free, or held by exactly one open file": from before the first fresh start too, after any calls
 pub demand2-before : (calls : List Lent) → Holds (after beforeStart calls)
