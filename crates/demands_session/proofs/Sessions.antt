@@ -11,7 +11,8 @@ use Rattle.word.specs.CheckWords.{blockNumbers}
 use Rattle.block.specs.Blocks.{judgedBlock}
 use Rattle.pool.specs.Serving.{serves}
 use Rattle.state.specs.declared.State.{State}
-use Rattle.state.specs.Places.{beforeStart, fileAt}
+use Rattle.channel.specs.Units.{positionAt}
+use Rattle.state.specs.Places.{beforeStart, fileAt, channelAt}
 use Rattle.pack_start.specs.declared.Masks.{Masks}
 use Rattle.call_request.specs.Ask.{isPriority}
 use Rattle.pack.specs.Calls.{Call, fresh, opening, close, ask, report, get, skip, answerOf}
@@ -21,13 +22,13 @@ use Rattle.pack.proofs.Kept.{good-start, history-kept}
 use Rattle.demands_ledger.specs.Ledgers.{Ledger, blankLedger, toldDelivery, isOn, noted, stateAfter, areaAfter, ledgerAfter}
 use Rattle.demands_ledger.specs.Blocks.{blocksIn, unreadOf, joined}
 use Rattle.demands.specs.Demands.{Refuses, Holds, Frees, Takes, Books, dataIn, Writes, Reads, Answers, AnswersUrgent}
-use Rattle.demands.specs.Results.{Results, Forbids}
+use Rattle.demands.specs.Results.{Results, Forbids, Stands}
 use Rattle.demands.specs.Turns.{worksFor, isPending, Turns, Continues, toldWorking, Tells}
 use Rattle.demands.specs.Orders.{Requests, On, EitherOrder}
 use Rattle.demands.specs.Marks.{Marks}
 use Rattle.demands.specs.Records.{Gives, Drops}
 use Rattle.demands.specs.Written.{Cuts, HandsOut}
-use Rattle.demands.proofs.Demands.{demand1, demand2-before, demand2-freed, demand2-taken, demand2-booked, demand2-results, demand2-forbidden, demand2-idle, demand2-turns, demand2-continues, demand2-asked, demand2-reported, demand2-single, demand2-holding, demand2-marks, demand2-writes, demand2-closed, demand2-reads, demand2-judged, demand2-got, demand2-skipped, demand2-cut, demand2-sent, demand3, demand3-urgent, demand3-order}
+use Rattle.demands.proofs.Demands.{demand1, demand2-before, demand2-freed, demand2-taken, demand2-booked, demand2-results, demand2-stands, demand2-forbidden, demand2-idle, demand2-turns, demand2-continues, demand2-asked, demand2-reported, demand2-single, demand2-holding, demand2-marks, demand2-writes, demand2-closed, demand2-reads, demand2-judged, demand2-got, demand2-skipped, demand2-cut, demand2-sent, demand3, demand3-urgent, demand3-order}
 use Rattle.session.specs.Session.{Course, withText, playLines}
 use Rattle.session.proofs.Counting.{lines-append}
 use Rattle.demands_session.specs.Played.{callIn, callsIn, lineOf, lineFor, stateFor, areaFor, zeros, stateIn, areaIn, lentFrom}
@@ -120,13 +121,13 @@ module _ (ks : List (List ℕ)) (l : List ℕ) (m w : ℕ) (masks : Masks) (isFr
       (demand2-taken (stateIn ks) (areaIn ks) m w masks started (lentFrom start (areaIn ks) (callsIn later)) _ file channel unit flags size rlen)
 
   -- a completion is booked to the one file of its unit
-  pub session2-booked : (later : List (List ℕ)) (channel unit outcome : ℕ) (words : List ℕ)
-      → answerOf (stateThen later) (areaThen later) (report channel unit outcome words) .refusal ≡ 0
-      → Books (stateThen later) channel unit (answerOf (stateThen later) (areaThen later) (report channel unit outcome words) .state)
-  session2-booked later channel unit outcome words =
-      so-lent (λ s xs. answerOf s xs (report channel unit outcome words) .refusal ≡ 0
-      → Books s channel unit (answerOf s xs (report channel unit outcome words) .state)) later
-      (demand2-booked (stateIn ks) (areaIn ks) m w masks started (lentFrom start (areaIn ks) (callsIn later)) _ channel unit outcome words)
+  pub session2-booked : (later : List (List ℕ)) (channel unit outcome len : ℕ) (words : List ℕ)
+      → answerOf (stateThen later) (areaThen later) (report channel unit outcome len words) .refusal ≡ 0
+      → Books (stateThen later) channel unit (answerOf (stateThen later) (areaThen later) (report channel unit outcome len words) .state)
+  session2-booked later channel unit outcome len words =
+      so-lent (λ s xs. answerOf s xs (report channel unit outcome len words) .refusal ≡ 0
+      → Books s channel unit (answerOf s xs (report channel unit outcome len words) .state)) later
+      (demand2-booked (stateIn ks) (areaIn ks) m w masks started (lentFrom start (areaIn ks) (callsIn later)) _ channel unit outcome len words)
 
   -- "Scheduling, retry limits .. follow the manual and document 01.": the book of channel c, and what is known of file i
   abbrev pub bookThen : List (List ℕ) → ℕ → Book
@@ -135,25 +136,31 @@ module _ (ks : List (List ℕ)) (l : List ℕ) (m w : ℕ) (masks : Masks) (isFr
   abbrev pub openThen : List (List ℕ) → ℕ → Option Opened
   openThen later i = openedAfter i start none (lentFrom start (areaIn ks) (callsIn later))
 
-  pub session2-results : (later : List (List ℕ)) (channel unit outcome : ℕ) (words : List ℕ)
-      → answerOf (stateThen later) (areaThen later) (report channel unit outcome words) .refusal ≡ 0
-      → Results (bookThen later channel) unit outcome (toldResult (answerOf (stateThen later) (areaThen later) (report channel unit outcome words) .added))
-  session2-results later channel unit outcome words =
-      so-lent (λ s xs. answerOf s xs (report channel unit outcome words) .refusal ≡ 0
-      → Results (bookThen later channel) unit outcome (toldResult (answerOf s xs (report channel unit outcome words) .added))) later
-      (demand2-results (stateIn ks) (areaIn ks) m w masks started (lentFrom start (areaIn ks) (callsIn later)) _ channel unit outcome words)
+  pub session2-results : (later : List (List ℕ)) (channel unit outcome len : ℕ) (words : List ℕ)
+      → answerOf (stateThen later) (areaThen later) (report channel unit outcome len words) .refusal ≡ 0
+      → Results (bookThen later channel) unit outcome len (toldResult (answerOf (stateThen later) (areaThen later) (report channel unit outcome len words) .added))
+  session2-results later channel unit outcome len words =
+      so-lent (λ s xs. answerOf s xs (report channel unit outcome len words) .refusal ≡ 0
+      → Results (bookThen later channel) unit outcome len (toldResult (answerOf s xs (report channel unit outcome len words) .added))) later
+      (demand2-results (stateIn ks) (areaIn ks) m w masks started (lentFrom start (areaIn ks) (callsIn later)) _ channel unit outcome len words)
 
-  pub session2-forbidden : (later : List (List ℕ)) (channel unit outcome : ℕ) (words : List ℕ)
-      → answerOf (stateThen later) (areaThen later) (report channel unit outcome words) .refusal ≡ 12 → Forbids (bookThen later channel) unit outcome
-  session2-forbidden later channel unit outcome words =
-      so-lent (λ s xs. answerOf s xs (report channel unit outcome words) .refusal ≡ 12 → Forbids (bookThen later channel) unit outcome) later
-      (demand2-forbidden (stateIn ks) (areaIn ks) m w masks started (lentFrom start (areaIn ks) (callsIn later)) _ channel unit outcome words)
+  -- where the reel of a unit stands is decided by the lines alone
+  pub session2-stands : (later : List (List ℕ)) (c u : ℕ) → Stands (positionAt (channelAt (stateThen later) c) u) (bookThen later c .reels u)
+  session2-stands later c u =
+      so-lent (λ s xs. Stands (positionAt (channelAt s c) u) (bookThen later c .reels u)) later
+      (demand2-stands (stateIn ks) (areaIn ks) m w masks started (lentFrom start (areaIn ks) (callsIn later)) c u)
 
-  pub session2-idle : (later : List (List ℕ)) (channel unit outcome : ℕ) (words : List ℕ)
-      → answerOf (stateThen later) (areaThen later) (report channel unit outcome words) .refusal ≡ 11 → worksFor (stateThen later) channel unit ≡ false
-  session2-idle later channel unit outcome words =
-      so-lent (λ s xs. answerOf s xs (report channel unit outcome words) .refusal ≡ 11 → worksFor s channel unit ≡ false) later
-      (demand2-idle (stateIn ks) (areaIn ks) m w masks started (lentFrom start (areaIn ks) (callsIn later)) _ channel unit outcome words)
+  pub session2-forbidden : (later : List (List ℕ)) (channel unit outcome len : ℕ) (words : List ℕ)
+      → answerOf (stateThen later) (areaThen later) (report channel unit outcome len words) .refusal ≡ 12 → Forbids (bookThen later channel) unit outcome
+  session2-forbidden later channel unit outcome len words =
+      so-lent (λ s xs. answerOf s xs (report channel unit outcome len words) .refusal ≡ 12 → Forbids (bookThen later channel) unit outcome) later
+      (demand2-forbidden (stateIn ks) (areaIn ks) m w masks started (lentFrom start (areaIn ks) (callsIn later)) _ channel unit outcome len words)
+
+  pub session2-idle : (later : List (List ℕ)) (channel unit outcome len : ℕ) (words : List ℕ)
+      → answerOf (stateThen later) (areaThen later) (report channel unit outcome len words) .refusal ≡ 11 → worksFor (stateThen later) channel unit ≡ false
+  session2-idle later channel unit outcome len words =
+      so-lent (λ s xs. answerOf s xs (report channel unit outcome len words) .refusal ≡ 11 → worksFor s channel unit ≡ false) later
+      (demand2-idle (stateIn ks) (areaIn ks) m w masks started (lentFrom start (areaIn ks) (callsIn later)) _ channel unit outcome len words)
 
   pub session2-turns : (later : List (List ℕ)) (call : Call) (c : ℕ) → answerOf (stateThen later) (areaThen later) call .refusal ≡ 0
       → Turns c (stateThen later) call (answerOf (stateThen later) (areaThen later) call .state)
@@ -163,17 +170,17 @@ module _ (ks : List (List ℕ)) (l : List ℕ) (m w : ℕ) (masks : Masks) (isFr
       → Turns c s call (answerOf s xs call .state) (inBook c s (record { call = call; area = xs }) (bookThen later c))) later
       (demand2-turns (stateIn ks) (areaIn ks) m w masks started (lentFrom start (areaIn ks) (callsIn later)) (record { call = call; area = _ }) c)
 
-  pub session2-continues : (later : List (List ℕ)) (channel unit outcome : ℕ) (words : List ℕ)
-      → let a = answerOf (stateThen later) (areaThen later) (report channel unit outcome words) in
+  pub session2-continues : (later : List (List ℕ)) (channel unit outcome len : ℕ) (words : List ℕ)
+      → let a = answerOf (stateThen later) (areaThen later) (report channel unit outcome len words) in
       a .refusal ≡ 0
       → Continues channel unit (toldResult (a .added)) (stateThen later) (a .state)
-      (inBook channel (stateThen later) (record { call = report channel unit outcome words; area = areaThen later }) (bookThen later channel))
-  session2-continues later channel unit outcome words =
-      so-lent (λ s xs. answerOf s xs (report channel unit outcome words) .refusal ≡ 0
-      → Continues channel unit (toldResult (answerOf s xs (report channel unit outcome words) .added)) s
-      (answerOf s xs (report channel unit outcome words) .state)
-      (inBook channel s (record { call = report channel unit outcome words; area = xs }) (bookThen later channel))) later
-      (demand2-continues (stateIn ks) (areaIn ks) m w masks started (lentFrom start (areaIn ks) (callsIn later)) _ channel unit outcome words)
+      (inBook channel (stateThen later) (record { call = report channel unit outcome len words; area = areaThen later }) (bookThen later channel))
+  session2-continues later channel unit outcome len words =
+      so-lent (λ s xs. answerOf s xs (report channel unit outcome len words) .refusal ≡ 0
+      → Continues channel unit (toldResult (answerOf s xs (report channel unit outcome len words) .added)) s
+      (answerOf s xs (report channel unit outcome len words) .state)
+      (inBook channel s (record { call = report channel unit outcome len words; area = xs }) (bookThen later channel))) later
+      (demand2-continues (stateIn ks) (areaIn ks) m w masks started (lentFrom start (areaIn ks) (callsIn later)) _ channel unit outcome len words)
 
   pub session2-asked : (later : List (List ℕ)) (file op priority : ℕ)
       → let a = answerOf (stateThen later) (areaThen later) (ask file op priority) in
@@ -183,14 +190,14 @@ module _ (ks : List (List ℕ)) (l : List ℕ) (m w : ℕ) (masks : Masks) (isFr
       → Tells (answerOf s xs (ask file op priority) .state) (fileAt s file .channel) (toldWorking (answerOf s xs (ask file op priority) .added))) later
       (demand2-asked (stateIn ks) (areaIn ks) m w masks started (lentFrom start (areaIn ks) (callsIn later)) _ file op priority)
 
-  pub session2-reported : (later : List (List ℕ)) (channel unit outcome : ℕ) (words : List ℕ)
-      → let a = answerOf (stateThen later) (areaThen later) (report channel unit outcome words) in
+  pub session2-reported : (later : List (List ℕ)) (channel unit outcome len : ℕ) (words : List ℕ)
+      → let a = answerOf (stateThen later) (areaThen later) (report channel unit outcome len words) in
       a .refusal ≡ 0 → Tells (a .state) channel (toldWorking (a .added))
-  session2-reported later channel unit outcome words =
-      so-lent (λ s xs. answerOf s xs (report channel unit outcome words) .refusal ≡ 0
-      → Tells (answerOf s xs (report channel unit outcome words) .state) channel
-      (toldWorking (answerOf s xs (report channel unit outcome words) .added))) later
-      (demand2-reported (stateIn ks) (areaIn ks) m w masks started (lentFrom start (areaIn ks) (callsIn later)) _ channel unit outcome words)
+  session2-reported later channel unit outcome len words =
+      so-lent (λ s xs. answerOf s xs (report channel unit outcome len words) .refusal ≡ 0
+      → Tells (answerOf s xs (report channel unit outcome len words) .state) channel
+      (toldWorking (answerOf s xs (report channel unit outcome len words) .added))) later
+      (demand2-reported (stateIn ks) (areaIn ks) m w masks started (lentFrom start (areaIn ks) (callsIn later)) _ channel unit outcome len words)
 
   pub session2-single : (later : List (List ℕ)) (file op priority : ℕ)
       → answerOf (stateThen later) (areaThen later) (ask file op priority) .refusal ≡ 0
@@ -237,15 +244,15 @@ module _ (ks : List (List ℕ)) (l : List ℕ) (m w : ℕ) (masks : Masks) (isFr
       so (λ s xs. fileAt s i .opened ≡ true → fileAt s i .output ≡ false → Reads (s .w) (fileAt s i) xs (accountThen later i)) later
       (demand2-reads (stateIn ks) (areaIn ks) m w masks started (callsIn later) i)
 
-  pub session2-judged : (later : List (List ℕ)) (i channel unit outcome : ℕ) (words : List ℕ) → serves channel unit (fileAt (stateThen later) i) ≡ true
-      → words ≢ [] → answerOf (stateThen later) (areaThen later) (report channel unit outcome words) .refusal ≡ 0
-      → toldDelivery (answerOf (stateThen later) (areaThen later) (report channel unit outcome words) .added)
+  pub session2-judged : (later : List (List ℕ)) (i channel unit outcome len : ℕ) (words : List ℕ) → serves channel unit (fileAt (stateThen later) i) ≡ true
+      → words ≢ [] → answerOf (stateThen later) (areaThen later) (report channel unit outcome len words) .refusal ≡ 0
+      → toldDelivery (answerOf (stateThen later) (areaThen later) (report channel unit outcome len words) .added)
       ≡ With (judgedBlock words (fileAt (stateThen later) i .sequence) (fileAt (stateThen later) i .check) ((1 + length (accountThen later i .came)) % blockNumbers) .found)
-  session2-judged later i channel unit outcome words =
-      so (λ s xs. serves channel unit (fileAt s i) ≡ true → words ≢ [] → answerOf s xs (report channel unit outcome words) .refusal ≡ 0
-      → toldDelivery (answerOf s xs (report channel unit outcome words) .added)
+  session2-judged later i channel unit outcome len words =
+      so (λ s xs. serves channel unit (fileAt s i) ≡ true → words ≢ [] → answerOf s xs (report channel unit outcome len words) .refusal ≡ 0
+      → toldDelivery (answerOf s xs (report channel unit outcome len words) .added)
       ≡ With (judgedBlock words (fileAt s i .sequence) (fileAt s i .check) ((1 + length (accountThen later i .came)) % blockNumbers) .found)) later
-      (demand2-judged (stateIn ks) (areaIn ks) m w masks started (callsIn later) i channel unit outcome words)
+      (demand2-judged (stateIn ks) (areaIn ks) m w masks started (callsIn later) i channel unit outcome len words)
 
   -- records and blocks follow document 01: what an accepted get answers, what a skip drops, how the words put are divided, and which block a
   -- report hands out
@@ -274,15 +281,15 @@ module _ (ks : List (List ℕ)) (l : List ℕ) (m w : ℕ) (masks : Masks) (isFr
       so (λ s xs. fileAt s i .opened ≡ true → fileAt s i .output ≡ true → Cuts (accountThen later i) (blocksIn (s .w) (fileAt s i) xs)) later
       (demand2-cut (stateIn ks) (areaIn ks) m w masks started (callsIn later) i)
 
-  pub session2-sent : (later : List (List ℕ)) (channel unit outcome : ℕ) (words : List ℕ)
-      → let a = answerOf (stateThen later) (areaThen later) (report channel unit outcome words) in
+  pub session2-sent : (later : List (List ℕ)) (channel unit outcome len : ℕ) (words : List ℕ)
+      → let a = answerOf (stateThen later) (areaThen later) (report channel unit outcome len words) in
       a .refusal ≡ 0 → (i : ℕ) → isOn channel unit (accountThen later i) ≡ true
-      → HandsOut (accountThen later i) (noted i (report channel unit outcome words) a (accountThen later i)) a
-  session2-sent later channel unit outcome words =
-      so (λ s xs. answerOf s xs (report channel unit outcome words) .refusal ≡ 0 → (i : ℕ) → isOn channel unit (accountThen later i) ≡ true
-      → HandsOut (accountThen later i) (noted i (report channel unit outcome words) (answerOf s xs (report channel unit outcome words)) (accountThen later i))
-      (answerOf s xs (report channel unit outcome words))) later
-      (demand2-sent (stateIn ks) (areaIn ks) m w masks started (callsIn later) channel unit outcome words)
+      → HandsOut (accountThen later i) (noted i (report channel unit outcome len words) a (accountThen later i)) a
+  session2-sent later channel unit outcome len words =
+      so (λ s xs. answerOf s xs (report channel unit outcome len words) .refusal ≡ 0 → (i : ℕ) → isOn channel unit (accountThen later i) ≡ true
+      → HandsOut (accountThen later i) (noted i (report channel unit outcome len words) (answerOf s xs (report channel unit outcome len words)) (accountThen later i))
+      (answerOf s xs (report channel unit outcome len words))) later
+      (demand2-sent (stateIn ks) (areaIn ks) m w masks started (callsIn later) channel unit outcome len words)
 
   -- Demand 3, of an ordinary request that is accepted after the lines `before`, and of any lines `later` after it, no fresh start among them
   pub session3 : (before : List (List ℕ)) → count freshStart start (lentFrom start (areaIn ks) (callsIn before)) ≡ 0
