@@ -1,6 +1,6 @@
 -- A line comes to the same for the sheet, by its frame and its answer's digits, and in the history, by its call and its answer. Assumes nothing.
 use mathlib.Core.Path.{_≡_, refl, sym, ap, ap₂, _∙_}
-use mathlib.Core.Bool.{Bool, true, false, not, cond, _&&_}
+use mathlib.Core.Bool.{Bool, true, false, not, cond, _&&_, _||_}
 use mathlib.Core.Option.{Option, none, some}
 use mathlib.Core.List.{List, [], _∷_, _++_}
 use Prim.Native.Nat.{ℕ, zero, suc, _+_, _/_, _%_, _≤_, _<_}
@@ -9,7 +9,7 @@ use borrow.Author.Tests.{eqb-true, eqb-false, eq-eqb, ne-eqb, ltb-true, ltb-fals
 use lib.Dec.{eqb, ltb}
 use lib.ListN.{length, take, drop, getD}
 use Rattle.area.specs.Lists.{oneIf, countOf}
-use Rattle.area.proofs.Walks.{by-test, and-left, and-right, true-not-false}
+use Rattle.area.proofs.Walks.{by-test, and-left, and-right, and-both, true-not-false}
 use Rattle.session_frame.specs.Digits.{digitOf, byteDigits, concatMap}
 use Rattle.session_frame.specs.declared.Frame.{Frame}
 use Rattle.session_frame.specs.declared.Frame.the-variants.{Malformed, Fresh, Open, Close, Ask, Report, Get, Put, Seal, Skip, Freeze, Thaw}
@@ -30,66 +30,70 @@ use Rattle.pack.specs.Calls.{Call, fresh, opening, close, ask, report, get, put
 use Rattle.pack.specs.Histories.{isAccepted as accepts, count}
 use Rattle.demands_session.specs.Played.{callOf, callIn, consOf, callsIn, stateFor, areaFor, lentFrom}
 use Rattle.sheet.specs.declared.Event.{Event}
-use Rattle.sheet.specs.Events.{isZero, isAccepted, isRepeated, noEvent, askEvent, reportEvent, startEvent, eventOf}
+use Rattle.sheet.specs.Events.{isPair, isAccepted, isRepeated, noEvent, askEvent, reportEvent, startEvent, eventOf}
 use Rattle.sheet.specs.Sheet.{eventsOf}
 use Rattle.demands_sheet.specs.Listed.{callEvent, eventFor, eventsBy}
 
--- ---- the digits of a byte are 00 exactly if it is 0
+-- ---- the digits of a byte are 0 and d exactly if it is d
 
-digit-zero : (n : ℕ) → digitOf n ≡ 48 → n ≡ 0
-digit-zero n e =
-    by-test (λ b. ltb n 10 ≡ b → n ≡ 0) (ltb n 10)
+digit-back : (n d : ℕ) → d < 10 → digitOf n ≡ d + 48 → n ≡ d
+digit-back n d small e =
+    by-test (λ b. ltb n 10 ≡ b → n ≡ d) (ltb n 10)
     (λ q t. omega (arith, e, digit-decimal n (ltb-true n 10 t)))
-    (λ q t. absurd (omega (arith, e, digit-letter n (ltb-false n 10 t)))) refl
+    (λ q t. absurd (omega (arith, e, small, ltb-false n 10 t, digit-letter n (ltb-false n 10 t)))) refl
 
-zero-of : (n : ℕ) → n / 16 ≡ 0 → n % 16 ≡ 0 → n ≡ 0
-zero-of n a b = omega (arith, a, b)
-
-byte-zero : (n : ℕ) → (eqb (digitOf (n / 16)) 48 && eqb (digitOf (n % 16)) 48) ≡ eqb n 0
-byte-zero n =
-    by-test (λ b. eqb n 0 ≡ b → (eqb (digitOf (n / 16)) 48 && eqb (digitOf (n % 16)) 48) ≡ b) (eqb n 0)
-    (λ q t. ap (λ (m : ℕ). eqb (digitOf (m / 16)) 48 && eqb (digitOf (m % 16)) 48) (eqb-true n 0 t) ∙ zeros)
+byte-pair : (n d : ℕ) → d < 10 → (eqb (digitOf (n / 16)) 48 && eqb (digitOf (n % 16)) (d + 48)) ≡ eqb n d
+byte-pair n d small =
+    by-test (λ b. eqb n d ≡ b → (eqb (digitOf (n / 16)) 48 && eqb (digitOf (n % 16)) (d + 48)) ≡ b) (eqb n d)
+    (λ q t. ap (λ (m : ℕ). eqb (digitOf (m / 16)) 48 && eqb (digitOf (m % 16)) (d + 48)) (eqb-true n d t) ∙ same)
     (λ q t.
-    by-test (λ b. (eqb (digitOf (n / 16)) 48 && eqb (digitOf (n % 16)) 48) ≡ b → b ≡ false) (eqb (digitOf (n / 16)) 48 && eqb (digitOf (n % 16)) 48)
+    by-test (λ b. (eqb (digitOf (n / 16)) 48 && eqb (digitOf (n % 16)) (d + 48)) ≡ b → b ≡ false) (eqb (digitOf (n / 16)) 48 && eqb (digitOf (n % 16)) (d + 48))
     (λ _ w.
-    let high = digit-zero (n / 16) (eqb-true (digitOf (n / 16)) 48 (and-left (eqb (digitOf (n / 16)) 48) _ w)) in
-    let low = digit-zero (n % 16) (eqb-true (digitOf (n % 16)) 48 (and-right (eqb (digitOf (n / 16)) 48) _ w)) in
-    absurd (eqb-false n 0 t (zero-of n high low)))
+    let high : n / 16 ≡ 0 = digit-back (n / 16) 0 (omega arith) (eqb-true (digitOf (n / 16)) 48 (and-left (eqb (digitOf (n / 16)) 48) _ w)) in
+    let low : n % 16 ≡ d = digit-back (n % 16) d small (eqb-true (digitOf (n % 16)) (d + 48) (and-right (eqb (digitOf (n / 16)) 48) _ w)) in
+    absurd (eqb-false n d t (omega (arith, high, low))))
     (λ _ w. refl) refl)
     refl
   where
-    zeros : (eqb (digitOf (0 / 16)) 48 && eqb (digitOf (0 % 16)) 48) ≡ true
-    zeros = rw (digit-decimal 0 (omega arith))
+    same : (eqb (digitOf (d / 16)) 48 && eqb (digitOf (d % 16)) (d + 48)) ≡ true
+    same =
+        let high : d / 16 ≡ 0 = omega (arith, small) in
+        let low : d % 16 ≡ d = omega (arith, small) in
+        and-both _ _ (eq-eqb (digitOf (d / 16)) 48 (ap digitOf high ∙ digit-decimal 0 (omega arith)))
+        (eq-eqb (digitOf (d % 16)) (d + 48) (ap digitOf low ∙ digit-decimal d small))
 
 -- ---- an answer line
 
-first-zero : (n : ℕ) (bs : List ℕ) → isZero (concatMap byteDigits (n ∷ bs) ++ (10 ∷ [])) 0 1 ≡ eqb n 0
-unfolding isZero concatMap byteDigits
-first-zero n bs = byte-zero n
+first-zero : (n : ℕ) (bs : List ℕ) → isPair (concatMap byteDigits (n ∷ bs) ++ (10 ∷ [])) 0 1 48 ≡ eqb n 0
+unfolding isPair concatMap byteDigits
+first-zero n bs = byte-pair n 0 (omega arith)
 
-second-zero : (n m : ℕ) (bs : List ℕ) → isZero (concatMap byteDigits (n ∷ m ∷ bs) ++ (10 ∷ [])) 2 3 ≡ eqb m 0
-unfolding isZero concatMap byteDigits
-second-zero n m bs = byte-zero m
+second-pair : (n m d : ℕ) (bs : List ℕ) → d < 10 → isPair (concatMap byteDigits (n ∷ m ∷ bs) ++ (10 ∷ [])) 2 3 (d + 48) ≡ eqb m d
+unfolding isPair concatMap byteDigits
+second-pair n m d bs small = byte-pair m d small
 
 -- an answer that begins with 0 unless it is refused
 module _ (n : ℕ) (a : said.Answer) (ws bs : List ℕ) (begins : answerBytes a ws ≡ 0 ∷ bs) where
   accepted-is : isAccepted (answerText (answerOr n a) ws) ≡ eqb n 0
   unfolding answerText answerBytes
   accepted-is =
-      by-test (λ b. eqb n 0 ≡ b → isZero (concatMap byteDigits (answerBytes (cond b a (Refused n)) ws) ++ (10 ∷ [])) 0 1 ≡ b) (eqb n 0)
-      (λ q t. ap (λ (xs : List ℕ). isZero (concatMap byteDigits xs ++ (10 ∷ [])) 0 1) begins ∙ first-zero 0 bs)
+      by-test (λ b. eqb n 0 ≡ b → isPair (concatMap byteDigits (answerBytes (cond b a (Refused n)) ws) ++ (10 ∷ [])) 0 1 48 ≡ b) (eqb n 0)
+      (λ q t. ap (λ (xs : List ℕ). isPair (concatMap byteDigits xs ++ (10 ∷ [])) 0 1 48) begins ∙ first-zero 0 bs)
       (λ q t. first-zero n [] ∙ t) refl
 
 -- a report's answer has its result after the 0
+result-is : (result : ℕ) (bs : List ℕ) → isRepeated (concatMap byteDigits (0 ∷ result ∷ bs) ++ (10 ∷ [])) ≡ (eqb result 0 || eqb result 7)
+result-is result bs = ap₂ (λ (x y : Bool). x || y) (second-pair 0 result 0 bs (omega arith)) (second-pair 0 result 7 bs (omega arith))
+
 reported-is : (n result : ℕ) (a : said.Answer) (ws bs : List ℕ) → answerBytes a ws ≡ 0 ∷ result ∷ bs
-    → (isAccepted (answerText (answerOr n a) ws) && not (isRepeated (answerText (answerOr n a) ws))) ≡ (eqb n 0 && not (eqb result 0))
+    → (isAccepted (answerText (answerOr n a) ws) && not (isRepeated (answerText (answerOr n a) ws))) ≡ (eqb n 0 && not (eqb result 0 || eqb result 7))
 unfolding answerText answerBytes
 reported-is n result a ws bs begins =
-    by-test (λ b. eqb n 0 ≡ b → (isZero (concatMap byteDigits (answerBytes (cond b a (Refused n)) ws) ++ (10 ∷ [])) 0 1
-    && not (isZero (concatMap byteDigits (answerBytes (cond b a (Refused n)) ws) ++ (10 ∷ [])) 2 3)) ≡ (b && not (eqb result 0))) (eqb n 0)
-    (λ q t. ap (λ (xs : List ℕ). isZero (concatMap byteDigits xs ++ (10 ∷ [])) 0 1 && not (isZero (concatMap byteDigits xs ++ (10 ∷ [])) 2 3)) begins
-    ∙ ap₂ (λ (x y : Bool). x && not y) (first-zero 0 _) (second-zero 0 result bs))
-    (λ q t. ap (λ (x : Bool). x && not (isZero (concatMap byteDigits (n ∷ []) ++ (10 ∷ [])) 2 3)) (first-zero n [] ∙ t)) refl
+    by-test (λ b. eqb n 0 ≡ b → (isAccepted (concatMap byteDigits (answerBytes (cond b a (Refused n)) ws) ++ (10 ∷ []))
+    && not (isRepeated (concatMap byteDigits (answerBytes (cond b a (Refused n)) ws) ++ (10 ∷ [])))) ≡ (b && not (eqb result 0 || eqb result 7))) (eqb n 0)
+    (λ q t. ap (λ (xs : List ℕ). isAccepted (concatMap byteDigits xs ++ (10 ∷ [])) && not (isRepeated (concatMap byteDigits xs ++ (10 ∷ [])))) begins
+    ∙ ap₂ (λ (x y : Bool). x && not y) (first-zero 0 _) (result-is result bs))
+    (λ q t. ap (λ (x : Bool). x && not (isRepeated (concatMap byteDigits (n ∷ []) ++ (10 ∷ [])))) (first-zero n [] ∙ t)) refl
 
 report-begins : (result : ℕ) (d : Delivery) (working : ℕ) (ws : List ℕ)
     → answerBytes (reportAnswer result d working) ws ≡ 0 ∷ result ∷ drop 2 (answerBytes (reportAnswer result d working) ws)
@@ -107,12 +111,12 @@ frame-event s area words (Open q) = refl
 frame-event s area words (Close file) = refl
 frame-event s area words (Ask q) =
     ap (λ (b : Bool). askEvent s q b) (accepted-is (askBy s (q .file) (q .op) (q .priority) .refusal) (Asked (askBy s (q .file) (q .op) (q .priority) .working)) [] _ refl)
-frame-event s area words (Report q) = told (reportBy s area (q .channel) (q .unit) (q .outcome) words) (reportByArea s area (q .channel) (q .unit) (q .outcome) words)
+frame-event s area words (Report q) = told (reportBy s area (q .channel) (q .unit) (q .outcome) (q .length) words) (reportByArea s area (q .channel) (q .unit) (q .outcome) (q .length) words)
   where
     told : (x : Reporting) (after : List ℕ)
         → reportEvent q (isAccepted (answerText (answerOr (x .refusal) (reportAnswer (x .result) (x .delivery) (x .working))) (partOf (x .start) (x .count) after)))
         (isRepeated (answerText (answerOr (x .refusal) (reportAnswer (x .result) (x .delivery) (x .working))) (partOf (x .start) (x .count) after)))
-        ≡ record { asked = false; reported = eqb (x .refusal) 0; answered = eqb (x .refusal) 0 && not (eqb (x .result) 0); started = false; file = 0; channel = q .channel; unit = q .unit }
+        ≡ record { asked = false; reported = eqb (x .refusal) 0; answered = eqb (x .refusal) 0 && not (eqb (x .result) 0 || eqb (x .result) 7); started = false; file = 0; channel = q .channel; unit = q .unit }
     told x after =
         let begins = report-begins (x .result) (x .delivery) (x .working) (partOf (x .start) (x .count) after) in
         ap₂ (λ (a b : Bool). record { asked = false; reported = a; answered = b; started = false; file = 0; channel = q .channel; unit = q .unit })

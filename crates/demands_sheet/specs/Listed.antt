@@ -23,7 +23,7 @@ abbrev pub callEvent : State → Call → Answer → Event
 callEvent s (fresh m w masks) a = startEvent (isAccepted a)
 callEvent s (ask file op priority) a =
     record { asked = isAccepted a; reported = false; answered = false; started = false; file = file; channel = fileAt s file .channel; unit = fileAt s file .unit }
-callEvent s (report channel unit outcome words) a =
+callEvent s (report channel unit outcome len words) a =
     record { asked = false; reported = isAccepted a; answered = isAccepted a && isAnswer (a .added); started = false; file = 0; channel = channel; unit = unit }
 callEvent s (opening file channel unit flags size rlen) a = noEvent
 callEvent s (close file) a = noEvent
@@ -58,4 +58,4 @@ pub record Answered (c u k : ℕ) (d : State) (xs : List ℕ) (later : List (Lis
 -- demand 3's bound: U units are declared on its channel, and b is the channel's book at its acceptance
 pub record Within (U c u k : ℕ) (b : Book) (d : State) (xs : List ℕ) (later : List (List ℕ)) (row : Row) : Type 0 where
   pub answer : Answered c u k d xs later row
-  pub bound : row .reports ≤ 101 * (U + priorities c b d (lentFrom d xs (callsIn (take (answer .lines) later))))
+  pub bound : row .reports ≤ 201 * (U + priorities c b d (lentFrom d xs (callsIn (take (answer .lines) later))))

@@ -1,7 +1,7 @@
 -- What a line comes to for the sheet: by its frame, the state in which it was given, and its answer line (document 01, "The session program").
 -- Assumes nothing.
 use Prim.Native.Nat.{ℕ}
-use mathlib.Core.Bool.{Bool, true, false, not, _&&_}
+use mathlib.Core.Bool.{Bool, true, false, not, _&&_, _||_}
 use mathlib.Core.List.{List}
 use lib.Dec.{eqb}
 use lib.ListN.{getD}
@@ -13,17 +13,17 @@ use Rattle.state.specs.declared.State.{State}
 use Rattle.state.specs.Places.{fileAt}
 use Rattle.sheet.specs.declared.Event.{Event}
 
--- the two digits in places i and j of a line are those of the byte 00
-unfoldable pub isZero : List ℕ → ℕ → ℕ → Bool
-isZero text i j = eqb (getD text i 0) 48 && eqb (getD text j 0) 48
+-- the digits in places i and j of a line are 0 and this one
+unfoldable pub isPair : List ℕ → ℕ → ℕ → ℕ → Bool
+isPair text i j digit = eqb (getD text i 0) 48 && eqb (getD text j 0) digit
 
 -- "First byte 00 or the refusal."
 abbrev pub isAccepted : List ℕ → Bool
-isAccepted text = isZero text 0 1
+isAccepted text = isPair text 0 1 48
 
--- "Report adds result, ..; results are 00 repeated, ..": every other result answers the request
+-- "Report adds result, ..; results are 00 repeated, ..", and "the report's result is 07 in place of 00": every other result answers the request
 abbrev pub isRepeated : List ℕ → Bool
-isRepeated text = isZero text 2 3
+isRepeated text = isPair text 2 3 48 || isPair text 2 3 55
 
 abbrev pub noEvent : Event
 noEvent = record { asked = false; reported = false; answered = false; started = false; file = 0; channel = 0; unit = 0 }

@@ -7,10 +7,12 @@ use state::State;
 use state::file_at;
 ghost use mathlib.Core.Path.{_≡_};
 ghost use lib.ListN.{getD};
-ghost use Rattle.sheet.specs.Events.{isZero, noEvent, askEvent, reportEvent, startEvent, eventOf};
+ghost use Rattle.sheet.specs.Events.{isPair, isRepeated, noEvent, askEvent, reportEvent, startEvent, eventOf};
 
-// The digit 0.
+// The digits 0 and 7.
 const ZERO: u8 = 48;
+
+const SEVEN: u8 = 55;
 
 // The character in that place, 0 past the end.
 fn char_at(text: &[u8], i: usize) -> u8
@@ -22,13 +24,22 @@ fn char_at(text: &[u8], i: usize) -> u8
     0
 }
 
-// Whether the digits from place i on are those of the byte 00.
-fn is_zero(text: &[u8], i: usize, j: usize) -> bool
-    ensures { λ r. ⌜ r ≡ isZero (now (text .entry)) i j ⌝ }
+// Whether the digits in places i and j are 0 and this one.
+fn is_pair(text: &[u8], i: usize, j: usize, digit: u8) -> bool
+    ensures { λ r. ⌜ r ≡ isPair (now (text .entry)) i j digit ⌝ }
 {
     let a = char_at(text, i);
     let b = char_at(text, j);
-    (a == ZERO) & (b == ZERO)
+    (a == ZERO) & (b == digit)
+}
+
+// Whether the result of an accepted report leaves its request unanswered: 00, or 07 in its place.
+fn is_repeated(text: &[u8]) -> bool
+    ensures { λ r. ⌜ r ≡ isRepeated (now (text .entry)) ⌝ }
+{
+    let plain = is_pair(text, 2, 3, ZERO);
+    let cleaner = is_pair(text, 2, 3, SEVEN);
+    plain | cleaner
 }
 
 // Nothing that the sheet follows.
@@ -96,8 +107,8 @@ fn start_event(accepted: bool) -> Event
 pub fn event_of(s: State, f: Frame, text: &[u8]) -> Event
     ensures { λ r. ⌜ r ≡ eventOf s f (now (text .entry)) ⌝ }
 {
-    let accepted = is_zero(text, 0, 1);
-    let repeated = is_zero(text, 2, 3);
+    let accepted = is_pair(text, 0, 1, ZERO);
+    let repeated = is_repeated(text);
     match f {
         Frame::Malformed => no_event(),
         Frame::Fresh(_) => start_event(accepted),

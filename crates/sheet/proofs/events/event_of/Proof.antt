@@ -6,11 +6,11 @@ use borrow.Author.Needs.{needs}
 use Rattle.sheet.proofs.events.event_of.Statement.{statement}
 use Rattle.sheet.proofs.events.event_of.Tie as tie
 
-is-zero-requires : tie.Need-is-zero-requires
-is-zero-requires c κs = search needs
+is-pair-requires : tie.Need-is-pair-requires
+is-pair-requires c κs = search needs
 
-is-zero-requires-2 : tie.Need-is-zero-requires-2
-is-zero-requires-2 c κs = search needs
+is-repeated-requires : tie.Need-is-repeated-requires
+is-repeated-requires c κs = search needs
 
 enum-told : tie.Need-enum-told
 enum-told c = search needs
@@ -88,7 +88,7 @@ returns : tie.Need-returns
 returns c = rw (c .before .enum-told .given .1) (c .no-event .ensures)
 
 returns-2 : tie.Need-returns-2
-returns-2 c = rw (c .before .enum-told2 .given .1) (c .start-event .ensures ∙ ap (λ (b : Bool). startEvent b) (c .before .before .before .before .is-zero .ensures))
+returns-2 c = rw (c .before .enum-told2 .given .1) (c .start-event .ensures ∙ ap (λ (b : Bool). startEvent b) (c .before .before .before .before .is-pair .ensures))
 
 returns-3 : tie.Need-returns-3
 returns-3 c = rw (c .before .enum-told3 .given .1) (c .no-event2 .ensures)
@@ -97,10 +97,10 @@ returns-4 : tie.Need-returns-4
 returns-4 c = rw (c .before .enum-told4 .given .1) (c .no-event3 .ensures)
 
 returns-5 : tie.Need-returns-5
-returns-5 c = rw (c .before .before .f .given .1, sym (c .before .before .before .before .before .is-zero .ensures)) (c .ask-event .ensures)
+returns-5 c = rw (c .before .before .f .given .1, sym (c .before .before .before .before .before .is-pair .ensures)) (c .ask-event .ensures)
 
 returns-6 : tie.Need-returns-6
-returns-6 c = rw (c .before .before .f2 .given .1, sym (c .before .before .before .before .before .is-zero .ensures), sym (c .before .before .before .before .is-zero2 .ensures)) (c .report-event .ensures)
+returns-6 c = rw (c .before .before .f2 .given .1, sym (c .before .before .before .before .before .is-pair .ensures), sym (c .before .before .before .before .is-repeated .ensures)) (c .report-event .ensures)
 
 returns-7 : tie.Need-returns-7
 returns-7 c = rw (c .before .enum-told5 .given .1) (c .no-event4 .ensures)
@@ -121,4 +121,4 @@ returns-12 : tie.Need-returns-12
 returns-12 c = rw (c .before .enum-told10 .given .1) (c .no-event9 .ensures)
 
 pub event-of-spec : {M : Type 1} → statement M
-event-of-spec = tie.close (tie.spec is-zero-requires is-zero-requires-2 enum-told no-event-requires enum-told-2 start-event-requires enum-told-3 no-event-requires-2 enum-told-4 no-event-requires-3 enum-known-f ask-event-requires enum-known-f-2 report-event-requires enum-told-5 no-event-requires-4 enum-told-6 no-event-requires-5 enum-told-7 no-event-requires-6 enum-told-8 no-event-requires-7 enum-told-9 no-event-requires-8 enum-told-10 no-event-requires-9 returns returns-2 returns-3 returns-4 returns-5 returns-6 returns-7 returns-8 returns-9 returns-10 returns-11 returns-12)
+event-of-spec = tie.close (tie.spec is-pair-requires is-repeated-requires enum-told no-event-requires enum-told-2 start-event-requires enum-told-3 no-event-requires-2 enum-told-4 no-event-requires-3 enum-known-f ask-event-requires enum-known-f-2 report-event-requires enum-told-5 no-event-requires-4 enum-told-6 no-event-requires-5 enum-told-7 no-event-requires-6 enum-told-8 no-event-requires-7 enum-told-9 no-event-requires-8 enum-told-10 no-event-requires-9 returns returns-2 returns-3 returns-4 returns-5 returns-6 returns-7 returns-8 returns-9 returns-10 returns-11 returns-12)
