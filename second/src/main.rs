@@ -268,30 +268,33 @@ fn played(played: &Played) -> Result<ExitCode, String> {
     Ok(if played.well { ExitCode::SUCCESS } else { ExitCode::from(1) })
 }
 
-/// `--block B --record R [--sequence] [--check]`, and for writing `[--bcd]`, in any order, each once.
+/// `--block B --record R [--sequence] [--check]`, and for writing `[--bcd]`, in any order; the last of several counts.
 fn reel_options(options: &[&str], writes: bool) -> Result<(Sizes, Parity), String> {
-    let (mut sizes, mut parity) = (Sizes::default(), Parity::Odd);
-    let mut seen = Vec::new();
+    let (mut block, mut record, mut parity) = (None, None, Parity::Odd);
+    let (mut sequence, mut check) = (false, false);
     let mut rest = options.iter();
     while let Some(&option) = rest.next() {
-        if seen.contains(&option) {
-            return Err(format!("`{option}` twice"));
-        }
-        seen.push(option);
-        let mut size = || number(rest.next().copied().unwrap_or_default());
+        let mut size = || reel_size(rest.next().copied().unwrap_or_default());
         match option {
-            "--block" => sizes.block = size()?,
-            "--record" => sizes.record = size()?,
-            "--sequence" => sizes.sequence = true,
-            "--check" => sizes.check = true,
+            "--block" => block = Some(size()?),
+            "--record" => record = Some(size()?),
+            "--sequence" => sequence = true,
+            "--check" => check = true,
             "--bcd" if writes => parity = Parity::Even,
             _ => return Err(format!("no option `{option}`")),
         }
     }
-    if !seen.contains(&"--block") || !seen.contains(&"--record") {
-        return Err("--block and --record are needed".to_string());
+    match (block, record) {
+        (Some(block), Some(record)) => Ok((Sizes { block, record, sequence, check }, parity)),
+        _ => Err("--block and --record are needed".to_string()),
     }
-    Ok((sizes, parity))
+}
+
+/// "A size is a decimal number of up to five digits, at most 65,535, else the command is wrong".
+fn reel_size(text: &str) -> Result<u64, String> {
+    let digits = text.len() <= 5 && text.bytes().all(|byte| byte.is_ascii_digit());
+    let size = number(text).ok().filter(|&size| digits && size <= 65_535);
+    size.ok_or(format!("`{text}` is no number from 0 to 65535"))
 }
 
 /// Prints to standard output.
@@ -350,6 +353,12 @@ mod tests {
         let sizes = Sizes { block: 5, record: 2, sequence: false, check: true };
         assert_eq!(options("--block 5 --record 2 --check", false), Ok((sizes, Parity::Odd)));
         assert_eq!(options("--check --bcd --record 2 --block 5", true), Ok((sizes, Parity::Even)));
+        assert_eq!(
+            options("--record 9 --block 00005 --check --record 02 --check", true),
+            Ok((sizes, Parity::Odd))
+        );
+        let largest = Sizes { block: 65_535, record: 0, ..Sizes::default() };
+        assert_eq!(options("--block 65535 --record 0", false), Ok((largest, Parity::Odd)));
         for wrong in [
             "",
             "--block 5",
@@ -357,8 +366,10 @@ mod tests {
             "--block --record 2",
             "--block x --record 2",
             "--block 5 --record 2 --bcd",
-            "--block 5 --record 2 --block 5",
-            "--block 5 --record 2 --check --check",
+            "--block 65536 --record 2",
+            "--block 5 --record 000002",
+            "--block +5 --record 2",
+            "--block 5 --record",
             "--block 5 --record 2 file",
         ] {
             assert!(options(wrong, false).is_err(), "{wrong}");

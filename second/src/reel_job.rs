@@ -1,20 +1,20 @@
 //! The subcommands `reel write` and `reel read`: a reel written and read through the pack's own calls, with
 //! check words (document 01) on a tape image (document 02, M-100).
 //!
-//! The texts, where the request for these commands leaves them open:
+//! The texts, where the request for these commands leaves them open, are those that the repository's page of
+//! decisions gives for `./reel write` and `./reel read`:
 //!
-//! - A line of records that is refused: `refused N at line L: SENTENCE` on standard error, as `reel make` has it;
-//!   what was sent before it stands, the open block is not sent. 1 comes before 2, 2 before 13.
-//! - Sizes that the pack's open refuses: `refused 13: a record has 1 to B words, and a block with its check word at
-//!   most 1,024` on standard error, and nothing else.
-//! - A block in error: `ERROR KIND in block N; worked out: sum S, number M; read: sum S, number M` on standard
-//!   output before its records, KIND being `sequence`, `check sum` or `sequence and check sum`, all numbers decimal.
-//! - A block that the pack refuses: `REFUSED 13 in block N: a block has F to M words` on standard output, in its
-//!   place among the records.
+//! - A line of records that is refused: `refused N at line L: SENTENCE` on standard error; the lowest number that
+//!   applies, but 13 for every line of more than 10,248 characters. What stands before it is on the reel: the block
+//!   that has begun is sealed and sent.
+//! - Sizes that the pack's open refuses: `refused 13: SENTENCE` on standard error, and nothing else.
+//! - A block in error: `ERROR block N of the reel: KIND. FOUND. MEANING` on standard output before its records.
+//! - A block that the pack refuses: `REFUSED block N of the reel: 13, FOUND.` on standard output, in its place among
+//!   the records. It is not delivered.
 //! - N is the number of the block on the reel as `reel list` counts, marks counted too.
-//! - The last line of reading, on standard error after the line of a fault: `F files, B blocks, R records, E errors`.
-//!   A file ends at its mark, or at the end if a block stands after the last mark; refused blocks are counted among
-//!   the blocks and among the errors; leftovers are no records.
+//! - The last line of reading, on standard error after the line of a fault: `reel: files F, blocks B, records R,
+//!   errors E`. A file ends at its mark, or at the end if a block stands after the last mark; refused blocks are
+//!   counted among the blocks; errors are `ERROR` and `REFUSED` lines and the fault; leftovers are no records.
 
 use crate::pack::{Got, Opening, Pack, CHECK, MOST_WIDTH, OUTPUT, SEQUENCE};
 use crate::reel::{fault_text, read_image, Record};
@@ -27,6 +27,8 @@ const WRITE: u64 = 1;
 const MARK: u64 = 2;
 const GOOD: u64 = 0;
 const FILE_MARK: u64 = 3;
+/// "A line of more than 10,248 characters is 13 whatever they are."
+const MOST_CHARACTERS: usize = 10_248;
 
 /// How a reel is written or read.
 #[derive(Clone, Copy, Debug, Default, PartialEq, Eq)]
@@ -65,7 +67,7 @@ impl Sizes {
 }
 
 impl Job {
-    /// Opens the file; 13 if its sizes do not fit.
+    /// Opens the file; 13 if its sizes do not fit. "B + e is at most 1,024".
     fn open(sizes: Sizes, direction: u64) -> Result<Job, u64> {
         let mut pack = Pack::new(MOST_WIDTH as usize);
         pack.fresh(1, MOST_WIDTH, [1, 0, 0, 0, 0])?;
@@ -79,6 +81,15 @@ impl Job {
         let flags = self.direction + self.sizes.flags();
         let Sizes { block: block_size, record: record_length, .. } = self.sizes;
         self.pack.open(&Opening { file: 0, channel: 0, unit: 0, flags, block_size, record_length })
+    }
+
+    /// Puts the record of a line, or refuses the line.
+    fn put(&mut self, line: &[u8]) -> Result<(), u64> {
+        if line.len() > MOST_CHARACTERS {
+            return Err(13);
+        }
+        let words = words_of_line(line).ok_or(1_u64)?;
+        self.pack.put(0, &words)
     }
 
     /// Sends a full block, if there is one.
@@ -104,8 +115,9 @@ impl Job {
 }
 
 fn refused_sizes() -> Played {
-    let sentence = "a record has 1 to B words, and a block with its check word at most 1,024";
-    Played { output: Vec::new(), said: vec![format!("refused 13: {sentence}")], well: false }
+    let block = "a block has 1 to 1,024 words with its check word";
+    let record = "a record 1 to as many words as a block without it";
+    Played { output: Vec::new(), said: vec![format!("refused 13: {block}, and {record}")], well: false }
 }
 
 /// Writes the records of a text to an image.
@@ -122,18 +134,15 @@ pub fn write_reel(text: &[u8], sizes: Sizes, parity: Parity) -> Played {
             job.mark();
             sent.push(Record::Mark);
         } else {
-            let put = words_of_line(line).ok_or(1).and_then(|words| job.pack.put(0, &words));
-            if let Err(number) = put {
+            if let Err(number) = job.put(line) {
                 said.push(format!("refused {number} at line {}: {}", index + 1, put_sentence(number, sizes)));
                 break;
             }
             sent.extend(job.send());
         }
     }
-    // "At the end of TEXT an open block is sealed and sent"; after a refused line nothing more is.
-    if said.is_empty() {
-        sent.extend(job.seal_and_send());
-    }
+    // "At the end of TEXT an open block is sealed and sent", and so it is at a line that is refused.
+    sent.extend(job.seal_and_send());
     let output = sent.iter().flat_map(|record| bytes_of(record, parity)).collect();
     Played { output, well: said.is_empty(), said }
 }
@@ -142,7 +151,7 @@ fn put_sentence(number: u64, sizes: Sizes) -> String {
     match number {
         1 => "this is no line of words".to_string(),
         2 => "a word is 2^36 or more".to_string(),
-        _ => format!("a record has {} words", sizes.record),
+        _ => format!("a record here has words {}", sizes.record),
     }
 }
 
@@ -177,7 +186,7 @@ pub fn read_reel(image: &[u8], sizes: Sizes) -> Played {
                     Ok(_) => lines.extend(job.gets(index + 1, &mut counts)),
                     Err(number) => {
                         counts.errors += 1;
-                        lines.push(refused_block(number, index + 1, sizes));
+                        lines.push(refused_block(number, index + 1, words.len(), sizes));
                     }
                 }
             }
@@ -193,11 +202,11 @@ pub fn read_reel(image: &[u8], sizes: Sizes) -> Played {
     }
     counts.files += u64::from(begun);
     let mut said: Vec<String> = reel.fault.map(fault_text).into_iter().collect();
-    let well = said.is_empty() && counts.errors == 0;
+    counts.errors += said.len() as u64;
     let Counts { files, blocks, records, errors } = counts;
-    said.push(format!("{files} files, {blocks} blocks, {records} records, {errors} errors"));
+    said.push(format!("reel: files {files}, blocks {blocks}, records {records}, errors {errors}"));
     let output = lines.into_iter().flat_map(|line| (line + "\n").into_bytes()).collect();
-    Played { output, said, well }
+    Played { output, said, well: errors == 0 }
 }
 
 impl Job {
@@ -213,7 +222,7 @@ impl Job {
                 Got::Leftover(words) => lines.push(format!("LEFTOVER {}", digits_of(words))),
                 Got::Error(judged) => {
                     counts.errors += 1;
-                    lines.push(error_line(judged, number));
+                    lines.push(error_line(judged, number, self.sizes));
                 }
                 Got::NothingYet | Got::End => return lines,
             }
@@ -225,23 +234,28 @@ fn digits_of(words: &[u64]) -> String {
     words.iter().map(|word| format!("{word:010X}")).collect()
 }
 
-/// "Error 1 is sequence, 2 check sum, 3 both."
-fn error_line(Judged { error, fields }: Judged, number: usize) -> String {
-    let kind = match error {
-        1 => "sequence",
-        2 => "check sum",
-        _ => "sequence and check sum",
+/// "Error 1 is sequence, 2 check sum, 3 both." Numbers are decimal, sums six octal digits.
+fn error_line(Judged { error, fields }: Judged, number: usize, sizes: Sizes) -> String {
+    let (kind, meaning) = match error {
+        1 => ("sequence", "A block before it is missing or doubled, or it is out of place."),
+        2 => ("check sum", "A word of it is not as it was sent."),
+        _ => ("sequence and check sum", "It is not the block that was sent in this place."),
     };
-    let [sum, made, sum_read, number_read] = fields.in_order();
-    format!(
-        "ERROR {kind} in block {number}; worked out: sum {sum}, number {made}; read: sum {sum_read}, number {number_read}"
-    )
+    let [sum, due, sum_read, number_read] = fields.in_order();
+    let compared = |chosen: bool| if chosen { "" } else { " (not compared)" };
+    let numbers = format!("Number due {due}, read {number_read}{}", compared(sizes.sequence));
+    let sums = format!("sum of its words {sum:06o}, read {sum_read:06o}{}, octal", compared(sizes.check));
+    format!("ERROR block {number} of the reel: {kind}. {numbers}; {sums}. {meaning}")
 }
 
-/// "A delivered block has 1 + e to B + e words, else 13."
-fn refused_block(refusal: u64, number: usize, sizes: Sizes) -> String {
+/// "A delivered block has 1 + e to B + e words, else 13."; 2 is for a word that no image can hold.
+fn refused_block(refusal: u64, number: usize, words: usize, sizes: Sizes) -> String {
     let (fewest, most) = (1 + sizes.e(), sizes.block + sizes.e());
-    format!("REFUSED {refusal} in block {number}: a block has {fewest} to {most} words")
+    let found = match refusal {
+        2 => "a word is 2^36 or more".to_string(),
+        _ => format!("it has words {words}, and a block here has {fewest} to {most}"),
+    };
+    format!("REFUSED block {number} of the reel: {refusal}, {found}.")
 }
 
 #[cfg(test)]
@@ -292,30 +306,38 @@ mod tests {
         assert_ne!(plain, write_reel(text.as_bytes(), sizes(5, 2, 0), Parity::Odd).output);
         let (given, said, well) = read(&written.output, sizes(5, 2, 3));
         assert_eq!((given, well), (text, true));
-        assert_eq!(said, ["3 files, 3 blocks, 4 records, 0 errors"]);
+        assert_eq!(said, ["reel: files 3, blocks 3, records 4, errors 0"]);
     }
 
     #[test]
     fn lines_that_are_refused() {
         let one = digits_of(&[1]);
+        let many = |word: &str, count| word.repeat(count);
         for (line, refusal) in [
-            ("", "13 at line 3: a record has 1 words"),
-            ("00000000010000000002", "13 at line 3: a record has 1 words"),
-            ("1000000000", "2 at line 3: a word is 2^36 or more"),
-            ("10000000000000000001", "2 at line 3: a word is 2^36 or more"),
-            ("000000000", "1 at line 3: this is no line of words"),
-            ("000000000a", "1 at line 3: this is no line of words"),
-            ("MARK ", "1 at line 3: this is no line of words"),
-            ("F00000000g", "1 at line 3: this is no line of words"),
+            (String::new(), "13 at line 4: a record here has words 1"),
+            (many(&one, 2), "13 at line 4: a record here has words 1"),
+            (many(&one, 1_025), "13 at line 4: a record here has words 1"),
+            (many(&one, 1_024), "13 at line 4: a record here has words 1"),
+            (many("x", 10_249), "13 at line 4: a record here has words 1"),
+            (many("F", 10_260), "13 at line 4: a record here has words 1"),
+            (many("1000000000", 1), "2 at line 4: a word is 2^36 or more"),
+            (many("1000000000", 1_024), "2 at line 4: a word is 2^36 or more"),
+            (format!("1000000000{one}"), "2 at line 4: a word is 2^36 or more"),
+            (many("0", 9), "1 at line 4: this is no line of words"),
+            (many("x", 10_248), "1 at line 4: this is no line of words"),
+            (many("0", 10_248), "1 at line 4: this is no line of words"),
+            ("000000000a".to_string(), "1 at line 4: this is no line of words"),
+            ("MARK ".to_string(), "1 at line 4: this is no line of words"),
+            ("F00000000g".to_string(), "1 at line 4: this is no line of words"),
         ] {
-            let text = format!("{one}\n{one}\n{line}\n{one}\n");
+            let text = format!("{one}\n{one}\n{one}\n{line}\n{one}\n");
             let played = write_reel(text.as_bytes(), sizes(2, 1, 0), Parity::Odd);
             assert_eq!(played.said, [format!("refused {refusal}")], "{line}");
             assert!(!played.well);
-            assert_eq!(words_on(&played.output), [block(&[1, 1])], "{line}");
-            // The open block is not sent.
-            let played = write_reel(text.as_bytes(), sizes(3, 1, 0), Parity::Odd);
-            assert!(played.output.is_empty() && !played.well);
+            // The block that has begun is sealed and sent.
+            assert_eq!(words_on(&played.output), [block(&[1, 1]), block(&[1])], "{line}");
+            let played = write_reel(text.as_bytes(), sizes(3, 1, 1), Parity::Odd);
+            assert_eq!(words_on(&played.output), [block(&[1, 1, 1, 1])], "{line}");
         }
     }
 
@@ -329,7 +351,13 @@ mod tests {
                 read_reel(b"", sizes(block, record, choice)),
             ] {
                 assert!(played.output.is_empty() && !played.well);
-                assert!(played.said[0].starts_with("refused 13: ") && played.said.len() == 1);
+                assert_eq!(
+                    played.said,
+                    [concat!(
+                        "refused 13: a block has 1 to 1,024 words with its check word, ",
+                        "and a record 1 to as many words as a block without it"
+                    )]
+                );
             }
         }
         assert!(write_reel(b"", sizes(1_023, 1_023, 2), Parity::Odd).well);
@@ -342,7 +370,7 @@ mod tests {
         let text = text_of(&[
             &[1, 2, 3 << 18 | 2],
             &[1, 2, 3, 7 << 18 | 2],
-            &[5, 6 << 18 | 9],
+            &[10, 6 << 18 | 9],
             &[1, 2, 3, 4, 5, 6],
             &[9],
             &[4, 5, 9 << 18 | 4],
@@ -352,22 +380,59 @@ mod tests {
         let image = make_image(text.as_bytes(), Parity::Odd).output;
         let (given, said, well) = read(&image, sizes(4, 2, 3));
         let expected = [
-            "ERROR sequence in block 1; worked out: sum 3, number 1; read: sum 3, number 2".to_string(),
-            digits_of(&[1, 2]),
-            "ERROR check sum in block 2; worked out: sum 6, number 2; read: sum 7, number 2".to_string(),
-            digits_of(&[1, 2]),
-            format!("LEFTOVER {}", digits_of(&[3])),
-            "ERROR sequence and check sum in block 3; worked out: sum 5, number 3; read: sum 6, number 9"
-                .to_string(),
-            format!("LEFTOVER {}", digits_of(&[5])),
-            "REFUSED 13 in block 4: a block has 2 to 5 words".to_string(),
-            "REFUSED 13 in block 5: a block has 2 to 5 words".to_string(),
-            digits_of(&[4, 5]),
-            "MARK".to_string(),
-            digits_of(&[4, 5]),
+            concat!(
+                "ERROR block 1 of the reel: sequence. Number due 1, read 2; sum of its words 000003, ",
+                "read 000003, octal. A block before it is missing or doubled, or it is out of place."
+            ),
+            &digits_of(&[1, 2]),
+            concat!(
+                "ERROR block 2 of the reel: check sum. Number due 2, read 2; sum of its words 000006, ",
+                "read 000007, octal. A word of it is not as it was sent."
+            ),
+            &digits_of(&[1, 2]),
+            &format!("LEFTOVER {}", digits_of(&[3])),
+            concat!(
+                "ERROR block 3 of the reel: sequence and check sum. Number due 3, read 9; sum of its words ",
+                "000012, read 000006, octal. It is not the block that was sent in this place."
+            ),
+            &format!("LEFTOVER {}", digits_of(&[10])),
+            "REFUSED block 4 of the reel: 13, it has words 6, and a block here has 2 to 5.",
+            "REFUSED block 5 of the reel: 13, it has words 1, and a block here has 2 to 5.",
+            &digits_of(&[4, 5]),
+            "MARK",
+            &digits_of(&[4, 5]),
         ];
         assert_eq!(given.lines().collect::<Vec<&str>>(), expected);
-        assert_eq!((said, well), (vec!["2 files, 7 blocks, 4 records, 5 errors".to_string()], false));
+        assert_eq!((said, well), (vec!["reel: files 2, blocks 7, records 4, errors 5".to_string()], false));
+    }
+
+    /// What was not chosen is told and not compared.
+    #[test]
+    fn one_field_alone() {
+        let image = make_image(text_of(&[&[8, 7 << 18 | 9]]).as_bytes(), Parity::Odd).output;
+        for (choice, line) in [
+            (
+                1,
+                concat!(
+                    "sequence. Number due 1, read 9; sum of its words 000010, read 000007 (not compared), octal. ",
+                    "A block before it is missing or doubled, or it is out of place."
+                ),
+            ),
+            (
+                2,
+                concat!(
+                    "check sum. Number due 1, read 9 (not compared); sum of its words 000010, read 000007, octal. ",
+                    "A word of it is not as it was sent."
+                ),
+            ),
+        ] {
+            let (given, said, well) = read(&image, sizes(2, 1, choice));
+            assert_eq!(given, format!("ERROR block 1 of the reel: {line}\n0000000008\n"));
+            assert_eq!(
+                (said, well),
+                (vec!["reel: files 1, blocks 1, records 1, errors 1".to_string()], false)
+            );
+        }
     }
 
     #[test]
@@ -379,12 +444,12 @@ mod tests {
         assert!(!well);
         assert_eq!(
             said,
-            ["refused 21 at byte 18: the record is cut", "1 files, 1 blocks, 1 records, 0 errors"]
+            ["refused 21 at byte 18: the record is cut", "reel: files 1, blocks 1, records 1, errors 1"]
         );
         let (given, said, well) = read(b"", sizes(1, 1, 0));
         assert_eq!(
             (given.as_str(), said, well),
-            ("", vec!["0 files, 0 blocks, 0 records, 0 errors".to_string()], true)
+            ("", vec!["reel: files 0, blocks 0, records 0, errors 0".to_string()], true)
         );
     }
 
@@ -409,7 +474,7 @@ mod tests {
             assert!(written.well && written.said.is_empty(), "{seed}");
             let (given, said, well) = read(&written.output, sizes);
             assert_eq!((given, well), (text, true), "{seed}");
-            assert!(said[0].ends_with(" 0 errors"), "{seed}");
+            assert!(said[0].ends_with(", errors 0"), "{seed}");
         }
     }
 
