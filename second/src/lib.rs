@@ -30,6 +30,7 @@ pub mod random;
 pub mod reach;
 pub mod reel;
 pub mod reel_cases;
+pub mod reel_job;
 pub mod reel_make;
 pub mod refusals;
 pub mod session;

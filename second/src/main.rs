@@ -22,6 +22,7 @@ use second::profile::Profile;
 use second::program::play_with;
 use second::reel::{show_image, Form, Written};
 use second::reel_cases::write_reel_cases;
+use second::reel_job::{read_reel, write_reel, Played, Sizes};
 use second::reel_make::{make_image, Parity};
 use second::sheet::sheet_texts;
 use second::sheet_cases::write_sheet_cases;
@@ -50,9 +51,9 @@ second: documents 01 and 02 of Plorrettix, written a second time
   words, channel, files, pack    answer cases of check words, of one channel,
       of one file and its buffers, of calls on a state and an area by hand
   word-cases, channel-events, file-walks, pack-cases   print fixed cases
-  plan                           proposes buffers for a list of openings
-  plan-check LIST PROPOSAL       accepts a proposal for a list, or says why not
+  plan; plan-check LIST PROPOSAL   proposes buffers for openings; judges them
   reel list|words|octal          shows a tape image; reel make [--bcd] makes one
+  reel write|read --block B --record R [--sequence] [--check]   by the pack
   sheet SESSION ANSWERS          the first frame that differs, and the requests
   plan-cases, reel-cases, sheet-cases DIR SEED COUNT   write random cases N.*
   help                           prints this
@@ -95,6 +96,14 @@ fn run(arguments: &[String]) -> Result<ExitCode, String> {
         ["reel", "octal"] => return written(&show_image(&standard_bytes()?, Form::Octal)),
         ["reel", "make"] => return written(&make_image(&standard_bytes()?, Parity::Odd)),
         ["reel", "make", "--bcd"] => return written(&make_image(&standard_bytes()?, Parity::Even)),
+        ["reel", "write", ref options @ ..] => {
+            let (sizes, parity) = reel_options(options, true)?;
+            return played(&write_reel(&standard_bytes()?, sizes, parity));
+        }
+        ["reel", "read", ref options @ ..] => {
+            let (sizes, _) = reel_options(options, false)?;
+            return played(&read_reel(&standard_bytes()?, sizes));
+        }
         ["reel-cases", folder, seed, count] => {
             write_reel_cases(Path::new(folder), number(seed)?, number(count)?)?;
         }
@@ -250,6 +259,44 @@ fn written(written: &Written) -> Result<ExitCode, String> {
     })
 }
 
+/// Writes what was made of a reel through the pack, then what is said of it to standard error.
+fn played(played: &Played) -> Result<ExitCode, String> {
+    print_bytes(&played.output)?;
+    for line in &played.said {
+        eprintln!("{line}");
+    }
+    Ok(if played.well { ExitCode::SUCCESS } else { ExitCode::from(1) })
+}
+
+/// `--block B --record R [--sequence] [--check]`, and for writing `[--bcd]`, in any order; the last of several counts.
+fn reel_options(options: &[&str], writes: bool) -> Result<(Sizes, Parity), String> {
+    let (mut block, mut record, mut parity) = (None, None, Parity::Odd);
+    let (mut sequence, mut check) = (false, false);
+    let mut rest = options.iter();
+    while let Some(&option) = rest.next() {
+        let mut size = || reel_size(rest.next().copied().unwrap_or_default());
+        match option {
+            "--block" => block = Some(size()?),
+            "--record" => record = Some(size()?),
+            "--sequence" => sequence = true,
+            "--check" => check = true,
+            "--bcd" if writes => parity = Parity::Even,
+            _ => return Err(format!("no option `{option}`")),
+        }
+    }
+    match (block, record) {
+        (Some(block), Some(record)) => Ok((Sizes { block, record, sequence, check }, parity)),
+        _ => Err("--block and --record are needed".to_string()),
+    }
+}
+
+/// "A size is a decimal number of up to five digits, at most 65,535, else the command is wrong".
+fn reel_size(text: &str) -> Result<u64, String> {
+    let digits = text.len() <= 5 && text.bytes().all(|byte| byte.is_ascii_digit());
+    let size = number(text).ok().filter(|&size| digits && size <= 65_535);
+    size.ok_or(format!("`{text}` is no number from 0 to 65535"))
+}
+
 /// Prints to standard output.
 fn print(output: &str) -> Result<(), String> {
     print_bytes(output.as_bytes())
@@ -296,6 +343,36 @@ mod tests {
         for given in ["", "--seed 1", "--seed x other", "--profile none other", "--speed other", "--count"] {
             let arguments = strings(&given.split_terminator(' ').collect::<Vec<&str>>());
             assert!(compare_options(&arguments).is_err(), "{given}");
+        }
+    }
+
+    #[test]
+    fn options_of_reels() {
+        let options =
+            |given: &str, writes| reel_options(&given.split_terminator(' ').collect::<Vec<&str>>(), writes);
+        let sizes = Sizes { block: 5, record: 2, sequence: false, check: true };
+        assert_eq!(options("--block 5 --record 2 --check", false), Ok((sizes, Parity::Odd)));
+        assert_eq!(options("--check --bcd --record 2 --block 5", true), Ok((sizes, Parity::Even)));
+        assert_eq!(
+            options("--record 9 --block 00005 --check --record 02 --check", true),
+            Ok((sizes, Parity::Odd))
+        );
+        let largest = Sizes { block: 65_535, record: 0, ..Sizes::default() };
+        assert_eq!(options("--block 65535 --record 0", false), Ok((largest, Parity::Odd)));
+        for wrong in [
+            "",
+            "--block 5",
+            "--record 2",
+            "--block --record 2",
+            "--block x --record 2",
+            "--block 5 --record 2 --bcd",
+            "--block 65536 --record 2",
+            "--block 5 --record 000002",
+            "--block +5 --record 2",
+            "--block 5 --record",
+            "--block 5 --record 2 file",
+        ] {
+            assert!(options(wrong, false).is_err(), "{wrong}");
         }
     }
 

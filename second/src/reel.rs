@@ -113,7 +113,7 @@ pub fn show_image(image: &[u8], form: Form) -> Written {
     if form == Form::List && reel.fault.is_none() {
         output += &format!("end, {} bytes\n", image.len());
     }
-    Written { output: output.into_bytes(), refusal: reel.fault.map(refusal_text) }
+    Written { output: output.into_bytes(), refusal: reel.fault.map(fault_text) }
 }
 
 fn listed(number: usize, record: &Record) -> String {
@@ -130,7 +130,8 @@ fn joined(record: &Record, between: &str, digits: impl Fn(&u64) -> String) -> St
     }
 }
 
-fn refusal_text(Fault { number, place }: Fault) -> String {
+/// The line that names a fault.
+pub fn fault_text(Fault { number, place }: Fault) -> String {
     let sentence = match number {
         20 => "the two lengths differ",
         21 => "the record is cut",

@@ -1,7 +1,9 @@
 //! The subcommand `reel-cases`: random tape images for `reel list`, `words` and `octal`, and texts for
-//! `reel make`, good and wrong in every way, written to files.
+//! `reel make`, good and wrong in every way, written to files; and sizes, texts of records and images for `reel write`
+//! and `reel read`.
 
 mod images;
+mod jobs;
 mod texts;
 
 use std::path::Path;
@@ -9,11 +11,16 @@ use std::path::Path;
 use crate::folder::write_file;
 use crate::random::Random;
 
-/// Writes `N.tap` and `N.text` into a folder, N from 1 to `count`.
+/// Writes `N.tap` and `N.text` into a folder, and `N.options`, `N.records` and `N.posted` for the pack, N from 1 to
+/// `count`.
 pub fn write_reel_cases(folder: &Path, seed: u64, count: u64) -> Result<(), String> {
     for number in 1..=count {
         write_file(folder, &format!("{number}.tap"), &image_case(seed, number))?;
         write_file(folder, &format!("{number}.text"), &text_case(seed, number))?;
+        let job = job_case(seed, number);
+        write_file(folder, &format!("{number}.options"), jobs::options_of(job.sizes).as_bytes())?;
+        write_file(folder, &format!("{number}.records"), &job.text)?;
+        write_file(folder, &format!("{number}.posted"), &job.image)?;
     }
     Ok(())
 }
@@ -34,10 +41,17 @@ pub fn text_case(seed: u64, number: u64) -> Vec<u8> {
     texts::draw(&mut Random::of(seed, u64::MAX - number))
 }
 
+/// Sizes, a text of records and an image of a seed.
+fn job_case(seed: u64, number: u64) -> jobs::Job {
+    // Cases of their own between those of the images and those of the texts.
+    jobs::draw(&mut Random::of(seed, u64::MAX / 2 + number), number)
+}
+
 #[cfg(test)]
 mod tests {
     use super::*;
     use crate::reel::{read_image, Record};
+    use crate::reel_job::{read_reel, write_reel};
     use crate::reel_make::{make_image, Parity};
     use std::collections::{BTreeMap, BTreeSet};
 
@@ -115,6 +129,58 @@ mod tests {
         assert!(met.keys().eq(["", "refused 1", "refused 13", "refused 2"]), "{met:?}");
         assert!(met.values().all(|&count| count >= CASES / 20), "{met:?}");
         assert!(longest > 20_000 && later >= CASES / 5);
+    }
+
+    /// What a reader or a writer is told, without numbers.
+    fn sorts_of(job: &jobs::Job) -> BTreeSet<String> {
+        let written = write_reel(&job.text, job.sizes, Parity::Odd);
+        let read = read_reel(&job.image, job.sizes);
+        let lines = String::from_utf8(read.output).expect("text");
+        let mut sorts = BTreeSet::new();
+        for line in lines.lines().map(str::to_string).chain(written.said).chain(read.said) {
+            let sort = match line.split(' ').collect::<Vec<&str>>()[..] {
+                ["refused", number, "at", what, ..] => format!("refused {number} {what}"),
+                ["refused", number, ..] => format!("refused {number}"),
+                ["ERROR", _, _, _, _, "reel:", "sequence", ..] => "both".to_string(),
+                ["ERROR", _, _, _, _, "reel:", kind, ..] => kind.to_string(),
+                [first, ..] => first.to_string(),
+                [] => String::new(),
+            };
+            if sort.as_bytes()[0].is_ascii_alphabetic() {
+                sorts.insert(sort);
+            }
+        }
+        sorts
+    }
+
+    /// The cases that are run by default meet all that can be told, and each of it again and again in many.
+    #[test]
+    fn whatever_the_pack_says_of_a_reel_is_met() {
+        let told = [
+            "LEFTOVER",
+            "MARK",
+            "REFUSED",
+            "both",
+            "check",
+            "reel:",
+            "refused 1 line",
+            "refused 13 line",
+            "refused 13:",
+            "refused 2 line",
+            "refused 20 byte",
+            "refused 21 byte",
+            "refused 22 byte",
+            "refused 23 byte",
+            "sequence.",
+        ];
+        let few: BTreeSet<String> = (1..=24).flat_map(|number| sorts_of(&job_case(1, number))).collect();
+        let mut met = BTreeMap::<String, u64>::new();
+        for sort in (1..=600).flat_map(|number| sorts_of(&job_case(2, number))) {
+            *met.entry(sort).or_default() += 1;
+        }
+        assert!(met.keys().eq(told), "{met:?}");
+        assert!(met.values().all(|&count| count >= 10), "{met:?}");
+        assert!(few.iter().eq(told), "{few:?}");
     }
 
     #[test]

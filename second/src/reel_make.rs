@@ -36,10 +36,7 @@ fn record_of(line: &[u8]) -> Result<Record, u64> {
     if line == b"MARK" {
         return Ok(Record::Mark);
     }
-    let digits: Option<Vec<u64>> = line.iter().map(|&byte| digit_of(byte)).collect();
-    let digits = digits.filter(|digits| digits.len() % WORD_DIGITS == 0).ok_or(1_u64)?;
-    let word = |digits: &[u64]| digits.iter().fold(0, |word, digit| word << 4 | digit);
-    let words: Vec<u64> = digits.chunks_exact(WORD_DIGITS).map(word).collect();
+    let words = words_of_line(line).ok_or(1_u64)?;
     if !words.iter().all(|&word| is_word(word)) {
         return Err(2);
     }
@@ -47,6 +44,15 @@ fn record_of(line: &[u8]) -> Result<Record, u64> {
         return Err(13);
     }
     Ok(Record::Block(words))
+}
+
+/// The words of a line, each of ten digits and so perhaps too large; nothing if other characters stand there or the
+/// digits are no multiple of ten.
+pub fn words_of_line(line: &[u8]) -> Option<Vec<u64>> {
+    let digits: Option<Vec<u64>> = line.iter().map(|&byte| digit_of(byte)).collect();
+    let digits = digits.filter(|digits| digits.len() % WORD_DIGITS == 0)?;
+    let word = |digits: &[u64]| digits.iter().fold(0, |word, digit| word << 4 | digit);
+    Some(digits.chunks_exact(WORD_DIGITS).map(word).collect())
 }
 
 /// The value of an upper-case hexadecimal digit.

@@ -54,6 +54,54 @@ fn a_refusal_follows_what_was_made() {
     gives(&["reel", "make"], b"MARK\n\nMARK\n", &Written { output: vec![0; 4], refusal });
 }
 
+/// Standard output and error as texts, and the status.
+fn says(arguments: &str, input: &[u8]) -> (Vec<u8>, String, Option<i32>) {
+    let output = second(&arguments.split(' ').collect::<Vec<&str>>(), input);
+    (output.stdout, String::from_utf8(output.stderr).expect("text"), output.status.code())
+}
+
+/// A room posts a reel, another checks it, and a bit is changed on the way.
+#[test]
+fn a_reel_is_written_and_read_through_the_pack() {
+    let sizes = "--block 4 --record 2 --sequence --check";
+    let text = "00000000010000000002\n00000000030000000004\n00000000050000000006\nMARK\n";
+    let (image, said, status) = says(&format!("reel write {sizes}"), text.as_bytes());
+    assert_eq!((said.as_str(), status), ("", Some(0)));
+    assert_eq!(says("reel list", &image).0, b"1 block 5 words\n2 block 3 words\n3 mark\nend, 68 bytes\n");
+    let counted = "1 files, 2 blocks, 3 records, 0 errors\n".to_string();
+    assert_eq!(says(&format!("reel read {sizes}"), &image), (text.into(), counted, Some(0)));
+    let bcd = says(&format!("reel write --bcd {sizes}"), text.as_bytes()).0;
+    assert_ne!(bcd, image);
+    assert_eq!(says(&format!("reel read {sizes}"), &bcd).0, text.as_bytes());
+    let mut changed = image.clone();
+    changed[9] ^= 1;
+    let (given, said, status) = says(&format!("reel read {sizes}"), &changed);
+    let first = "ERROR check sum in block 1; worked out: sum 9, number 1; read: sum 10, number 1\n";
+    let expected = format!("{first}{}", text.replacen("0000000001", "0000000000", 1));
+    assert_eq!(String::from_utf8(given).expect("text"), expected);
+    assert_eq!((said.as_str(), status), ("1 files, 2 blocks, 3 records, 1 errors\n", Some(1)));
+}
+
+#[test]
+fn reels_through_the_pack_that_are_refused() {
+    let (image, said, status) = says("reel write --block 1 --record 1", b"0000000001\n00\n");
+    assert_eq!((image.len(), status), (14, Some(1)));
+    assert_eq!(said, "refused 1 at line 2: this is no line of words\n");
+    for arguments in ["reel write --block 1 --record 2", "reel read --block 1024 --record 1 --check"] {
+        let (output, said, status) = says(arguments, b"");
+        assert!(output.is_empty() && said.starts_with("refused 13: ") && status == Some(1), "{arguments}");
+    }
+    let (output, said, status) = says("reel read --block 2 --record 1", &[0, 0, 0, 0, 6]);
+    assert_eq!((output, status), (b"MARK\n".to_vec(), Some(1)));
+    assert_eq!(said, "refused 21 at byte 4: the record is cut\n1 files, 0 blocks, 0 records, 0 errors\n");
+    for arguments in
+        ["reel write", "reel read --block 2", "reel read --block 2 --record 1 --bcd", "reel read x"]
+    {
+        let (output, said, status) = says(arguments, b"");
+        assert!(output.is_empty() && said.starts_with("second: ") && status == Some(2), "{arguments}");
+    }
+}
+
 #[test]
 fn reel_cases_are_written_and_answered() {
     let folder = PathBuf::from(env!("CARGO_TARGET_TMPDIR")).join("reel-cases");

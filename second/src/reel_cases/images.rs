@@ -72,7 +72,7 @@ fn good(random: &mut Random, parity: Option<Parity>) -> Vec<u8> {
 }
 
 /// A record with one fault or several.
-fn damaged(random: &mut Random) -> Vec<u8> {
+pub fn damaged(random: &mut Random) -> Vec<u8> {
     let length = 6 * random.between(1, 4) as u32;
     let large = random.pick(&[6_138, MOST_LENGTH as u32]);
     let uneven = random.pick(&UNEVEN_LENGTHS);

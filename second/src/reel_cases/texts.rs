@@ -55,7 +55,7 @@ fn good(random: &mut Random) -> String {
 }
 
 /// So many words, now and then the smallest or the largest.
-fn words(random: &mut Random, count: u64) -> String {
+pub fn words(random: &mut Random, count: u64) -> String {
     let word = |random: &mut Random| {
         let any = random.word();
         random.pick(&[any, any, any, 0, 1, ALL_ONES])
@@ -64,7 +64,7 @@ fn words(random: &mut Random, count: u64) -> String {
 }
 
 /// A line that is refused; the lowest number of several wins.
-fn wrong(random: &mut Random) -> String {
+pub fn wrong(random: &mut Random) -> String {
     let count = random.pick(&[1, 1, 2, 5, 1_024, 1_025, 1_025, 1_026, 3_000]);
     let mut line = words(random, count);
     match random.below(7) {
