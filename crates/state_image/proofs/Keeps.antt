@@ -19,7 +19,7 @@ use Rattle.file.specs.declared.Slot.{Slot}
 use Rattle.file.specs.declared.Slot.the-variants.{Empty, Taken, Part, Full}
 use Rattle.file.specs.declared.Buffer.{Buffer}
 use Rattle.file.specs.declared.File.{File}
-use Rattle.file.specs.Slots.{slotKind, fullPlace, fullFound}
+use Rattle.file.specs.Slots.{slotKind, fullPlace, fullArrival}
 use Rattle.file.specs.Sizes.{closedFile}
 use Rattle.pool.specs.Free.{fileCount}
 use Rattle.codec.specs.declared.Row.{Row}
@@ -29,7 +29,7 @@ use Rattle.state.specs.Places.{channelCount, noChannel}
 use Rattle.codec.specs.Codecs.{Codec, Keeps, Padded, All, firstOf}
 use Rattle.codec.specs.Rows.{rowOf, wordCodec}
 use Rattle.codec.proofs.Codecs.{any, all-any, padded-keeps, each-length, first-length}
-use Rattle.codec.proofs.Numbers.{flag-back, two-back, four-back, word-keeps}
+use Rattle.codec.proofs.Numbers.{flag-back, two-back, word-keeps}
 use Rattle.state_image.specs.Units.{turnByte, requestIn, turnOf, opByte, opOf, unitOnes, unitTwos, unitRow, unitBytes, requestFrom, unitWith, unitCodec, unitsCodec, channelRow, channelCodec}
 use Rattle.state_image.specs.Files.{slotWords, bufferOnes, bufferTwos, bufferRow, bufferBytes, fullFrom, slotOf, bufferFrom, bufferCodec, fileOnes, fileTwos, fileRow, fileFrom, fileCodec, filesCodec}
 use Rattle.state_image.specs.Images.{UnitsTo, Whole, stateOnes, stateTwos, stateHead, stateRow, stateWith, stateFrom, channelsCodec, stateSize, stateCodec, imageWords, wordsCodec}
@@ -54,7 +54,7 @@ request-back : (u : Unit.Unit) (rest : List ℕ) → requestFrom (unitThere u re
 request-back u rest = simp flag-back
 
 own-unit-back : (u : Unit.Unit) (rest : List ℕ) → unitWith (unitThere u rest) (u .turn) ≡ u
-own-unit-back u rest = simp flag-back
+own-unit-back u rest = simp (flag-back, two-back)
 
 unit-back : (u : Unit.Unit) (rest : List ℕ) → unitCodec .read (unitBytes u ++ rest) ≡ u
 unit-back u rest =
@@ -82,11 +82,12 @@ channel-keeps n h = record {
 -- ---- a buffer, a file
 
 slot-back : (number : ℕ) (x : Slot) (rest : List ℕ)
-    → bufferFrom (rowOf bufferOnes bufferTwos (bufferRow number (slotKind x) (slotWords x) (fullPlace x) (fullFound x) ++ rest)) ≡ record { number = number; slot = x }
+    → bufferFrom (rowOf bufferOnes bufferTwos (bufferRow number (slotKind x) (slotWords x) (fullPlace x) (fullArrival x .failed) (fullArrival x .check) ++ rest))
+    ≡ record { number = number; slot = x }
 slot-back number Empty rest = refl
 slot-back number Taken rest = refl
 slot-back number (Part n) rest = simp two-back
-slot-back number (Full n at found) rest = simp (two-back, four-back)
+slot-back number (Full n at a) rest = simp two-back
 
 pub buffer-keeps : Keeps bufferCodec any
 buffer-keeps = record { sized = λ b. refl; back = λ b rest g. slot-back (b .number) (b .slot) rest }

@@ -6,27 +6,28 @@ use mathlib.Core.List.{List, [], _∷_, _++_}
 use lib.Dec.{eqb}
 use lib.ListN.{getD, drop}
 use Rattle.word.specs.declared.Checked.{Checked}
+use Rattle.file.specs.declared.Arrival.{Arrival}
 use Rattle.file.specs.declared.Slot.{Slot}
 use Rattle.file.specs.declared.Slot.the-variants.{Empty, Taken, Part, Full}
 use Rattle.file.specs.declared.Buffer.{Buffer}
 use Rattle.file.specs.declared.File.{File}
-use Rattle.file.specs.Slots.{slotKind, fullPlace, fullFound}
+use Rattle.file.specs.Slots.{slotKind, fullPlace, fullArrival}
 use Rattle.file.specs.Sizes.{closedFile}
 use Rattle.pool.specs.Free.{fileCount}
 use Rattle.codec.specs.declared.Row.{Row}
 use Rattle.codec.specs.Codecs.{Codec, padded}
 use Rattle.codec.specs.Rows.{rowOf, rowSize, twoBytes, fourBytes}
 
--- ---- a buffer: its number, 0 empty, 1 taken, 2 part-filled or 3 full, how many words, and what a full block has more
+-- ---- a buffer: its number, 0 empty, 1 taken, 2 part-filled or 3 full, how many words, and of a full block the place of get and how it arrived
 
 abbrev pub slotWords : Slot → ℕ
 slotWords Empty = 0
 slotWords Taken = 0
 slotWords (Part n) = n
-slotWords (Full n at found) = n
+slotWords (Full n at a) = n
 
 abbrev pub bufferOnes : ℕ
-bufferOnes = 3
+bufferOnes = 4
 
 abbrev pub bufferTwos : ℕ
 bufferTwos = 4
@@ -37,10 +38,11 @@ bufferFours = 2
 abbrev pub bufferSize : ℕ
 bufferSize = rowSize bufferOnes bufferTwos bufferFours
 
-abbrev pub bufferRow : ℕ → ℕ → ℕ → ℕ → Checked → List ℕ
-bufferRow number kind words at found =
+abbrev pub bufferRow : ℕ → ℕ → ℕ → ℕ → ℕ → Checked → List ℕ
+bufferRow number kind words at failed found =
     number
     ∷ kind
+    ∷ failed
     ∷ found .error
     ∷ twoBytes words
     (twoBytes at
@@ -51,17 +53,21 @@ bufferRow number kind words at found =
     [])))))
 
 abbrev pub bufferBytes : Buffer → List ℕ
-bufferBytes b = bufferRow (b .number) (slotKind (b .slot)) (slotWords (b .slot)) (fullPlace (b .slot)) (fullFound (b .slot))
+bufferBytes b =
+    bufferRow (b .number) (slotKind (b .slot)) (slotWords (b .slot)) (fullPlace (b .slot)) (fullArrival (b .slot) .failed) (fullArrival (b .slot) .check)
 
 abbrev pub fullFrom : Row → Slot
 fullFrom r =
     Full (getD (r .twos) 0 0) (getD (r .twos) 1 0)
     (record {
-      error = getD (r .ones) 2 0;
-      sum = getD (r .fours) 0 0;
-      number = getD (r .twos) 2 0;
-      sumread = getD (r .fours) 1 0;
-      numberread = getD (r .twos) 3 0;
+      failed = getD (r .ones) 2 0;
+      check = record {
+        error = getD (r .ones) 3 0;
+        sum = getD (r .fours) 0 0;
+        number = getD (r .twos) 2 0;
+        sumread = getD (r .fours) 1 0;
+        numberread = getD (r .twos) 3 0;
+      };
     })
 
 abbrev pub slotOf : ℕ → ℕ → Slot → Slot

@@ -10,12 +10,13 @@ use Rattle.channel.specs.declared.Op.the-variants.{Read, Write, Mark}
 use Rattle.channel.specs.declared.Request.{Request}
 use Rattle.channel.specs.declared.Turn.{Turn}
 use Rattle.channel.specs.declared.Turn.the-variants.{Idle, Waiting, Displaced, Working}
+use Rattle.channel.specs.declared.Position.{Position}
 use Rattle.channel.specs.declared.Unit.{Unit}
 use Rattle.channel.specs.declared.Channel.{Channel}
 use Rattle.channel.specs.Units.{unitCount, idleUnit}
 use Rattle.codec.specs.declared.Row.{Row}
 use Rattle.codec.specs.Codecs.{Codec, padded}
-use Rattle.codec.specs.Rows.{rowOf, rowSize}
+use Rattle.codec.specs.Rows.{rowOf, rowSize, twoBytes}
 
 -- ---- how a unit stands: 0 idle, 1 waiting, 2 displaced, 3 working; and its request, all zero where it has none
 
@@ -26,7 +27,7 @@ turnByte (Displaced q) = 2
 turnByte (Working q) = 3
 
 abbrev pub noRequest : Request
-noRequest = record { op = Read; priority = false; attempts = 0; incomplete = 0 }
+noRequest = record { op = Read; priority = false; attempts = 0; incomplete = 0; noise = 0 }
 
 abbrev pub requestIn : Turn → Request
 requestIn Idle = noRequest
@@ -49,10 +50,10 @@ opOf n = cond (eqb n 0) Read (cond (eqb n 1) Write Mark)
 -- ---- a unit: how many numbers of one byte, of two and of four; its bytes in that order; and the unit of such a row
 
 abbrev pub unitOnes : ℕ
-unitOnes = 6
+unitOnes = 8
 
 abbrev pub unitTwos : ℕ
-unitTwos = 0
+unitTwos = 2
 
 abbrev pub unitFours : ℕ
 unitFours = 0
@@ -60,18 +61,22 @@ unitFours = 0
 abbrev pub unitSize : ℕ
 unitSize = rowSize unitOnes unitTwos unitFours
 
-abbrev pub unitRow : Unit → ℕ → ℕ → Request → List ℕ
-unitRow u kind op q =
+abbrev pub unitRow : Unit → ℕ → ℕ → Request → Position → List ℕ
+unitRow u kind op q p =
     boolByte (u .declared)
     ∷ kind
     ∷ op
     ∷ boolByte (q .priority)
     ∷ q .attempts
     ∷ q .incomplete
-    ∷ []
+    ∷ q .noise
+    ∷ boolByte (p .noisy)
+    ∷ twoBytes (p .marks)
+    (twoBytes (p .records)
+    [])
 
 abbrev pub unitBytes : Unit → List ℕ
-unitBytes u = unitRow u (turnByte (u .turn)) (opByte (requestIn (u .turn) .op)) (requestIn (u .turn))
+unitBytes u = unitRow u (turnByte (u .turn)) (opByte (requestIn (u .turn) .op)) (requestIn (u .turn)) (u .position)
 
 abbrev pub requestFrom : Row → Op → Request
 requestFrom r op = record {
@@ -79,12 +84,18 @@ requestFrom r op = record {
   priority = eqb (getD (r .ones) 3 0) 1;
   attempts = getD (r .ones) 4 0;
   incomplete = getD (r .ones) 5 0;
+  noise = getD (r .ones) 6 0;
 }
 
 abbrev pub unitWith : Row → Turn → Unit
 unitWith r turn = record {
   declared = eqb (getD (r .ones) 0 0) 1;
   turn = turn;
+  position = record {
+    marks = getD (r .twos) 0 0;
+    records = getD (r .twos) 1 0;
+    noisy = eqb (getD (r .ones) 7 0) 1;
+  };
 }
 
 abbrev pub unitFrom : Row → Unit
@@ -93,7 +104,7 @@ unitFrom r = unitWith r (turnOf (getD (r .ones) 1 0) (requestFrom r (opOf (getD 
 abbrev pub unitCodec : Codec Unit
 unitCodec = record { size = unitSize; write = unitBytes; read = λ bs. unitFrom (rowOf unitOnes unitTwos bs) }
 
--- ---- a channel of n units: its own numbers, then the units; units from n on are not declared
+-- ---- a channel of n units: its own numbers, then the units; units from n on are not declared, and their reels stand at the start
 
 abbrev pub channelOnes : ℕ
 channelOnes = 2

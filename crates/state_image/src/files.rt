@@ -2,11 +2,12 @@
 use codec::Row;
 use codec::put_bytes;
 use codec::row_at;
+use file::Arrival;
 use file::Buffer;
 use file::File;
 use file::Slot;
 use file::closed_file;
-use file::full_found;
+use file::full_arrival;
 use file::full_place;
 use pool::FILES;
 use word::Checked;
@@ -19,7 +20,7 @@ ghost use Rattle.codec.specs.Rows.{rowRoom};
 ghost use Rattle.state_image.specs.Files.{slotWords, bufferSize, bufferRow, bufferBytes, fullFrom, slotOf, bufferCodec, fileRow, fileFrom, fileSize, fileCodec, filesCodec};
 
 // How many numbers of one byte, of two and of four a buffer has, and its bytes.
-const ONES: usize = 3;
+const ONES: usize = 4;
 
 const TWOS: usize = 4;
 
@@ -51,7 +52,7 @@ fn slot_kind(x: Slot) -> u8
         Slot::Full {
             words: _,
             at: _,
-            found: _,
+            arrival: _,
         } => 3,
     }
 }
@@ -67,18 +68,19 @@ fn slot_words(x: Slot) -> u16
         Slot::Full {
             words,
             at: _,
-            found: _,
+            arrival: _,
         } => words,
     }
 }
 
 // The bytes of a buffer, by what it holds.
-fn buffer_row(number: u8, kind: u8, words: u16, at: u16, found: Checked) -> [u8; BUFFER]
-    ensures { λ r. ⌜ r ≡ bufferRow number kind words at found ⌝ }
+fn buffer_row(number: u8, kind: u8, words: u16, at: u16, failed: u8, found: Checked) -> [u8; BUFFER]
+    ensures { λ r. ⌜ r ≡ bufferRow number kind words at failed found ⌝ }
 {
     [
         number,
         kind,
+        failed,
         found.error,
         (words % 256) as u8,
         (words / 256) as u8,
@@ -103,17 +105,21 @@ fn buffer_row(number: u8, kind: u8, words: u16, at: u16, found: Checked) -> [u8;
 fn full_from(r: Row) -> Slot
     ensures { λ x. ⌜ x ≡ fullFrom r ⌝ }
 {
-    let found = Checked {
-        error: r.ones[2],
+    let check = Checked {
+        error: r.ones[3],
         sum: r.fours[0],
         number: r.twos[2],
         sumread: r.fours[1],
         numberread: r.twos[3],
     };
+    let arrival = Arrival {
+        failed: r.ones[2],
+        check,
+    };
     Slot::Full {
         words: r.twos[0],
         at: r.twos[1],
-        found,
+        arrival,
     }
 }
 
@@ -141,8 +147,9 @@ fn put_buffer(out: &mut [u8], at: usize, b: Buffer)
     let kind = slot_kind(x);
     let words = slot_words(x);
     let place = full_place(x);
-    let found = full_found(x);
-    let bytes = buffer_row(b.number, kind, words, place, found);
+    let a = full_arrival(x);
+    let found = a.check;
+    let bytes = buffer_row(b.number, kind, words, place, a.failed, found);
     put_bytes(out, at, &bytes);
 }
 

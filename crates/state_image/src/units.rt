@@ -1,6 +1,7 @@
 // A unit and a channel as bytes of an image.
 use channel::Channel;
 use channel::Op;
+use channel::Position;
 use channel::Request;
 use channel::Turn;
 use channel::UNITS;
@@ -20,9 +21,9 @@ ghost use Rattle.state_image.specs.Units.{turnByte, requestIn, turnOf, o
 ghost use Rattle.state_image.specs.Images.{channelsCodec};
 
 // How many numbers of one byte, of two and of four a unit has, and its bytes.
-const ONES: usize = 6;
+const ONES: usize = 8;
 
-const TWOS: usize = 0;
+const TWOS: usize = 2;
 
 const FOURS: usize = 0;
 
@@ -61,6 +62,7 @@ fn request_in(t: Turn) -> Request
             priority: false,
             attempts: 0,
             incomplete: 0,
+            noise: 0,
         },
         Turn::Waiting(q) => q,
         Turn::Displaced(q) => q,
@@ -105,9 +107,9 @@ fn op_of(n: u8) -> Op
     Op::Mark
 }
 
-// The bytes of a unit, by how it stands and its request.
-fn unit_row(u: Unit, kind: u8, op: u8, q: Request) -> [u8; UNIT]
-    ensures { λ r. ⌜ r ≡ unitRow u kind op q ⌝ }
+// The bytes of a unit, by how it stands, its request and where its reel stands.
+fn unit_row(u: Unit, kind: u8, op: u8, q: Request, p: Position) -> [u8; UNIT]
+    ensures { λ r. ⌜ r ≡ unitRow u kind op q p ⌝ }
 {
     [
         u.declared as u8,
@@ -116,6 +118,12 @@ fn unit_row(u: Unit, kind: u8, op: u8, q: Request) -> [u8; UNIT]
         q.priority as u8,
         q.attempts,
         q.incomplete,
+        q.noise,
+        p.noisy as u8,
+        (p.marks % 256) as u8,
+        (p.marks / 256) as u8,
+        (p.records % 256) as u8,
+        (p.records / 256) as u8,
     ]
 }
 
@@ -127,15 +135,22 @@ fn request_from(r: Row, op: Op) -> Request
         priority: r.ones[3] == 1,
         attempts: r.ones[4],
         incomplete: r.ones[5],
+        noise: r.ones[6],
     }
 }
 
 fn unit_with(r: Row, turn: Turn) -> Unit
     ensures { λ x. ⌜ x ≡ unitWith r turn ⌝ }
 {
+    let position = Position {
+        marks: r.twos[0],
+        records: r.twos[1],
+        noisy: r.ones[7] == 1,
+    };
     Unit {
         declared: r.ones[0] == 1,
         turn,
+        position,
     }
 }
 
@@ -147,9 +162,10 @@ fn put_unit(out: &mut [u8], at: usize, u: Unit)
     let t = u.turn;
     let q = request_in(t);
     let o = q.op;
+    let p = u.position;
     let kind = turn_byte(t);
     let op = op_byte(o);
-    let bytes = unit_row(u, kind, op, q);
+    let bytes = unit_row(u, kind, op, q, p);
     put_bytes(out, at, &bytes);
 }
 
@@ -180,14 +196,20 @@ fn put_units(out: &mut [u8], at: usize, units: [Unit; UNITS], n: usize)
     }
 }
 
-// The first n units from byte `start` on; those from n on are not declared.
+// The first n units from byte `start` on; those from n on are not declared, and their reels stand at the start.
 fn units_at(b: &[u8], start: usize, n: usize) -> [Unit; UNITS]
     requires { ⌜ (n ≤ unitCount) × (start + n * unitSize + rowRoom ≤ length (now b)) ⌝ }
     ensures { λ x. ⌜ x ≡ unitsCodec n .read (drop start (now (b .entry))) ⌝ }
 {
+    let position = Position {
+        marks: 0,
+        records: 0,
+        noisy: false,
+    };
     let blank = Unit {
         declared: false,
         turn: Turn::Idle,
+        position,
     };
     let mut units = [blank; UNITS];
     let mut at = start;

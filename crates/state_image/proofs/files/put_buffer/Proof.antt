@@ -15,8 +15,8 @@ slot-words-requires c κs = search needs
 full-place-requires : tie.Need-full-place-requires
 full-place-requires c κs = search needs
 
-full-found-requires : tie.Need-full-found-requires
-full-found-requires c κs = search needs
+full-arrival-requires : tie.Need-full-arrival-requires
+full-arrival-requires c κs = search needs
 
 buffer-row-requires : tie.Need-buffer-row-requires
 buffer-row-requires c κs = search needs
@@ -31,7 +31,7 @@ same-length : tie.Need-same-length
 same-length c = search needs
 
 returns : tie.Need-returns
-returns c = rw (c .before .before .put-bytes .ensures, c .before .before .before .before .before .buffer-row .ensures, c .before .before .before .before .before .before .full-found .ensures, c .before .before .before .before .before .before .before .full-place .ensures, c .before .before .before .before .before .before .before .before .slot-words .ensures, c .before .before .before .before .before .before .before .before .before .slot-kind .ensures) (paste-fitting (c .before .before .before .before .before .before .before .before .before .before .before .args .at) (bufferBytes (c .before .before .before .before .before .before .before .before .before .before .before .args .b)) (c .before .before .before .before .before .before .before .before .before .before .before .args .out .now) (omega (arith, c .before .before .before .before .before .before .before .before .before .before .before .pre)))
+returns c = rw (c .before .before .put-bytes .ensures, c .before .before .before .before .before .buffer-row .ensures, c .before .before .before .before .before .before .before .full-arrival .ensures, c .before .before .before .before .before .before .before .before .full-place .ensures, c .before .before .before .before .before .before .before .before .before .slot-words .ensures, c .before .before .before .before .before .before .before .before .before .before .slot-kind .ensures) (paste-fitting (c .before .before .before .before .before .before .before .before .before .before .before .before .args .at) (bufferBytes (c .before .before .before .before .before .before .before .before .before .before .before .before .args .b)) (c .before .before .before .before .before .before .before .before .before .before .before .before .args .out .now) (omega (arith, c .before .before .before .before .before .before .before .before .before .before .before .before .pre)))
 
 pub put-buffer-spec : {M : Type 1} → statement M
 put-buffer-spec =
@@ -40,7 +40,7 @@ put-buffer-spec =
     slot-kind-requires
     slot-words-requires
     full-place-requires
-    full-found-requires
+    full-arrival-requires
     buffer-row-requires
     slice-aggregate-put-bytes
     put-bytes-requires

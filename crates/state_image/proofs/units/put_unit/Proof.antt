@@ -28,7 +28,7 @@ same-length : tie.Need-same-length
 same-length c = search needs
 
 returns : tie.Need-returns
-returns c = rw (c .before .before .put-bytes .ensures, c .before .before .before .before .before .unit-row .ensures, c .before .before .before .before .before .before .op-byte .ensures, c .before .before .before .before .before .before .before .turn-byte .ensures, c .before .before .before .before .before .before .before .before .request-in .ensures) (paste-fitting (c .before .before .before .before .before .before .before .before .before .before .args .at) (unitBytes (c .before .before .before .before .before .before .before .before .before .before .args .u)) (c .before .before .before .before .before .before .before .before .before .before .args .out .now) (omega (arith, c .before .before .before .before .before .before .before .before .before .before .pre)))
+returns c = rw (c .before .before .put-bytes .ensures, c .before .before .before .before .before .unit-row .ensures, c .before .before .before .before .before .before .op-byte .ensures, c .before .before .before .before .before .before .before .turn-byte .ensures, c .before .before .before .before .before .before .before .before .before .request-in .ensures) (paste-fitting (c .before .before .before .before .before .before .before .before .before .before .before .args .at) (unitBytes (c .before .before .before .before .before .before .before .before .before .before .before .args .u)) (c .before .before .before .before .before .before .before .before .before .before .before .args .out .now) (omega (arith, c .before .before .before .before .before .before .before .before .before .before .before .pre)))
 
 pub put-unit-spec : {M : Type 1} → statement M
 put-unit-spec =
