@@ -1,0 +1,3 @@
+pub mod Codecs
+pub mod Loops
+pub mod Numbers

@@ -1,0 +1,125 @@
+-- Pieces of an image put one after the other, and read one after the other, are the whole. Assumes nothing.
+use borrow.Author.Tests.{eq-eqb, ne-eqb}
+use mathlib.Core.Path.{_≡_, refl, sym, ap, _∙_}
+use mathlib.Core.Bool.{Bool, true, false, cond, _&&_, and-false}
+use mathlib.Core.List.{List, [], _∷_, _++_, append-assoc, append-nil}
+use Prim.Native.Nat.{ℕ, _+_, _*_, _≤_}
+use native.Mathlib.Omega.{arith}
+use lib.ListN.{length, take, drop, length-append, drop-of-length-le}
+use lib.Seq.{drop-drop}
+use Rattle.area.specs.Parts.{paste, pastedIn}
+use Rattle.channel.specs.declared.Channel.{Channel}
+use Rattle.channel.specs.Units.{unitCount}
+use Rattle.file.specs.declared.File.{File}
+use Rattle.pool.specs.Free.{fileCount}
+use Rattle.state.specs.declared.State.{State}
+use Rattle.state.specs.Places.{channelCount, noChannel, beforeStart}
+use Rattle.state_sound.specs.Soundness.{sound}
+use lib.Dec.{eqb}
+use Rattle.codec.specs.Codecs.{Codec, same}
+use Rattle.codec.specs.Rows.{rowOf}
+use Rattle.codec.proofs.Codecs.{each-length, first-length}
+use Rattle.codec.proofs.Loops.{put-fits, put-then}
+use Rattle.state_image.specs.Units.{channelOnes, channelTwos, channelHead, channelRow, channelFrom, unitsCodec, channelCodec}
+use Rattle.state_image.specs.Files.{bufferBytes, bufferSize, bufferCodec, fileOnes, fileTwos, fileHead, fileSize, fileRow, fileFrom, fileCodec, filesCodec}
+use Rattle.state_image.specs.Images.{stateHead, stateRow, channelsCodec, stateSize, stateCodec, wordsCodec, imageWords, imageSize, imageOf, stateIn, isImage, imageIn, imageFits}
+use Rattle.state_image.specs.declared.Image.{Image}
+use Rattle.state_image.proofs.Keeps.{channels-sized, files-keep, state-sized}
+
+-- ---- a file: its own numbers and its two buffers
+
+pub file-there : (at : ℕ) (bs : List ℕ)
+    → fileFrom (rowOf fileOnes fileTwos (drop at bs)) (bufferCodec .read (drop (at + fileHead) bs)) (bufferCodec .read (drop (at + fileHead + bufferSize) bs))
+    ≡ fileCodec .read (drop at bs)
+file-there at bs =
+    let r = rowOf fileOnes fileTwos (drop at bs) in
+    let e : drop fileHead (drop at bs) ≡ drop (at + fileHead) bs = drop-drop fileHead at bs in
+    let z : at + (fileHead + bufferSize) ≡ at + fileHead + bufferSize = omega arith in
+    let f : drop (fileHead + bufferSize) (drop at bs) ≡ drop (at + fileHead + bufferSize) bs =
+    drop-drop (fileHead + bufferSize) at bs ∙ ap (λ (k : ℕ). drop k bs) z in
+    sym
+    (ap (λ (l : List ℕ). fileFrom r (bufferCodec .read l) (bufferCodec .read (drop (fileHead + bufferSize) (drop at bs)))) e
+    ∙ ap (λ (l : List ℕ). fileFrom r (bufferCodec .read (drop (at + fileHead) bs)) (bufferCodec .read l)) f)
+
+pub file-put : (at : ℕ) (f : File) (xs o p q : List ℕ) → at + fileSize ≤ length xs → o ≡ pastedIn at (fileRow f (f .block)) xs
+    → p ≡ paste (at + fileHead) (bufferBytes (f .low)) o → q ≡ paste (at + fileHead + bufferSize) (bufferBytes (f .high)) p → q ≡ paste at (fileCodec .write f) xs
+file-put at f xs o p q room e g h =
+    let one : o ≡ paste at (fileRow f (f .block)) xs = put-fits at (fileRow f (f .block)) xs o (omega arith) e in
+    let two : p ≡ paste at (fileRow f (f .block) ++ bufferBytes (f .low)) xs =
+    put-then at fileHead (at + fileHead) (fileRow f (f .block)) (bufferBytes (f .low)) xs o p refl refl (omega arith) one g in
+    let z : at + fileHead + bufferSize ≡ at + (fileHead + bufferSize) = omega arith in
+    put-then at (fileHead + bufferSize) (at + fileHead + bufferSize) (fileRow f (f .block) ++ bufferBytes (f .low)) (bufferBytes (f .high)) xs p q z refl (omega arith) two h
+
+-- ---- a channel: its own numbers and its units
+
+pub channel-there : (n at : ℕ) (bs : List ℕ)
+    → channelFrom (rowOf channelOnes channelTwos (drop at bs)) (unitsCodec n .read (drop (at + channelHead) bs)) ≡ channelCodec n .read (drop at bs)
+channel-there n at bs =
+    ap (λ (l : List ℕ). channelFrom (rowOf channelOnes channelTwos (drop at bs)) (unitsCodec n .read l)) (sym (drop-drop channelHead at bs))
+
+pub channel-put : (n at : ℕ) (c : Channel) (xs o p : List ℕ) → at + channelCodec n .size ≤ length xs → o ≡ pastedIn at (channelRow c) xs
+    → p ≡ paste (at + channelHead) (unitsCodec n .write (c .units)) o → p ≡ paste at (channelCodec n .write c) xs
+channel-put n at c xs o p room e g =
+    let one : o ≡ paste at (channelRow c) xs = put-fits at (channelRow c) xs o (omega arith) e in
+    put-then at channelHead (at + channelHead) (channelRow c) (unitsCodec n .write (c .units)) xs o p refl refl (omega arith) one g
+
+-- ---- a state: its own numbers, the channels and the files
+
+pub state-put : (n : ℕ) (s : State) (xs o p q : List ℕ) → stateSize n ≤ length xs → o ≡ pastedIn 0 (stateRow s) xs
+    → p ≡ paste stateHead (channelsCodec n .write (s .channels)) o → q ≡ paste (stateHead + channelsCodec n .size) (filesCodec .write (s .files)) p
+    → q ≡ paste 0 (stateCodec n .write s) xs
+state-put n s xs o p q room e g h =
+    let cs = channelsCodec n .write (s .channels) in
+    let fs = filesCodec .write (s .files) in
+    let long : length cs ≡ channelsCodec n .size = channels-sized n (s .channels) in
+    let one : o ≡ paste 0 (stateRow s) xs = put-fits 0 (stateRow s) xs o (omega arith) e in
+    let two : p ≡ paste 0 (stateRow s ++ cs) xs = put-then 0 stateHead stateHead (stateRow s) cs xs o p refl refl (omega arith) one g in
+    let far : length (stateRow s ++ cs) ≡ stateHead + channelsCodec n .size = length-append (stateRow s) cs ∙ rw long in
+    let z : stateHead + channelsCodec n .size ≡ 0 + (stateHead + channelsCodec n .size) = omega arith in
+    put-then 0 (stateHead + channelsCodec n .size) (stateHead + channelsCodec n .size) (stateRow s ++ cs) fs xs p q z far (omega arith) two h
+    ∙ ap (λ (l : List ℕ). paste 0 l xs) (append-assoc (stateRow s) cs fs)
+
+-- ---- an image: a state and its words
+
+paste-all : (ys xs : List ℕ) → length xs ≡ length ys → paste 0 ys xs ≡ ys
+unfolding paste
+paste-all ys xs e =
+    let far : length xs ≤ 0 + length ys = omega arith in
+    let none : drop (0 + length ys) xs ≡ [] = drop-of-length-le xs far in
+    ap (λ (l : List ℕ). ys ++ l) none ∙ append-nil ys
+
+pub image-put : (n : ℕ) (s : State) (area xs o p : List ℕ) → length (wordsCodec .write area) ≡ wordsCodec .size → length xs ≡ imageSize n
+    → o ≡ paste 0 (stateCodec n .write s) xs → p ≡ paste (stateSize n) (wordsCodec .write area) o → p ≡ imageOf n s area
+unfolding imageOf
+image-put n s area xs o p long whole e g =
+    let ss = stateCodec n .write s in
+    let ws = wordsCodec .write area in
+    let z : stateSize n ≡ 0 + stateSize n = omega arith in
+    let all : p ≡ paste 0 (ss ++ ws) xs = put-then 0 (stateSize n) (stateSize n) ss ws xs o p z (state-sized n s) (omega arith) e g in
+    let far : length (ss ++ ws) ≡ imageSize n = length-append ss ws ∙ rw (state-sized n s, long) in
+    all ∙ paste-all (ss ++ ws) xs (whole ∙ sym far)
+
+-- a state alone
+pub state-alone : (n : ℕ) (s : State) (xs : List ℕ) → length xs ≡ stateSize n → paste 0 (stateCodec n .write s) xs ≡ stateCodec n .write s
+state-alone n s xs e = paste-all (stateCodec n .write s) xs (e ∙ sym (state-sized n s))
+
+-- ---- what is read of bytes, and areas of other sizes
+
+pub image-other : (bs : List ℕ) (s : State) → s ≡ beforeStart → (length bs ≡ imageSize unitCount → ⊥) → _≡_ {A = Image} (record { good = false; state = s }) (imageIn bs)
+unfolding isImage
+image-other bs s e n = rw (e, ne-eqb (length bs) (imageSize unitCount) n)
+
+pub image-same : (bs : List ℕ) (s : State) (a b : Bool) → length bs ≡ imageSize unitCount → s ≡ stateCodec unitCount .read bs → a ≡ sound s
+    → b ≡ same (stateCodec unitCount .write s) (take (stateSize unitCount) bs) → _≡_ {A = Image} (record { good = a && b; state = s }) (imageIn bs)
+unfolding isImage stateIn
+image-same bs s a b e f g h = rw (g, h, f, eq-eqb (length bs) (imageSize unitCount) e)
+
+module _ (bytes area x y : List ℕ) where
+  pub other-bytes : (length bytes ≡ imageSize unitCount → ⊥) → x ≡ cond (imageFits bytes area) y x
+  other-bytes n = rw (ne-eqb (length bytes) (imageSize unitCount) n)
+
+  pub other-area : (length area ≡ imageWords → ⊥) → x ≡ cond (imageFits bytes area) y x
+  other-area n = rw (ne-eqb (length area) imageWords n, and-false (eqb (length bytes) (imageSize unitCount)))
+
+  pub both-fit : length bytes ≡ imageSize unitCount → length area ≡ imageWords → (z : List ℕ) → z ≡ y → z ≡ cond (imageFits bytes area) y x
+  both-fit e f z p = rw (eq-eqb (length bytes) (imageSize unitCount) e, eq-eqb (length area) imageWords f) p

@@ -1,0 +1,170 @@
+-- The codecs of an image keep what they write: of a unit, a buffer and a file all, of a channel of n units those whose units from n on are blank, of a state
+-- the whole ones with a right free mask. Assumes nothing.
+use mathlib.Core.Path.{_≡_, refl, sym, ap, _∙_}
+use mathlib.Core.Bool.{Bool, true, false}
+use mathlib.Core.List.{List, [], _∷_, _++_, append-assoc}
+use Prim.Native.Nat.{ℕ, _+_, _*_, _-_, _/_, _%_, _≤_}
+use native.Mathlib.Omega.{arith}
+use lib.ListN.{length, take, drop, replicate, length-append, getD, drop-of-length-le}
+use lib.Seq.{drop-at, drop-drop, take-all}
+use Rattle.channel.specs.declared.Op.{Op}
+use Rattle.channel.specs.declared.Op.the-variants.{Read, Write, Mark}
+use Rattle.channel.specs.declared.Turn.{Turn}
+use Rattle.channel.specs.declared.Turn.the-variants.{Idle, Waiting, Displaced, Working}
+use Rattle.channel.specs.declared.Request.{Request}
+use Rattle.channel.specs.declared.Unit as Unit
+use Rattle.channel.specs.declared.Channel.{Channel}
+use Rattle.channel.specs.Units.{unitCount, idleUnit}
+use Rattle.file.specs.declared.Slot.{Slot}
+use Rattle.file.specs.declared.Slot.the-variants.{Empty, Taken, Part, Full}
+use Rattle.file.specs.declared.Buffer.{Buffer}
+use Rattle.file.specs.declared.File.{File}
+use Rattle.file.specs.Slots.{slotKind, fullPlace, fullArrival}
+use Rattle.file.specs.Sizes.{closedFile}
+use Rattle.pool.specs.Free.{fileCount}
+use Rattle.codec.specs.declared.Row.{Row}
+use Rattle.pool.specs.Masks.{freeMask}
+use Rattle.state.specs.declared.State.{State}
+use Rattle.state.specs.Places.{channelCount, noChannel}
+use Rattle.codec.specs.Codecs.{Codec, Keeps, Padded, All, firstOf}
+use Rattle.codec.specs.Rows.{rowOf, wordCodec}
+use Rattle.codec.proofs.Codecs.{any, all-any, padded-keeps, each-length, first-length}
+use Rattle.codec.proofs.Numbers.{flag-back, two-back, word-keeps}
+use Rattle.state_image.specs.Units.{turnByte, requestIn, turnOf, opByte, opOf, unitOnes, unitTwos, unitRow, unitBytes, requestFrom, unitWith, unitCodec, unitsCodec, channelRow, channelCodec}
+use Rattle.state_image.specs.Files.{slotWords, bufferOnes, bufferTwos, bufferRow, bufferBytes, fullFrom, slotOf, bufferFrom, bufferCodec, fileOnes, fileTwos, fileRow, fileFrom, fileCodec, filesCodec}
+use Rattle.state_image.specs.Images.{UnitsTo, Whole, stateOnes, stateTwos, stateHead, stateRow, stateWith, stateFrom, channelsCodec, stateSize, stateCodec, imageWords, wordsCodec}
+
+-- ---- a unit
+
+op-back : (x : Op) → opOf (opByte x) ≡ x
+op-back Read = refl
+op-back Write = refl
+op-back Mark = refl
+
+turn-back : (t : Turn) → turnOf (turnByte t) (requestIn t) ≡ t
+turn-back Idle = refl
+turn-back (Waiting q) = refl
+turn-back (Displaced q) = refl
+turn-back (Working q) = refl
+
+abbrev unitThere : Unit.Unit → List ℕ → Row
+unitThere u rest = rowOf unitOnes unitTwos (unitBytes u ++ rest)
+
+request-back : (u : Unit.Unit) (rest : List ℕ) → requestFrom (unitThere u rest) (requestIn (u .turn) .op) ≡ requestIn (u .turn)
+request-back u rest = simp flag-back
+
+own-unit-back : (u : Unit.Unit) (rest : List ℕ) → unitWith (unitThere u rest) (u .turn) ≡ u
+own-unit-back u rest = simp (flag-back, two-back)
+
+unit-back : (u : Unit.Unit) (rest : List ℕ) → unitCodec .read (unitBytes u ++ rest) ≡ u
+unit-back u rest =
+    let q = requestIn (u .turn) in
+    let e : requestFrom (unitThere u rest) (opOf (opByte (q .op))) ≡ q = ap (requestFrom (unitThere u rest)) (op-back (q .op)) ∙ request-back u rest in
+    ap (unitWith (unitThere u rest)) (ap (turnOf (turnByte (u .turn))) e ∙ turn-back (u .turn)) ∙ own-unit-back u rest
+
+pub unit-keeps : Keeps unitCodec any
+unit-keeps = record { sized = λ u. refl; back = λ u rest g. unit-back u rest }
+
+-- ---- a channel of n units
+
+pub units-keep : (n : ℕ) → Keeps (unitsCodec n) (Padded (idleUnit false) unitCount n any)
+units-keep n = padded-keeps unitCodec any unit-keeps (idleUnit false) unitCount n
+
+pub units-padded : (n : ℕ) (c : Channel) → n ≤ unitCount → UnitsTo n c → Padded (idleUnit false) unitCount n any (c .units)
+units-padded n c h g = record { long = omega (arith, g .0); each = all-any (take n (c .units)); rest = g .1 }
+
+pub channel-keeps : (n : ℕ) → n ≤ unitCount → Keeps (channelCodec n) (UnitsTo n)
+channel-keeps n h = record {
+  sized = λ c. length-append (channelRow c) (unitsCodec n .write (c .units)) ∙ rw (units-keep n .sized (c .units));
+  back = λ c rest g. rw (units-keep n .back (c .units) rest (units-padded n c h g));
+}
+
+-- ---- a buffer, a file
+
+slot-back : (number : ℕ) (x : Slot) (rest : List ℕ)
+    → bufferFrom (rowOf bufferOnes bufferTwos (bufferRow number (slotKind x) (slotWords x) (fullPlace x) (fullArrival x .failed) (fullArrival x .check) ++ rest))
+    ≡ record { number = number; slot = x }
+slot-back number Empty rest = refl
+slot-back number Taken rest = refl
+slot-back number (Part n) rest = simp two-back
+slot-back number (Full n at a) rest = simp two-back
+
+pub buffer-keeps : Keeps bufferCodec any
+buffer-keeps = record { sized = λ b. refl; back = λ b rest g. slot-back (b .number) (b .slot) rest }
+
+own-file-back : (f : File) (rest : List ℕ) → fileFrom (rowOf fileOnes fileTwos (fileRow f (f .block) ++ rest)) (f .low) (f .high) ≡ f
+own-file-back f rest = simp (flag-back, two-back)
+
+file-back : (f : File) (rest : List ℕ) → fileCodec .read (fileCodec .write f ++ rest) ≡ f
+file-back f rest =
+    let r = rowOf fileOnes fileTwos (fileRow f (f .block) ++ (bufferBytes (f .low) ++ (bufferBytes (f .high) ++ rest))) in
+    ap (λ (b : Buffer). fileFrom r b (bufferCodec .read (bufferBytes (f .high) ++ rest))) (slot-back (f .low .number) (f .low .slot) (bufferBytes (f .high) ++ rest))
+    ∙ ap (fileFrom r (f .low)) (slot-back (f .high .number) (f .high .slot) rest)
+    ∙ own-file-back f (bufferBytes (f .low) ++ (bufferBytes (f .high) ++ rest))
+
+pub file-keeps : Keeps fileCodec any
+file-keeps = record { sized = λ f. refl; back = λ f rest g. file-back f rest }
+
+pub files-keep : Keeps filesCodec (Padded closedFile fileCount fileCount any)
+files-keep = padded-keeps fileCodec any file-keeps closedFile fileCount fileCount
+
+-- ---- a state
+
+pub channel-sized : (n : ℕ) (c : Channel) → length (channelCodec n .write c) ≡ channelCodec n .size
+channel-sized n c = length-append (channelRow c) (unitsCodec n .write (c .units)) ∙ rw (units-keep n .sized (c .units))
+
+pub channels-sized : (n : ℕ) (cs : List Channel) → length (channelsCodec n .write cs) ≡ channelsCodec n .size
+channels-sized n cs =
+    each-length (channelCodec n) (channel-sized n) (firstOf noChannel channelCount cs)
+    ∙ ap (λ (m : ℕ). m * channelCodec n .size) (first-length noChannel channelCount cs)
+
+pub state-sized : (n : ℕ) (s : State) → length (stateCodec n .write s) ≡ stateSize n
+state-sized n s =
+    let cs = channelsCodec n .write (s .channels) in
+    let fs = filesCodec .write (s .files) in
+    length-append (stateRow s) (cs ++ fs) ∙ ap (λ (k : ℕ). stateHead + k) (length-append cs fs ∙ rw (channels-sized n (s .channels), files-keep .sized (s .files)))
+
+-- the states that are read back
+abbrev pub Kept : ℕ → State → Type 0
+Kept n s = Whole n s × (s .free ≡ freeMask (s .m) (s .files))
+
+pub whole-channels : (n : ℕ) (s : State) → Whole n s → Padded noChannel channelCount channelCount (UnitsTo n) (s .channels)
+whole-channels n s w =
+    let all : take channelCount (s .channels) ≡ s .channels = take-all channelCount (s .channels) (omega (arith, w .channels)) in
+    let far : length (s .channels) ≤ channelCount = omega (arith, w .channels) in
+    record { long = omega (arith, w .channels); each = rw all (w .units); rest = drop-of-length-le (s .channels) far }
+
+pub whole-files : (n : ℕ) (s : State) → Whole n s → Padded closedFile fileCount fileCount any (s .files)
+whole-files n s w =
+    let far : length (s .files) ≤ fileCount = omega (arith, w .files) in
+    record { long = omega (arith, w .files); each = all-any (take fileCount (s .files)); rest = drop-of-length-le (s .files) far }
+
+own-state-back : (s : State) (rest : List ℕ) → stateWith (rowOf stateOnes stateTwos (stateRow s ++ rest)) (s .channels) (s .files) (s .free) ≡ s
+own-state-back s rest = simp (flag-back, two-back)
+
+pub state-keeps : (n : ℕ) → n ≤ unitCount → Keeps (stateCodec n) (Kept n)
+state-keeps n h = record {
+  sized = state-sized n;
+  back = λ s rest g.
+      let cs = channelsCodec n .write (s .channels) in
+      let fs = filesCodec .write (s .files) in
+      let r = rowOf stateOnes stateTwos (stateRow s ++ ((cs ++ fs) ++ rest)) in
+      let apart : (cs ++ fs) ++ rest ≡ cs ++ (fs ++ rest) = append-assoc cs fs rest in
+      let channels : channelsCodec n .read ((cs ++ fs) ++ rest) ≡ s .channels =
+      ap (channelsCodec n .read) apart
+      ∙ padded-keeps (channelCodec n) (UnitsTo n) (channel-keeps n h) noChannel channelCount channelCount .back (s .channels) (fs ++ rest) (whole-channels n s (g .0)) in
+      let after : drop (stateHead + channelsCodec n .size) (stateRow s ++ ((cs ++ fs) ++ rest)) ≡ fs ++ rest =
+      sym (drop-drop (channelsCodec n .size) stateHead (stateRow s ++ ((cs ++ fs) ++ rest)))
+      ∙ ap (drop (channelsCodec n .size)) apart ∙ drop-at cs (fs ++ rest) (channelsCodec n .size) (channels-sized n (s .channels)) in
+      let files : filesCodec .read (drop (stateHead + channelsCodec n .size) (stateRow s ++ ((cs ++ fs) ++ rest))) ≡ s .files =
+      ap (filesCodec .read) after ∙ files-keep .back (s .files) rest (whole-files n s (g .0)) in
+      ap (λ (x : List Channel). stateFrom r x (filesCodec .read (drop (stateHead + channelsCodec n .size) (stateRow s ++ ((cs ++ fs) ++ rest))))) channels
+      ∙ ap (stateFrom r (s .channels)) files
+      ∙ ap (stateWith r (s .channels) (s .files)) (sym (g .1))
+      ∙ own-state-back s ((cs ++ fs) ++ rest);
+}
+
+-- ---- the words of an area
+
+pub words-sized : (area : List ℕ) → length (wordsCodec .write area) ≡ wordsCodec .size
+words-sized = padded-keeps wordCodec any word-keeps 0 imageWords imageWords .sized

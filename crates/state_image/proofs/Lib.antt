@@ -1,0 +1,4 @@
+pub mod Tags
+pub mod Keeps
+pub mod Joined
+pub mod Theorems

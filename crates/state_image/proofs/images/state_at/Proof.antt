@@ -1,0 +1,53 @@
+-- `state_image::images::state_at` meets its contract. Its own numbers, the channels and the files follow one another; the free mask is made from the files. Assumes nothing.
+use borrow.Author.Needs.{needs}
+use Rattle.state_image.proofs.images.state_at.Statement.{statement}
+use Rattle.state_image.proofs.images.state_at.Tie as tie
+
+row-at-requires : tie.Need-row-at-requires
+row-at-requires c κs = search needs
+
+channels-at-requires : tie.Need-channels-at-requires
+channels-at-requires c κs = search needs
+
+mul-files-at : tie.Need-mul-files-at
+mul-files-at c = search needs
+
+add-files-at : tie.Need-add-files-at
+add-files-at c = search needs
+
+mul-files-at-2 : tie.Need-mul-files-at-2
+mul-files-at-2 c = search needs
+
+add-files-at-2 : tie.Need-add-files-at-2
+add-files-at-2 c = search needs
+
+files-at-requires : tie.Need-files-at-requires
+files-at-requires c κs = search needs
+
+element-copy-out-free-mask : tie.Need-element-copy-out-free-mask
+element-copy-out-free-mask c = search needs
+
+free-mask-requires : tie.Need-free-mask-requires
+free-mask-requires c κs = search needs
+
+state-with-requires : tie.Need-state-with-requires
+state-with-requires c κs = search needs
+
+returns : tie.Need-returns
+returns c = rw (c .state-with .ensures, c .before .free-mask .ensures, c .before .before .before .files-at .ensures, c .before .before .before .before .channels-at .ensures, c .before .before .before .before .before .row-at .ensures)
+
+pub state-at-spec : {M : Type 1} → statement M
+state-at-spec =
+    tie.close
+    (tie.spec
+    row-at-requires
+    channels-at-requires
+    mul-files-at
+    add-files-at
+    mul-files-at-2
+    add-files-at-2
+    files-at-requires
+    element-copy-out-free-mask
+    free-mask-requires
+    state-with-requires
+    returns)
