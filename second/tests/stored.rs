@@ -81,7 +81,7 @@ fn answers_to_pack_cases_are_stored() {
 #[test]
 fn answers_to_sessions_are_stored() {
     let sessions =
-        ["first", "found"].map(|name| (format!("docs/{name}.session"), format!("docs/{name}.answers")));
+        ["first", "found", "kept", "late", "reel"].map(|name| (format!("docs/{name}.session"), format!("docs/{name}.answers")));
     let program = ("crates/play/stdin".to_string(), "crates/play/stdout".to_string());
     for (session, answers) in sessions.into_iter().chain([program]) {
         let given = String::from_utf8(answers_to(file(&session).as_bytes())).expect("digits");
