@@ -5,7 +5,7 @@
 //! decisions gives for `./reel write` and `./reel read`:
 //!
 //! - A line of records that is refused: `refused N at line L: SENTENCE` on standard error; the lowest number that
-//!   applies, but 13 for every line of more than 10,252 characters. What stands before it is on the reel: the block
+//!   applies, but 13 for every line of more than 10,240 characters. What stands before it is on the reel: the block
 //!   that has begun is sealed and sent.
 //! - Sizes that the pack's open refuses: `refused 13: SENTENCE` on standard error, and nothing else.
 //! - A block in error: `ERROR block N of the reel: KIND. FOUND. MEANING` on standard output before its records.
@@ -27,8 +27,8 @@ const WRITE: u64 = 1;
 const MARK: u64 = 2;
 const GOOD: u64 = 0;
 const FILE_MARK: u64 = 3;
-/// "A line of more than 10,252 characters is 13 whatever they are."
-const MOST_CHARACTERS: usize = 10_252;
+/// "A line of more than 10,240 characters, those of 1,024 words, is 13 whatever they are."
+const MOST_CHARACTERS: usize = 10_240;
 
 /// How a reel is written or read.
 #[derive(Clone, Copy, Debug, Default, PartialEq, Eq)]
@@ -318,14 +318,14 @@ mod tests {
             (many(&one, 2), "13 at line 4: a record here has words 1"),
             (many(&one, 1_025), "13 at line 4: a record here has words 1"),
             (many(&one, 1_024), "13 at line 4: a record here has words 1"),
-            (many("x", 10_253), "13 at line 4: a record here has words 1"),
+            (many("x", 10_241), "13 at line 4: a record here has words 1"),
             (many("F", 10_260), "13 at line 4: a record here has words 1"),
             (many("1000000000", 1), "2 at line 4: a word is 2^36 or more"),
             (many("1000000000", 1_024), "2 at line 4: a word is 2^36 or more"),
             (format!("1000000000{one}"), "2 at line 4: a word is 2^36 or more"),
             (many("0", 9), "1 at line 4: this is no line of words"),
-            (many("x", 10_252), "1 at line 4: this is no line of words"),
-            (many("0", 10_252), "1 at line 4: this is no line of words"),
+            (many("x", 10_240), "1 at line 4: this is no line of words"),
+            (many("0", 10_239), "1 at line 4: this is no line of words"),
             ("000000000a".to_string(), "1 at line 4: this is no line of words"),
             ("MARK ".to_string(), "1 at line 4: this is no line of words"),
             ("F00000000g".to_string(), "1 at line 4: this is no line of words"),

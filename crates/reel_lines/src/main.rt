@@ -13,11 +13,13 @@ use libc::STDIN_FILENO;
 use reel::Options;
 use reel::WORDS;
 use runs::Run;
-use session_frame::LONGEST;
 use session_line::Line;
 use session_line::has_begun;
 use session_line::next_line;
 use session_line::no_line;
+
+// The most characters of a line: those of 1,024 words.
+const LINE: usize = 10 * WORDS;
 
 // The run so far, and the line that has begun.
 struct Text {
@@ -235,7 +237,7 @@ fn main() {
     let first = runs::start(state, shown);
     let mut input = io::large_buffer();
     let mut out = io::large_buffer();
-    let mut room = [0u8; LONGEST];
+    let mut room = [0u8; LINE];
     let mut words = [0u64; WORDS];
     pass(
         first,

@@ -81,7 +81,7 @@ fn wrong_line(random: &mut Random, sizes: Sizes, sort: u64) -> String {
         2 => {
             let character = random.pick(&["x", "0", "F", "MARK"]);
             let mut line = character.repeat(10_256);
-            line.truncate(random.between(10_248, 10_255) as usize);
+            line.truncate(random.between(10_236, 10_244) as usize);
             line
         }
         3 => {
