@@ -101,8 +101,8 @@ fn a_player_that_is_always_a_line_behind_is_told() {
 #[test]
 fn a_player_that_gathers_after_some_lines_is_told() {
     let command = player("read one; echo 00; read two; echo 00; cat >/dev/null");
-    for options in both(5) {
-        complains(&options, &command, b"09\n0A\n09\n", "line 3 was not answered in 5 seconds");
+    for options in both(20) {
+        complains(&options, &command, b"09\n0A\n09\n", "line 3 was not answered in 20 seconds");
     }
 }
 
@@ -118,8 +118,8 @@ fn a_player_that_ends_early_or_badly_is_told() {
 
 #[test]
 fn a_player_that_does_not_end_is_told() {
-    for options in both(5) {
-        let complaint = "the output did not end in 5 seconds after the input";
+    for options in both(20) {
+        let complaint = "the output did not end in 20 seconds after the input";
         complains(&options, &player("\"$0\" play; exec sleep 60"), b"09\n0A\n", complaint);
     }
 }
