@@ -51,7 +51,7 @@ second: documents 01 and 02 of Plorrettix, written a second time
   words, channel, files, pack    answer cases of check words, of one channel,
       of one file and its buffers, of calls on a state and an area by hand
   word-cases, channel-events, file-walks, pack-cases   print fixed cases
-  plan; plan-check LIST PROPOSAL   proposes buffers for openings; judges them
+  plan, plan-check LIST PROPOSAL   proposes buffers for openings; judges them
   reel list|words|octal          shows a tape image; reel make [--bcd] makes one
   reel write|read --block B --record R [--sequence] [--check]   by the pack
   sheet SESSION ANSWERS          the first frame that differs, and the requests
