@@ -68,7 +68,7 @@ fn a_reel_is_written_and_read_through_the_pack() {
     let (image, said, status) = says(&format!("reel write {sizes}"), text.as_bytes());
     assert_eq!((said.as_str(), status), ("", Some(0)));
     assert_eq!(says("reel list", &image).0, b"1 block 5 words\n2 block 3 words\n3 mark\nend, 68 bytes\n");
-    let counted = "1 files, 2 blocks, 3 records, 0 errors\n".to_string();
+    let counted = "reel: files 1, blocks 2, records 3, errors 0\n".to_string();
     assert_eq!(says(&format!("reel read {sizes}"), &image), (text.into(), counted, Some(0)));
     let bcd = says(&format!("reel write --bcd {sizes}"), text.as_bytes()).0;
     assert_ne!(bcd, image);
@@ -76,10 +76,11 @@ fn a_reel_is_written_and_read_through_the_pack() {
     let mut changed = image.clone();
     changed[9] ^= 1;
     let (given, said, status) = says(&format!("reel read {sizes}"), &changed);
-    let first = "ERROR check sum in block 1; worked out: sum 9, number 1; read: sum 10, number 1\n";
+    let first = "ERROR block 1 of the reel: check sum. Number due 1, read 1; sum of its words 000011, \
+                 read 000012, octal. A word of it is not as it was sent.\n";
     let expected = format!("{first}{}", text.replacen("0000000001", "0000000000", 1));
     assert_eq!(String::from_utf8(given).expect("text"), expected);
-    assert_eq!((said.as_str(), status), ("1 files, 2 blocks, 3 records, 1 errors\n", Some(1)));
+    assert_eq!((said.as_str(), status), ("reel: files 1, blocks 2, records 3, errors 1\n", Some(1)));
 }
 
 #[test]
@@ -93,7 +94,7 @@ fn reels_through_the_pack_that_are_refused() {
     }
     let (output, said, status) = says("reel read --block 2 --record 1", &[0, 0, 0, 0, 6]);
     assert_eq!((output, status), (b"MARK\n".to_vec(), Some(1)));
-    assert_eq!(said, "refused 21 at byte 4: the record is cut\n1 files, 0 blocks, 0 records, 0 errors\n");
+    assert_eq!(said, "refused 21 at byte 4: the record is cut\nreel: files 1, blocks 0, records 0, errors 1\n");
     for arguments in
         ["reel write", "reel read --block 2", "reel read --block 2 --record 1 --bcd", "reel read x"]
     {
