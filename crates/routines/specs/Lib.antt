@@ -1,4 +1,5 @@
 pub mod Order
+pub mod Posts
 pub mod Ranks
 pub mod Right
 pub mod Schedule

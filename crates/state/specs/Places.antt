@@ -5,15 +5,12 @@ use mathlib.Core.List.{List}
 use lib.Dec.{ltb}
 use lib.ListN.{getD, replicate}
 use Rattle.channel.specs.declared.Channel.{Channel}
+pub use Rattle.channel.specs.Units.{channelCount}
 use Rattle.channel.specs.Units.{freshOf}
 use Rattle.file.specs.declared.File.{File}
 use Rattle.file.specs.Sizes.{closedFile}
 use Rattle.pool.specs.Free.{fileCount}
 use Rattle.state.specs.declared.State.{State}
-
--- "Channels 0 to 4"
-abbrev pub channelCount : ℕ
-channelCount = 5
 
 -- a channel without declared units: what stands past the last channel
 abbrev pub noChannel : Channel

@@ -3,6 +3,7 @@
 mod places;
 mod stores;
 
+pub use channel::CHANNELS;
 use channel::Channel;
 use file::File;
 pub use places::area_short;
@@ -13,9 +14,6 @@ pub use places::file_at;
 use pool::FILES;
 pub use stores::with_channel;
 pub use stores::with_file;
-
-// How many channels there are, the manual's A to E.
-pub const CHANNELS: usize = 5;
 
 // A pool of m buffers of w words; whether starts are frozen; the channels with their units; the files; the free buffers, bit b for buffer b.
 pub struct State {
