@@ -1,5 +1,5 @@
 // Ask and report on the one file and the one channel that they concern: their rows of the refusal table, the words that a report brings or hands
-// out, and what changes. It knows nothing of states.
+// out, and what changes, the routines too. It knows nothing of states.
 mod asks;
 mod blocks;
 mod effects;
