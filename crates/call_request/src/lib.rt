@@ -3,11 +3,15 @@
 mod asks;
 mod blocks;
 mod effects;
+mod named;
 mod reports;
 
 pub use asks::ask_on;
 use channel::Channel;
 use file::File;
+pub use named::answers_request;
+pub use named::asked_routines;
+pub use named::reported_routines;
 pub use reports::report_on;
 use word::Checked;
 
