@@ -1,5 +1,6 @@
 pub mod Wholes
 pub mod Ready
+pub mod Besides
 pub mod Changed
 pub mod AskTheorems
 pub mod ReportTheorems
