@@ -1,6 +1,6 @@
--- Worked examples of special routines (document 02, M-110), played by the pack's own calls. `nested`: a routine is interrupted by a higher one, the list fills, a full list
--- keeps a 4 out, its unit refuses an ask with 8, a return enters it and the next one resumes. `held`: a freeze holds a routine back, a thaw enters it, and programs resume
--- in the reverse order. Assumes nothing.
+-- Worked examples of special routines (document 02, M-110), played by the pack's own calls. `nested`: a routine is interrupted by a higher one, the list fills, and a full
+-- list keeps a 4 out. `waited`: one that is not higher waits, its unit refuses an ask with 8, a return enters it and the next one resumes. `held`: a freeze holds a routine
+-- back, a thaw enters it, and programs resume in the reverse order. Assumes nothing.
 use Prim.Native.Nat.{ℕ}
 use mathlib.Core.Bool.{true, false}
 use mathlib.Core.List.{List, [], _∷_}
@@ -55,10 +55,23 @@ unfoldable pub nested : List Step
 nested =
     begins ∷ opens 0 ∷ opens 1
     -- a routine interrupts the main program, and higher ones that: main, 0, 1, 2 below a running 3; a unit takes asks again while its routine runs
-    ∷ asks 0 10 0 ∷ answered 0 ∷ now (routine 0 10 0)
+    ∷ asks 0 10 0 ∷ answered 0
     ∷ asks 1 11 1 ∷ answered 1
     ∷ asks 0 12 2 ∷ answered 0
     ∷ asks 1 13 3 ∷ answered 1
+    -- the full list keeps a 4 out
+    ∷ asks 0 14 4 ∷ answered 0 ∷ now (routine 1 13 3)
+    ∷ []
+
+unfoldable pub waited : List Step
+waited =
+    begins ∷ opens 0 ∷ opens 1
+    ∷ asks 0 10 3 ∷ answered 0
+    -- one that is not higher waits; its unit refuses an ask
+    ∷ asks 1 11 2 ∷ answered 1 ∷ now (routine 0 10 3)
+    ∷ so (names 1 12 2) (told 8 (working 0) [])
+    -- on a return it is above the program last pushed, and is entered; on the next one that program resumes
+    ∷ enters (routine 1 11 2) ∷ back mainProgram
     ∷ []
 
 unfoldable pub held : List Step
