@@ -36,13 +36,13 @@ use Rattle.state_sound.specs.Soundness.{sound}
 use Rattle.state_sound.proofs.Facts.{SoundFacts, sound-facts, facts-sound}
 use Rattle.state_sound.proofs.ChannelCalls.{ask-moved}
 use Rattle.state_sound.proofs.Kept.{line-of, place-of}
+use Rattle.state_sound.proofs.RoutinesKept.{asked-beside}
 use Rattle.call_request.specs.declared.AskChange.{AskChange}
 use Rattle.pack_request.specs.declared.Asking.{Asking}
 use Rattle.call_request.specs.Ask.{isReading, isWriting, isMarking, isPriority, opOf, askRows, askRefusal, askedFile, askedChannel, askOn}
 use Rattle.pack_request.specs.Calls.{askWrong, askWaits, askedAll, askBy}
 use Rattle.call_request.proofs.AskFound.{ask-refused, ask-taken}
 use Rattle.pack_request.proofs.Ready.{not-false, ready-facts, kind, asked-file}
-use Rattle.pack_request.proofs.Besides.{beside-asked}
 use Rattle.pack_request.proofs.Changed.{Frame, changed-refused, changed-taken, changed-frame, here-file, here-channel, became-sound}
 
 -- ---- what an accepted ask found
@@ -179,7 +179,7 @@ module _ (s : State) (file op priority : ℕ) (naming : Naming) where
         became-sound s file (f .channel) (f .unit) _ _ (At (opOf op)) (askedAll s file naming) facts (found .isOpen) refl refl moved
         (asked-file (s .m) (s .w) f op (facts .files file (found .isOpen)) none-taken
         (kind f op (or-left (ltb 2 op) _ (found .range)) (found .way) (found .buffer) (found .unmarked) (found .sent)))
-        (beside-asked s (f .channel) (f .unit) _ (At (opOf op)) (line-of s facts file (found .isOpen)) moved (s .routines) (facts .routines) (dueOf naming) refl (found .free)
+        (asked-beside s (f .channel) (f .unit) _ (At (opOf op)) facts (line-of s facts file (found .isOpen)) moved (dueOf naming) refl (found .free)
         (named-right (naming .given) (naming .level) (naming .routine)))
 
     asked-channel : channelAt (asked .state) (f .channel) ≡ askedChannel f c op priority (s .frozen)

@@ -2,6 +2,7 @@
 use mathlib.Core.Path.{_≡_, refl, ap, subst, _∙_}
 use mathlib.Core.Logic.{_≢_}
 use mathlib.Core.Bool.{Bool, true, false, cond}
+use mathlib.Core.List.{List}
 use Prim.Native.Nat.{ℕ, _<_}
 use lib.Dec.{eqb}
 use lib.ListN.{length, set, length-set}
@@ -12,6 +13,8 @@ use Rattle.channel.specs.declared.Work.{Work}
 use Rattle.file.specs.declared.File.{File}
 use Rattle.file.specs.Sizes.{closedFile}
 use Rattle.routines.specs.declared.Routines.{Routines}
+use Rattle.routines.proofs.Laws.Facts.{RoutinesFacts}
+use Rattle.routines_sound.specs.Beside.{declaredIn, requestIn}
 use Rattle.state_sound.proofs.Replaced.{Alike}
 use Rattle.state.specs.declared.State.{State}
 use Rattle.state.specs.Places.{noChannel, fileAt, channelAt}
@@ -23,7 +26,6 @@ use Rattle.state_sound.proofs.ChannelCalls.{Moved}
 use Rattle.state_sound.proofs.Kept.{SameHoldings, both-kept}
 use Rattle.pack_request.specs.Changes.{changedState}
 use Rattle.pack_request.proofs.Ready.{Became}
-use Rattle.pack_request.proofs.Besides.{Beside}
 
 -- what stays of a state, apart from its file i and its channel j
 pub record Frame (s t : State) (i j : ℕ) : Type 0 where
@@ -75,6 +77,10 @@ module _ (s : State) (i j n : ℕ) (f : File) (c : Channel) (r : Routines) where
   pub here-channel : n ≡ 0 → j < length (s .channels) → channelAt (changedState s i j n f c r) j ≡ c
   unfolding withRoutines withFile withChannel
   here-channel h l = ap (λ (t : State). channelAt t j) (changed-taken h) ∙ getD-set-same (s .channels) j c noChannel l
+
+-- the routines q are right beside these channels
+abbrev pub Beside : List Channel → Bool → Routines → Type 0
+Beside cs frozen q = RoutinesFacts (declaredIn cs) (requestIn cs) frozen q
 
 -- the file that was on unit u of channel c became g, w is requested of that unit afterwards, and the routines q are right beside the channels then: a sound state is
 -- sound still

@@ -1,6 +1,5 @@
 pub mod Wholes
 pub mod Ready
-pub mod Besides
 pub mod Changed
 pub mod AskTheorems
 pub mod ReportTheorems

@@ -53,6 +53,7 @@ use Rattle.state_sound.proofs.Everywhere.{place-inside}
 use Rattle.state_sound.proofs.Facts.{Served, SoundFacts, sound-facts, facts-sound}
 use Rattle.state_sound.proofs.ChannelCalls.{repeat-moved, end-moved}
 use Rattle.state_sound.proofs.Kept.{line-of, place-of}
+use Rattle.state_sound.proofs.RoutinesKept.{answered-beside, repeated-beside}
 use Rattle.word.specs.declared.Checked.{Checked}
 use Rattle.word.specs.CheckWords.{blockNumbers}
 use Rattle.word.specs.Checks.{unchecked, isChecked, isExact}
@@ -69,8 +70,7 @@ use Rattle.call_request.specs.Named.{reportedRoutines}
 use Rattle.call_request.proofs.NamedLaws.{repeats-routines, ends-routines}
 use Rattle.pack_request.specs.Calls.{fileOf, reportWrong, reportBy, reportByArea}
 use Rattle.pack_request.proofs.Ready.{not-false, ended-file}
-use Rattle.pack_request.proofs.Besides.{Beside, beside-same, beside-answered}
-use Rattle.pack_request.proofs.Changed.{Frame, changed-refused, changed-taken, changed-frame, here-file, here-channel, became-sound}
+use Rattle.pack_request.proofs.Changed.{Frame, Beside, changed-refused, changed-taken, changed-frame, here-file, here-channel, became-sound}
 
 -- ---- what a report that is booked comes to
 
@@ -333,7 +333,7 @@ module _ (s : State) (area : List ℕ) (channel unit outcome len : ℕ) (words :
             (record { sound = facts .files i isOpen; ready = requested-ready; alike = alike-self f })
             (subst (Beside (set (s .channels) channel (bookOf c unit (Repeats q) (s .frozen))) (s .frozen))
             (sym (repeats-routines (s .routines) (s .frozen) channel unit (positionAt c unit) q))
-            (beside-same s channel unit _ (requested (turnAt c unit)) inside moved (s .routines) (facts .routines) refl)))
+            (repeated-beside s channel unit _ (requested (turnAt c unit)) facts inside moved refl)))
         go (ended r e t j) k =
             let moved = end-moved (s .m) c unit (s .frozen) (facts .channels channel) outcome len e j in
             let w : operationAt c unit ≡ At (r .op) = ap workOf t in
@@ -345,7 +345,7 @@ module _ (s : State) (area : List ℕ) (channel unit outcome len : ℕ) (words :
             (sym (ap (λ (x : Turn). fileReady (requested x) f) t) ∙ requested-ready) (λ b. k (ap isDelivery here ∙ b)))
             (subst (Beside (set (s .channels) channel (bookOf c unit (Ends e) (s .frozen))) (s .frozen))
             (sym (ends-routines (s .routines) (s .frozen) channel unit (positionAt c unit) e))
-            (beside-answered s channel unit _ Nothing inside moved (s .routines) (facts .routines) refl unit-known))))
+            (answered-beside s channel unit _ Nothing facts inside moved refl unit-known))))
 
     reported-channel : channelAt (reported .state) channel ≡ booking
     unfolding reportBy
