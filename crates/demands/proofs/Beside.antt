@@ -1,5 +1,5 @@
 -- Two calls on two channels, and the routines: what either does to the posts of its own unit the other does not see. Assumes nothing.
-use mathlib.Core.Path.{_≡_, refl, sym, ap, subst, _∙_}
+use mathlib.Core.Path.{_≡_, refl, sym, ap, _∙_}
 use mathlib.Core.Logic.{_≢_}
 use mathlib.Core.Bool.{Bool, true, false, cond, _&&_}
 use mathlib.Core.List.{List}
@@ -8,9 +8,7 @@ use lib.ListN.{length, getD, set}
 use lib.Seq.{getD-set-same, getD-set-other, set-set, set-comm}
 use Rattle.area.proofs.Walks.{by-test}
 use Rattle.routines.specs.declared.Due.{Due}
-use Rattle.routines.specs.declared.Program.{Program}
 use Rattle.routines.specs.declared.Programs.{Programs}
-use Rattle.routines.specs.declared.Scheduled.{Scheduled}
 use Rattle.routines.specs.declared.Post.{Post}
 use Rattle.routines.specs.declared.Posts.{Posts}
 use Rattle.routines.specs.declared.Routines.{Routines}
@@ -18,10 +16,9 @@ use Rattle.routines.specs.Ranks.{nothingDue, isDue, waitingAt}
 use Rattle.routines.specs.Waits.{Waits, isUnit, withDue, highest}
 use Rattle.routines.specs.Schedule.{enters, interruptedBy, lookOf}
 use Rattle.routines.specs.Right.{isSettled}
-use Rattle.routines.specs.Posts.{emptyPost, noPosts, postAt, waitsOf, waitsIn, withPrograms, withUnitPost, withPost}
+use Rattle.routines.specs.Posts.{emptyPost, noPosts, postAt, waitsOf, withPrograms, withUnitPost, withPost}
 use Rattle.routines.specs.Changes.{askedIn, madeDueIn, clearedIn, scheduledIn, lookedIn, answeredIn}
 use Rattle.routines.proofs.Laws.Highest.{with-own}
-use Rattle.routines.proofs.Laws.Schedule.{by-look}
 use Rattle.routines.proofs.Laws.Own.{look-own}
 use Rattle.routines.proofs.Laws.Table.{due-at, waits-with, post-other, named-unit}
 use Rattle.call_request.specs.Named.{answersRequest, reportedRoutines}

@@ -1,26 +1,25 @@
 -- What is made due is entered once, and programs resume in the reverse order of their interruption, over histories. Assumes nothing.
 use mathlib.Core.Path.{_≡_, refl, sym, ap, subst, _∙_}
-use mathlib.Core.Bool.{Bool, true, false, not, cond, _&&_, and-false}
+use mathlib.Core.Bool.{Bool, true, false, cond, _&&_}
 use mathlib.Core.Option.{Option, none, some}
 use mathlib.Core.List.{List, [], _∷_, _++_}
-use Prim.Native.Nat.{ℕ, _+_, _≤_, _<_}
+use Prim.Native.Nat.{ℕ, _+_, _<_}
 use native.Mathlib.Decide.{ℕ-discrete}
 use native.Mathlib.Omega.{arith}
 use borrow.Author.Tests.{eqb-true, eq-eqb, ne-eqb, lt-ltb}
-use lib.Dec.{eqb, ltb}
+use lib.Dec.{eqb}
 use Rattle.area.specs.Lists.{oneIf}
 use Rattle.area.proofs.Walks.{by-test, true-not-false, and-left, and-right}
 use Rattle.routines.specs.declared.Due.{Due}
 use Rattle.routines.specs.declared.Program.{Program}
 use Rattle.routines.specs.Ranks.{nothingDue, isDue, waitingAt}
-use Rattle.routines_theorems.specs.History.{isProgram, Turn, interrupted, resumed, dropped, Reversed, done, interrupts, resumes, drops}
+use Rattle.routines_theorems.specs.History.{isProgram, Turn, Reversed, done, interrupts, resumes, drops}
 use Rattle.state.specs.declared.State.{State}
 use Rattle.pack.specs.Calls.{Call, fresh, opening, close, ask, report, get, put, seal, skip, freeze, thaw, return, running, Answer, answerOf}
-use Rattle.pack.specs.Histories.{Lent, answerTo, after, isAccepted, ofFresh, ofReport, count, freshStart}
-use Rattle.pack.proofs.Refused.{call-alone}
+use Rattle.pack.specs.Histories.{Lent, answerTo, isAccepted, ofFresh, count, freshStart}
 use Rattle.pack.proofs.Kept.{Good, call-kept}
 use Rattle.demands.specs.Entries.{First}
-use Rattle.demands.specs.Routines.{runsIn, toldEntry, another, enteredBy, Roster, blankRoster, withDue, withLook, withReturn, makesDue, readied, rostered, rosteredAt, rosterAfter, Schedules, GivesBack, turnOfLook, turnOfReturn, turnsBy, turnsAt, turnsAfter, makesDueAt, countDue, isOne, entersIt, Once}
+use Rattle.demands.specs.Routines.{runsIn, toldEntry, another, enteredBy, Roster, withDue, withLook, withReturn, makesDue, readied, rostered, rosteredAt, rosterAfter, turnOfLook, turnOfReturn, turnsBy, turnsAt, turnsAfter, makesDueAt, countDue, isOne, entersIt, Once}
 use Rattle.demands.proofs.Listed.{same-program}
 use Rattle.demands.proofs.Rosters.{Noted, call-noted}
 use Rattle.demands.proofs.Scheduling.{call-schedules, gives-back}
@@ -214,77 +213,73 @@ module _ (c u : ℕ) (d : Due) (due : isDue d ≡ true) where
 
   -- ---- over calls after it
 
-  module _ where
-    abbrev entries : State → List Lent → ℕ
-    entries s h = count (entersIt (waitingAt c u d)) s h
+  -- both counts of a history are of its first call and of the rest
+  first-zero : (x y : ℕ) → x + y ≡ 0 → x ≡ 0
+  first-zero x y e = omega (arith, e)
 
-    -- both counts of a history are of its first call and of the rest
-    first-zero : (x y : ℕ) → x + y ≡ 0 → x ≡ 0
-    first-zero x y e = omega (arith, e)
+  rest-zero : (x y : ℕ) → x + y ≡ 0 → y ≡ 0
+  rest-zero x y e = omega (arith, e)
 
-    rest-zero : (x y : ℕ) → x + y ≡ 0 → y ≡ 0
-    rest-zero x y e = omega (arith, e)
+  not-due : (w : Due) → isDue w ≡ false → 0 < w .rank → ⊥
+  not-due w e l = true-not-false (lt-ltb 0 (w .rank) l) e
 
-    not-due : (w : Due) → isDue w ≡ false → 0 < w .rank → ⊥
-    not-due w e l = true-not-false (lt-ltb 0 (w .rank) l) e
+  -- what is left of a history after its first call
+  abbrev Rest : State → Roster → List Lent → Type 0
+  Rest s r h = (count (entersIt (waitingAt c u d)) s h ≡ 0) × (isDue (rosterAfter s r h .waits c u) ≡ false)
 
-    -- what is left of a history after its first call
-    abbrev Rest : State → Roster → List Lent → Type 0
-    Rest s r h = (count (entersIt (waitingAt c u d)) s h ≡ 0) × (isDue (rosterAfter s r h .waits c u) ≡ false)
+  abbrev OnceMore : State → Roster → List Lent → Type 0
+  OnceMore s r h =
+      (count (entersIt (waitingAt c u d)) s h + oneIf (isDue (rosterAfter s r h .waits c u)) ≡ 1)
+      × (isDue (rosterAfter s r h .waits c u) ≡ true → rosterAfter s r h .waits c u ≡ d)
 
-    abbrev OnceMore : State → Roster → List Lent → Type 0
-    OnceMore s r h =
-        (count (entersIt (waitingAt c u d)) s h + oneIf (isDue (rosterAfter s r h .waits c u)) ≡ 1)
-        × (isDue (rosterAfter s r h .waits c u) ≡ true → rosterAfter s r h .waits c u ≡ d)
+  abbrev Steps : State → Roster → Lent → Type 0
+  Steps s r x = Gone (r .waits c u) (rosteredAt s x r .waits c u) (isAccepted (answerTo s x) && entersIt (waitingAt c u d) s (x .call) (answerTo s x))
 
-    abbrev Steps : State → Roster → Lent → Type 0
-    Steps s r x = Gone (r .waits c u) (rosteredAt s x r .waits c u) (isAccepted (answerTo s x) && entersIt (waitingAt c u d) s (x .call) (answerTo s x))
+  -- nothing waits at the unit
+  rest-of : (s : State) (r : Roster) (x : Lent) (h : List Lent) → isDue (r .waits c u) ≡ false
+      → (isDue (rosteredAt s x r .waits c u) ≡ false → Rest (answerTo s x .state) (rosteredAt s x r) h) → Steps s r x → Rest s r (x ∷ h)
+  unfolding count rosterAfter
+  rest-of s r x h w next (kept e n) =
+      let z = next (ap isDue e ∙ w) in
+      let here : oneIf (isAccepted (answerTo s x) && entersIt (waitingAt c u d) s (x .call) (answerTo s x)) ≡ 0 = ap oneIf n in
+      (omega (arith, here, z .0), z .1)
+  rest-of s r x h w next (left e l n) = absurd (not-due (r .waits c u) w l)
 
-    -- nothing waits at the unit
-    rest-of : (s : State) (r : Roster) (x : Lent) (h : List Lent) → isDue (r .waits c u) ≡ false
-        → (isDue (rosteredAt s x r .waits c u) ≡ false → Rest (answerTo s x .state) (rosteredAt s x r) h) → Steps s r x → Rest s r (x ∷ h)
-    unfolding count rosterAfter
-    rest-of s r x h w next (kept e n) =
-        let z = next (ap isDue e ∙ w) in
-        let here : oneIf (isAccepted (answerTo s x) && entersIt (waitingAt c u d) s (x .call) (answerTo s x)) ≡ 0 = ap oneIf n in
-        (omega (arith, here, z .0), z .1)
-    rest-of s r x h w next (left e l n) = absurd (not-due (r .waits c u) w l)
+  -- the routine waits there
+  once-of : (s : State) (r : Roster) (x : Lent) (h : List Lent) → r .waits c u ≡ d
+      → (rosteredAt s x r .waits c u ≡ d → OnceMore (answerTo s x .state) (rosteredAt s x r) h)
+      → (isDue (rosteredAt s x r .waits c u) ≡ false → Rest (answerTo s x .state) (rosteredAt s x r) h) → Steps s r x → OnceMore s r (x ∷ h)
+  unfolding count rosterAfter
+  once-of s r x h w next rest (kept e n) =
+      let z = next (e ∙ w) in
+      let here : oneIf (isAccepted (answerTo s x) && entersIt (waitingAt c u d) s (x .call) (answerTo s x)) ≡ 0 = ap oneIf n in
+      (omega (arith, here, z .0), z .1)
+  once-of s r x h w next rest (left e l n) =
+      let z = rest (ap isDue e) in
+      let here : oneIf (isAccepted (answerTo s x) && entersIt (waitingAt c u d) s (x .call) (answerTo s x)) ≡ 1 =
+      ap oneIf (n ∙ ap (λ (y : Due). isProgram (waitingAt c u y) (waitingAt c u d)) w ∙ same-program (waitingAt c u d)) in
+      let none : oneIf (isDue (rosterAfter (answerTo s x .state) (rosteredAt s x r) h .waits c u)) ≡ 0 = ap oneIf (z .1) in
+      (omega (arith, here, none, z .0), λ q. true-not-false q (z .1))
 
-    -- the routine waits there
-    once-of : (s : State) (r : Roster) (x : Lent) (h : List Lent) → r .waits c u ≡ d
-        → (rosteredAt s x r .waits c u ≡ d → OnceMore (answerTo s x .state) (rosteredAt s x r) h)
-        → (isDue (rosteredAt s x r .waits c u) ≡ false → Rest (answerTo s x .state) (rosteredAt s x r) h) → Steps s r x → OnceMore s r (x ∷ h)
-    unfolding count rosterAfter
-    once-of s r x h w next rest (kept e n) =
-        let z = next (e ∙ w) in
-        let here : oneIf (isAccepted (answerTo s x) && entersIt (waitingAt c u d) s (x .call) (answerTo s x)) ≡ 0 = ap oneIf n in
-        (omega (arith, here, z .0), z .1)
-    once-of s r x h w next rest (left e l n) =
-        let z = rest (ap isDue e) in
-        let here : oneIf (isAccepted (answerTo s x) && entersIt (waitingAt c u d) s (x .call) (answerTo s x)) ≡ 1 =
-        ap oneIf (n ∙ ap (λ (y : Due). isProgram (waitingAt c u y) (waitingAt c u d)) w ∙ same-program (waitingAt c u d)) in
-        let none : oneIf (isDue (rosterAfter (answerTo s x .state) (rosteredAt s x r) h .waits c u)) ≡ 0 = ap oneIf (z .1) in
-        (omega (arith, here, none, z .0), λ q. true-not-false q (z .1))
+  no-more : (s : State) (r : Roster) (h : List Lent) → Good s → Noted s r → count freshStart s h ≡ 0 → countDue c u s r h ≡ 0 → isDue (r .waits c u) ≡ false → Rest s r h
+  unfolding count countDue rosterAfter
+  no-more s r [] g N f m w = (refl, w)
+  no-more s r (x ∷ h) g N f m w =
+      rest-of s r x h w
+      (λ v. no-more (answerTo s x .state) (rosteredAt s x r) h (call-kept s (x .area) g (x .call)) (call-noted s (x .area) g r N (x .call)) (rest-zero _ _ f) (rest-zero _ _ m) v)
+      (step-gone s (x .area) g r N (x .call) (first-zero _ _ f) (first-zero _ _ m))
 
-    no-more : (s : State) (r : Roster) (h : List Lent) → Good s → Noted s r → count freshStart s h ≡ 0 → countDue c u s r h ≡ 0 → isDue (r .waits c u) ≡ false → Rest s r h
-    unfolding count countDue rosterAfter
-    no-more s r [] g N f m w = (refl, w)
-    no-more s r (x ∷ h) g N f m w =
-        rest-of s r x h w
-        (λ v. no-more (answerTo s x .state) (rosteredAt s x r) h (call-kept s (x .area) g (x .call)) (call-noted s (x .area) g r N (x .call)) (rest-zero _ _ f) (rest-zero _ _ m) v)
-        (step-gone s (x .area) g r N (x .call) (first-zero _ _ f) (first-zero _ _ m))
-
-    -- it waits: it is entered once, or waits still
-    once-more : (s : State) (r : Roster) (h : List Lent) → Good s → Noted s r → count freshStart s h ≡ 0 → countDue c u s r h ≡ 0 → r .waits c u ≡ d → OnceMore s r h
-    unfolding count countDue rosterAfter
-    once-more s r [] g N f m w = (let one : oneIf (isDue (r .waits c u)) ≡ 1 = ap (λ (x : Due). oneIf (isDue x)) w ∙ ap oneIf due in omega (arith, one), λ e. w)
-    once-more s r (x ∷ h) g N f m w =
-        let good = call-kept s (x .area) g (x .call) in
-        let noted = call-noted s (x .area) g r N (x .call) in
-        once-of s r x h w
-        (λ v. once-more (answerTo s x .state) (rosteredAt s x r) h good noted (rest-zero _ _ f) (rest-zero _ _ m) v)
-        (λ v. no-more (answerTo s x .state) (rosteredAt s x r) h good noted (rest-zero _ _ f) (rest-zero _ _ m) v)
-        (step-gone s (x .area) g r N (x .call) (first-zero _ _ f) (first-zero _ _ m))
+  -- it waits: it is entered once, or waits still
+  once-more : (s : State) (r : Roster) (h : List Lent) → Good s → Noted s r → count freshStart s h ≡ 0 → countDue c u s r h ≡ 0 → r .waits c u ≡ d → OnceMore s r h
+  unfolding count countDue rosterAfter
+  once-more s r [] g N f m w = (let one : oneIf (isDue (r .waits c u)) ≡ 1 = ap (λ (x : Due). oneIf (isDue x)) w ∙ ap oneIf due in omega (arith, one), λ e. w)
+  once-more s r (x ∷ h) g N f m w =
+      let good = call-kept s (x .area) g (x .call) in
+      let noted = call-noted s (x .area) g r N (x .call) in
+      once-of s r x h w
+      (λ v. once-more (answerTo s x .state) (rosteredAt s x r) h good noted (rest-zero _ _ f) (rest-zero _ _ m) v)
+      (λ v. no-more (answerTo s x .state) (rosteredAt s x r) h good noted (rest-zero _ _ f) (rest-zero _ _ m) v)
+      (step-gone s (x .area) g r N (x .call) (first-zero _ _ f) (first-zero _ _ m))
 
 -- ---- from the call that makes it due on
 

@@ -3,13 +3,13 @@ use mathlib.Core.Path.{_≡_, refl, sym, ap, subst, _∙_}
 use mathlib.Core.Bool.{Bool, true, false, cond, _&&_}
 use mathlib.Core.Option.{Option, none, some}
 use mathlib.Core.List.{List, [], _∷_}
-use Prim.Native.Nat.{ℕ, _+_, _-_, _≤_, _<_}
+use Prim.Native.Nat.{ℕ, _-_, _<_}
 use native.Mathlib.Omega.{arith}
-use borrow.Author.Tests.{ltb-false, ltb-true, lt-ltb, le-leb, eq-eqb, ne-eqb, eqb-true}
+use borrow.Author.Tests.{ltb-false, lt-ltb, le-leb, eq-eqb, ne-eqb}
 use lib.Dec.{ltb, leb, eqb}
 use lib.ListN.{length, getD, replicate, length-map, getD-replicate, List·getD-eq-default}
 use native.Mathlib.Decide.{decLt}
-use Rattle.area.proofs.Walks.{true-not-false, and-left, and-right, and-both}
+use Rattle.area.proofs.Walks.{and-both}
 use Rattle.channel.specs.Units.{unitCount, channelCount}
 use Rattle.routines.specs.declared.Due.{Due}
 use Rattle.routines.specs.declared.Naming.{Naming}

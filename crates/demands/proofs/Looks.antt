@@ -1,28 +1,26 @@
 -- Laws of a look and of a return over all posts: what each enters, and what it leaves. Assumes nothing.
 use mathlib.Core.Path.{_≡_, refl, sym, ap, subst, _∙_}
 use mathlib.Core.Bool.{Bool, true, false, not, cond, _&&_}
-use mathlib.Core.List.{List, [], _∷_}
-use Prim.Native.Nat.{ℕ, _≤_, _<_}
+use mathlib.Core.List.{List, []}
+use Prim.Native.Nat.{ℕ, _<_}
 use native.Mathlib.Omega.{arith}
 use borrow.Author.Tests.{not-true, ltb-true, eqb-true, eqb-false}
-use lib.Dec.{ltb, eqb}
+use lib.Dec.{eqb}
 use native.Mathlib.Decide.{decLt}
-use lib.ListN.{length, getD, set, length-map, List·getD-eq-default}
+use lib.ListN.{length, getD, length-map, List·getD-eq-default}
 use lib.Seq.{getD-set-same}
-use Rattle.area.proofs.Walks.{by-test, true-not-false, and-left, and-right}
+use Rattle.area.proofs.Walks.{and-left}
 use Rattle.routines.specs.declared.Due.{Due}
 use Rattle.routines.specs.declared.Program.{Program}
-use Rattle.routines.specs.declared.Programs.{Programs}
-use Rattle.routines.specs.declared.Scheduled.{Scheduled}
 use Rattle.routines.specs.declared.Post.{Post}
 use Rattle.routines.specs.declared.Posts.{Posts}
 use Rattle.routines.specs.declared.Routines.{Routines}
-use Rattle.routines.specs.Ranks.{depth, nothingDue, isDue, waitingAt, listOf}
+use Rattle.routines.specs.Ranks.{depth, nothingDue, waitingAt}
 use Rattle.routines.specs.Waits.{dueAt, isUnit, highest}
 use Rattle.routines.specs.Order.{NotBefore}
-use Rattle.routines.specs.Schedule.{enters, interruptedBy, lookOf, lastPushed, entersOnReturn, replacedBy, resumedOf, givenBack}
+use Rattle.routines.specs.Schedule.{enters, interruptedBy, lastPushed, entersOnReturn, replacedBy, resumedOf}
 use Rattle.routines.specs.Posts.{emptyPost, noPosts, postAt, dueIn, waitsOf, withPrograms, withUnitPost, withPost}
-use Rattle.routines.specs.Changes.{askedIn, madeDueIn, clearedIn, scheduledIn, lookedIn, answeredIn, gaveBackIn}
+use Rattle.routines.specs.Changes.{askedIn, madeDueIn, clearedIn, scheduledIn, lookedIn, gaveBackIn}
 use Rattle.routines.proofs.Laws.Highest.{waits-unit, highest-first, highest-waits}
 use Rattle.routines.proofs.Laws.Schedule.{by-look, enters-above, enters-room, by-back, back-above}
 use Rattle.routines.proofs.Laws.Table.{dues-at, due-at, post-other}

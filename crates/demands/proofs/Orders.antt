@@ -42,7 +42,6 @@ use Rattle.pool.specs.Free.{fileCount, heldBy}
 use Rattle.pool.specs.Masks.{freeMask}
 use Rattle.pool.specs.Serving.{serves, servingFile}
 use Rattle.routines.specs.declared.Naming.{Naming}
-use Rattle.routines.specs.declared.Due.{Due}
 use Rattle.routines.specs.declared.Post.{Post}
 use Rattle.routines.specs.declared.Routines.{Routines}
 use Rattle.routines.specs.Ranks.{isDue}
@@ -69,7 +68,7 @@ use Rattle.call_request.specs.Effects.{isDelivery}
 use Rattle.call_request.specs.Ask.{askRefusal, askedFile, askOn}
 use Rattle.call_request.specs.Report.{effectAt, shownBlock, reportRefusal, reportedFile, reportedArea, reportOn, reportOnArea}
 use Rattle.pack_request.specs.Changes.{changedState}
-use Rattle.call_request.specs.Named.{answersRequest, askedRoutines, reportedRoutines}
+use Rattle.call_request.specs.Named.{askedRoutines, reportedRoutines}
 use Rattle.pack_request.specs.Calls.{askWrong, askWaits, askChange, askBy, fileOf, reportWrong, reportBy, reportByArea}
 use Rattle.pack_request.proofs.Changed.{Frame, changed-taken}
 use Rattle.pack_request.proofs.Ready.{ready-facts}

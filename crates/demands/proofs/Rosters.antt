@@ -1,35 +1,31 @@
 -- The roster of a history is what the state holds, after every call; and what each accepted call looks at and enters. Assumes nothing.
 use mathlib.Core.Path.{_≡_, refl, sym, ap, subst, _∙_}
-use mathlib.Core.Logic.{_≢_}
-use mathlib.Core.Bool.{Bool, true, false, not, cond, _&&_}
+use mathlib.Core.Bool.{Bool, true, false, cond, _&&_}
 use mathlib.Core.Option.{Option, none, some}
-use mathlib.Core.List.{List, [], _∷_, map}
-use Prim.Native.Nat.{ℕ, zero, suc, _≤_, _<_}
+use mathlib.Core.List.{List, [], _∷_}
+use Prim.Native.Nat.{ℕ, zero, suc}
 use native.Mathlib.Decide.{ℕ-discrete}
 use native.Mathlib.Omega.{arith}
 use borrow.Author.Tests.{eq-eqb, ne-eqb}
-use lib.Dec.{eqb}
 use lib.ListN.{length, getD, replicate, length-map}
 use Rattle.area.specs.Refusals.{lowest}
-use Rattle.area.proofs.Walks.{by-test, true-not-false, and-left, and-right}
+use Rattle.area.proofs.Walks.{by-test, and-left, and-right}
 use Rattle.channel.specs.declared.Channel.{Channel}
 use Rattle.channel.specs.Units.{unitCount, channelCount, size, freshWith, bitsFrom, freshOf}
 use Rattle.channel_turns.specs.Starts.{thawOf}
-use Rattle.channel_theorems.specs.History.{Station, Step, stepTo}
+use Rattle.channel_theorems.specs.History.{Station, stepTo}
 use Rattle.channel_theorems.specs.Lifted.{Shown, Agrees}
 use Rattle.channel_theorems.proofs.Theorems.Turning.{declared-inside}
 use Rattle.channel_theorems.proofs.Theorems.Calls.{Took, took}
 use Rattle.channel_theorems.proofs.Theorems.Fresh.{units-step}
-use Rattle.routines.specs.declared.Due.{Due}
 use Rattle.routines.specs.declared.Naming.{Naming}
 use Rattle.routines.specs.declared.Program.{Program}
-use Rattle.routines.specs.declared.Programs.{Programs}
 use Rattle.routines.specs.declared.Routines.{Routines}
 use Rattle.routines.specs.Ranks.{isDue}
 use Rattle.routines.specs.Waits.{isUnit}
 use Rattle.routines.specs.Schedule.{noneRuns}
 use Rattle.routines.specs.Right.{programsRight}
-use Rattle.routines.specs.Posts.{dueOf, postAt, waitsOf, withPost}
+use Rattle.routines.specs.Posts.{postAt, waitsOf, withPost}
 use Rattle.routines.specs.Changes.{madeDueIn, lookedIn, answeredIn, gaveBackIn}
 use Rattle.state.specs.declared.State.{State}
 use Rattle.state.specs.Places.{noChannel, beforeStart, fileAt, channelIn, channelAt}
@@ -38,7 +34,7 @@ use Rattle.state_sound.specs.Soundness.{sound}
 use Rattle.state_sound.proofs.Facts.{SoundFacts, sound-facts}
 use Rattle.state_sound.proofs.Kept.{line-of}
 use Rattle.call_request.specs.Ask.{askRefusal}
-use Rattle.call_request.specs.Named.{answersRequest, reportedRoutines}
+use Rattle.call_request.specs.Named.{reportedRoutines}
 use Rattle.pack_start.specs.declared.Masks.{Masks}
 use Rattle.pack_start.specs.Fresh.{freshState}
 use Rattle.pack_start.specs.Freeze.{frozenState, thawedState}
@@ -62,13 +58,12 @@ use Rattle.pack.specs.Calls.{Call, fresh, opening, close, ask, report, get, put
 use Rattle.pack.specs.Histories.{Lent, answerTo, after, isAccepted, isAnswer}
 use Rattle.pack.proofs.Refused.{call-alone}
 use Rattle.pack.proofs.Kept.{Good, call-kept}
-use Rattle.pack.proofs.Seen.{stationAt, seen, call-agrees}
+use Rattle.pack.proofs.Seen.{seen, call-agrees}
 use Rattle.pack.proofs.Booking.{shows-start}
-use Rattle.demands.specs.Entries.{First}
-use Rattle.demands.specs.Routines.{toldProgram, runsIn, toldEntry, another, enteredBy, Roster, blankRoster, namedBy, withName, withDue, withFreeze, withLook, withReturn, makesDue, readied, rostered, rosteredAt, rosterAfter}
-use Rattle.demands.proofs.Looks.{Looked, stays, looked, Back, gave-back}
+use Rattle.demands.specs.Routines.{toldProgram, runsIn, toldEntry, another, Roster, blankRoster, namedBy, withName, withDue, withFreeze, withLook, withReturn, makesDue, readied, rostered, rosteredAt, rosterAfter}
+use Rattle.demands.proofs.Looks.{Looked, stays, looked, gave-back}
 use Rattle.demands.proofs.Beside.{reported-idle}
-use Rattle.demands.proofs.Listed.{none-entered, Lists, lists-none, unit-is, ask-lists, due-lists, look-lists, LookEnters, look-enters, backEntry, back-lists}
+use Rattle.demands.proofs.Listed.{Lists, lists-none, unit-is, ask-lists, due-lists, look-lists, LookEnters, look-enters, backEntry, back-lists}
 
 pub record Noted (s : State) (r : Roster) : Type 0 where
   pub lists : Lists r (s .routines)

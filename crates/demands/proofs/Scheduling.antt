@@ -1,34 +1,30 @@
 -- What runs after each accepted call, by the roster. Assumes nothing.
 use mathlib.Core.Path.{_≡_, refl, sym, ap, subst, _∙_}
-use mathlib.Core.Bool.{Bool, true, false, not, cond, _&&_}
+use mathlib.Core.Bool.{Bool, true, false, cond}
 use mathlib.Core.Logic.{_⊎_, inl, inr}
 use mathlib.Core.Option.{Option, none, some}
 use mathlib.Core.List.{List, [], _∷_, map}
 use Prim.Native.Nat.{ℕ, _+_, _≤_, _<_}
 use native.Mathlib.Omega.{arith}
 use borrow.Author.Tests.{lt-leb, eq-eqb}
-use lib.Dec.{leb}
 use lib.ListN.{length}
 use Rattle.area.specs.Refusals.{lowest}
 use Rattle.area.proofs.Walks.{by-test, true-not-false}
 use Rattle.routines.specs.declared.Due.{Due}
 use Rattle.routines.specs.declared.Naming.{Naming}
 use Rattle.routines.specs.declared.Program.{Program}
-use Rattle.routines.specs.declared.Programs.{Programs}
 use Rattle.routines.specs.declared.Routines.{Routines}
-use Rattle.routines.specs.Ranks.{depth, isMain, isDue, under, listOf}
+use Rattle.routines.specs.Ranks.{depth, isMain, isDue}
 use Rattle.routines.specs.Waits.{dueAt, highest}
-use Rattle.routines.specs.Schedule.{noneRuns}
-use Rattle.routines.specs.Right.{dueRight, descends, programsRight}
-use Rattle.routines.specs.Posts.{postAt, waitsOf, withPost}
+use Rattle.routines.specs.Right.{descends}
+use Rattle.routines.specs.Posts.{waitsOf, withPost}
 use Rattle.routines.specs.Changes.{askedIn, gaveBackIn}
 use Rattle.routines.proofs.Laws.Lists.{length-under}
 use Rattle.routines.proofs.Laws.Kept.{clauses}
 use Rattle.routines.proofs.Laws.Table.{due-at}
-use Rattle.routines_theorems.specs.Machine.{Machine, Sound}
-use Rattle.routines_theorems.specs.History as machine
-use Rattle.routines_theorems.specs.History.{isFull}
+use Rattle.routines_theorems.specs.Parts.{machineOf}
 use Rattle.routines_theorems.proofs.Theorems.{runs-highest, full-list}
+use Rattle.routines_theorems.proofs.Parts.{part-sound}
 use Rattle.state.specs.declared.State.{State}
 use Rattle.state.specs.Places.{fileAt, channelAt}
 use Rattle.state_sound.specs.Soundness.{sound}
@@ -46,33 +42,18 @@ use Rattle.pack_record.proofs.GetTheorems.{get-frame}
 use Rattle.pack_record.proofs.SkipTheorems.{skip-frame}
 use Rattle.pack_record.proofs.PutTheorems.{put-frame}
 use Rattle.pack_record.proofs.SealTheorems.{seal-frame}
-use Rattle.pack.specs.Calls.{Call, fresh, opening, close, ask, report, get, put, seal, skip, freeze, thaw, return, running, runs, runningNow, Answer, answerOf}
+use Rattle.pack.specs.Calls.{Call, fresh, opening, close, ask, report, get, put, seal, skip, freeze, thaw, return, running, runs, runningNow, answerOf}
 use Rattle.pack.specs.Books.{Book}
 use Rattle.pack.proofs.Kept.{Good, call-kept}
 use Rattle.pack.proofs.Seen.{stationAt}
 use Rattle.pack.proofs.Booking.{Shows}
 use Rattle.demands.specs.Turns.{isPending}
 use Rattle.demands.proofs.Turns.{ask-holding}
-use Rattle.demands.specs.Entries.{First, KeptOut}
-use Rattle.demands.specs.Routines.{toldProgram, runsIn, toldEntry, another, enteredBy, Roster, withDue, withFreeze, withReturn, pastFirst, makesDue, readied, rostered, rosteredAt, isLook, Moves, answers, thaws, returns, afresh, Schedules, Returns, GivesBack}
+use Rattle.demands.specs.Entries.{KeptOut}
+use Rattle.demands.specs.Routines.{runsIn, toldEntry, another, enteredBy, Roster, withDue, withReturn, pastFirst, makesDue, readied, rostered, rosteredAt, Moves, answers, thaws, returns, afresh, Schedules, Returns, GivesBack}
 use Rattle.demands.proofs.Looks.{gave-back}
-use Rattle.demands.proofs.Listed.{none-some, Lists, LookEnters, backEntry, BackEnters, back-enters, back-resumes}
+use Rattle.demands.proofs.Listed.{none-some, LookEnters, BackEnters, back-enters, back-resumes}
 use Rattle.demands.proofs.Rosters.{Noted, running-taken, runs-is, Look, look-entered, list-right, report-idle, report-look, thaw-look, some-runs, return-routines, return-entry, return-tells, accepted-noted}
-
--- ---- the special routines of a sound state are a sound machine
-
-abbrev machineOf : State → Machine
-machineOf s = record { frozen = s .frozen; programs = s .routines .programs; waits = waitsOf (s .routines) }
-
-machine-sound : (s : State) → sound s ≡ true → Sound (machineOf s)
-machine-sound s h =
-    let F = sound-facts s h .routines in
-    record {
-      places = clauses (s .routines .programs) (F .ready .programs) .long;
-      programs = F .ready .programs;
-      dues = λ c u. ap dueRight (due-at (s .routines) c u) ∙ F .ready .posts c u .due;
-      settled = F .settled;
-    }
 
 list-length : (t : State) (q : Roster) → Noted t q → length (q .list) ≡ t .routines .programs .count
 list-length t q N = ap length (N .lists .list) ∙ length-under (t .routines .programs .pushed) (t .routines .programs .count)
@@ -87,7 +68,7 @@ module _ (t : State) (q : Roster) (h : sound t ≡ true) (N : Noted t q) where
   pub all-lower : q .frozen ≡ false → length (q .list) < 4 → (c u : ℕ) → q .waits c u .rank ≤ runsIn t .rank
   all-lower f l c u =
       let few : t .routines .programs .count < depth = omega (arith, list-length t q N, l) in
-      let low = runs-highest (machineOf t) (machine-sound t h) (sym (N .frozen) ∙ f) (lt-leb depth (t .routines .programs .count) few) c u in
+      let low = runs-highest (machineOf (t .frozen) (t .routines)) (part-sound _ _ (t .frozen) (t .routines) (sound-facts t h .routines)) (sym (N .frozen) ∙ f) (lt-leb depth (t .routines .programs .count) few) c u in
       let r : dueAt (waitsOf (t .routines)) c u .rank ≡ q .waits c u .rank = ap (λ (d : Due). d .rank) (waits-are c u) in
       let now : runsIn t .rank ≡ t .routines .programs .running .rank = ap (λ (p : Program). p .rank) (runs-is t h) in
       omega (arith, low, r, now)
@@ -96,7 +77,7 @@ module _ (t : State) (q : Roster) (h : sound t ≡ true) (N : Noted t q) where
   kept-out f c u above =
       let r : dueAt (waitsOf (t .routines)) c u .rank ≡ q .waits c u .rank = ap (λ (d : Due). d .rank) (waits-are c u) in
       let now : runsIn t .rank ≡ t .routines .programs .running .rank = ap (λ (p : Program). p .rank) (runs-is t h) in
-      let K = full-list (machineOf t) (machine-sound t h) (sym (N .frozen) ∙ f) c u (omega (arith, above, r, now)) in
+      let K = full-list (machineOf (t .frozen) (t .routines)) (part-sound _ _ (t .frozen) (t .routines) (sound-facts t h .routines)) (sym (N .frozen) ∙ f) c u (omega (arith, above, r, now)) in
       record {
         third = now ∙ K .runs;
         below = ap (map (λ (x : Program). x .rank)) (N .lists .list) ∙ K .below;

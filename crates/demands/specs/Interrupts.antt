@@ -7,11 +7,10 @@ use mathlib.Core.List.{List, [], _∷_}
 use lib.ListN.{replicate}
 use Rattle.call_request.specs.declared.Delivery.the-variants.{Without}
 use Rattle.channel_outcomes.specs.Rules.{good, noLength}
-use Rattle.routines.specs.declared.Naming.{Naming}
 use Rattle.routines.specs.declared.Program.{Program}
 use Rattle.routines.specs.Ranks.{rankOf, mainProgram}
 use Rattle.pack.specs.Calls.{Call, fresh, opening, ask, report, freeze, thaw, return, running, working, reported, returned, runs}
-use Rattle.demands.specs.Witness.{Told, told, Step, so, done}
+use Rattle.demands.specs.Witness.{told, Step, so, done}
 
 -- the file of a number is opened on the unit of the same number of channel 0, to write, with B = r = 1
 abbrev pub opens : ℕ → Step

@@ -13,7 +13,7 @@ use Rattle.routines.specs.declared.Naming.{Naming}
 use Rattle.routines.specs.declared.Program.{Program}
 use Rattle.routines.specs.Ranks.{rankOf, mainProgram, isMain, nothingDue, isDue, waitingAt}
 use Rattle.routines.specs.Right.{descends}
-use Rattle.routines_theorems.specs.History.{isProgram, Turn, interrupted, resumed, dropped, Reversed}
+use Rattle.routines_theorems.specs.History.{isProgram, Turn, interrupted, resumed, dropped}
 use Rattle.state.specs.declared.State.{State}
 use Rattle.state.specs.Places.{fileAt}
 use Rattle.pack_start.specs.declared.Masks.{Masks}
