@@ -4,3 +4,4 @@ pub mod Highest
 pub mod Schedule
 pub mod Kept
 pub mod Own
+pub mod Table

@@ -1,3 +1,4 @@
+pub mod Changes
 pub mod Order
 pub mod Posts
 pub mod Ranks

@@ -46,13 +46,25 @@ abbrev pub postAt : Routines → ℕ → ℕ → Post
 postAt r c u = getD (getD (r .posts) c noPosts .units) u emptyPost
 
 -- what waits at each unit
+abbrev pub dueIn : Post → Due
+dueIn x = x .due
+
+abbrev pub duesIn : Posts → List Due
+duesIn x = map dueIn (x .units)
+
 abbrev pub waitsOf : Routines → Waits
-waitsOf r = map (λ (p : Posts). map (λ (x : Post). x .due) (p .units)) (r .posts)
+waitsOf r = map duesIn (r .posts)
 
 -- "A unit whose routine waits refuses a new ask with 8."
 abbrev pub waitsIn : Routines → ℕ → ℕ → Bool
 waitsIn r c u = waitsAt (waitsOf r) c u
 
--- the routines with another post at a unit; as they are at a number that is no unit's
+-- the routines with other programs, and with another post at a unit; as they are at a number that is no unit's
+abbrev pub withPrograms : Routines → Programs → Routines
+withPrograms r p = record { programs = p; posts = r .posts }
+
+abbrev pub withUnitPost : Posts → ℕ → Post → Posts
+withUnitPost p u x = record { units = set (p .units) u x }
+
 unfoldable pub withPost : Routines → ℕ → ℕ → Post → Routines
-withPost r c u x = record { programs = r .programs; posts = set (r .posts) c (record { units = set (getD (r .posts) c noPosts .units) u x }) }
+withPost r c u x = record { programs = r .programs; posts = set (r .posts) c (withUnitPost (getD (r .posts) c noPosts) u x) }

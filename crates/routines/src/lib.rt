@@ -2,11 +2,17 @@
 // What waits stands with the units: a caller passes the highest of it, and is told whether it was entered. Every function answers for any value.
 // Beside the channels stands a post for each unit, with what its request names and what waits there. The crate knows nothing of requests, files or words, and a unit
 // is a number to it.
+mod changes;
 mod ranks;
 mod right;
 mod schedule;
 mod table;
 
+pub use changes::answered;
+pub use changes::asked;
+pub use changes::gave_back;
+pub use changes::looked;
+pub use changes::waits_at;
 use channel::CHANNELS;
 use channel::UNITS;
 pub use ranks::due_named;
@@ -23,9 +29,12 @@ pub use right::programs_right;
 pub use schedule::give_back;
 pub use schedule::look;
 pub use table::due_of;
+pub use table::highest_in;
 pub use table::naming_wrong;
 pub use table::no_naming;
 pub use table::no_routines;
+pub use table::post_at;
+pub use table::with_post;
 
 // How many interrupted programs the push-down list holds.
 pub const DEPTH: usize = 4;

@@ -7,12 +7,12 @@ use Rattle.routines.proofs.table.no_routines.Tie as tie
 main-alone-requires : tie.Need-main-alone-requires
 main-alone-requires c κs = search needs
 
-nothing-due-requires : tie.Need-nothing-due-requires
-nothing-due-requires c κs = search needs
+empty-post-requires : tie.Need-empty-post-requires
+empty-post-requires c κs = search needs
 
 returns : tie.Need-returns
 unfolding noRoutines
-returns c = rw (c .before .main-alone .ensures, c .nothing-due .ensures)
+returns c = rw (c .before .main-alone .ensures, c .empty-post .ensures)
 
 pub no-routines-spec : {M : Type 1} → statement M
-no-routines-spec = tie.close (tie.spec main-alone-requires nothing-due-requires returns)
+no-routines-spec = tie.close (tie.spec main-alone-requires empty-post-requires returns)
