@@ -5,3 +5,4 @@ pub mod Schedule
 pub mod Kept
 pub mod Own
 pub mod Table
+pub mod Facts
