@@ -66,7 +66,7 @@ impl Generator {
             _ if input => Operation::Read.number(),
             _ => self.random.between(1, 2),
         };
-        Frame::Ask { file, operation, priority: self.random.below(2) }
+        Frame::Ask { file, operation, priority: self.random.below(2), names: None }
     }
 
     /// A report of any outcome for some unit or for one that works, now and then with words.
@@ -117,7 +117,7 @@ impl Generator {
             Frame::Close { file } | Frame::Get { file } | Frame::Seal { file } | Frame::Skip { file } => {
                 *file = self.other_file();
             }
-            Frame::Ask { file, operation, priority } => match self.random.below(3) {
+            Frame::Ask { file, operation, priority, .. } => match self.random.below(3) {
                 0 => *file = self.other_file(),
                 1 => *operation = self.random.below(4),
                 _ => *priority = self.random.pick(&[0, 1, 2, 255]),
@@ -134,7 +134,7 @@ impl Generator {
                 0 => *file = self.other_file(),
                 _ => self.change_words(words),
             },
-            Frame::Freeze | Frame::Thaw => {}
+            Frame::Freeze | Frame::Thaw | Frame::Return | Frame::Running => {}
         }
     }
 

@@ -216,7 +216,7 @@ impl Generator {
             return None;
         }
         let priority = u64::from(self.random.chance(self.habits.priority, 100));
-        Some(Frame::Ask { file, operation: operation.number(), priority })
+        Some(Frame::Ask { file, operation: operation.number(), priority, names: None })
     }
 
     /// A channel that works, and its unit.
