@@ -228,13 +228,7 @@ impl Pack {
 
     /// 8 and 15 as for close, and 8 for "a unit whose routine waits"; 9: "ask read: no empty buffer. Ask write,
     /// skip: no full buffer"; 10: "a file mark has been read since the open".
-    pub fn ask_refusals(
-        &self,
-        file: u64,
-        operation: u64,
-        priority: u64,
-        names: Option<Routine>,
-    ) -> Refusals {
+    pub fn ask_refusals(&self, file: u64, operation: u64, priority: u64, names: Option<Routine>) -> Refusals {
         let mut refusals = self.file_refusals(file);
         let operation = Operation::of(operation);
         refusals.when(1, operation.is_none() || priority > 1);
@@ -519,9 +513,9 @@ impl Pack {
     /// program last pushed, otherwise that program resumes."
     pub fn give_back(&mut self) -> Result<Returned, u64> {
         self.return_refusals().judge()?;
-        let next = self.highest_waiting().filter(|waiting| {
-            !self.is_frozen() && self.schedule.is_followed_by(&Program::Special(*waiting))
-        });
+        let next = self
+            .highest_waiting()
+            .filter(|waiting| !self.is_frozen() && self.schedule.is_followed_by(&Program::Special(*waiting)));
         match next {
             // The list stays: what returned makes room for what is entered.
             Some(waiting) => self.schedule.runs = self.enter(waiting),
@@ -549,7 +543,9 @@ impl Pack {
             return;
         }
         let waiting = self.highest_waiting();
-        if let Some(waiting) = waiting.filter(|&next| self.schedule.is_interrupted_by(&Program::Special(next))) {
+        if let Some(waiting) =
+            waiting.filter(|&next| self.schedule.is_interrupted_by(&Program::Special(next)))
+        {
             let entered = self.enter(waiting);
             self.schedule.interrupt(entered);
         }

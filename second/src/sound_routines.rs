@@ -187,10 +187,13 @@ mod tests {
             let mut main = [0; 4];
             main[number] = 1;
             let [rank, channel, unit, routine] = main;
-            breaks(Clause::ProgramZeros, |state| state.programs.list[0] = program(rank, channel, unit, routine));
+            breaks(Clause::ProgramZeros, |state| {
+                state.programs.list[0] = program(rank, channel, unit, routine)
+            });
             breaks(Clause::ProgramZeros, |state| {
                 state.channels[0].units[1].waiting = due(0, 0);
-                state.programs = ProgramsState { runs: program(rank, channel, unit, routine), ..programs(&[], 0) };
+                state.programs =
+                    ProgramsState { runs: program(rank, channel, unit, routine), ..programs(&[], 0) };
             });
         }
         for place in 1..4 {
