@@ -28,6 +28,7 @@ pub mod profile;
 pub mod program;
 pub mod random;
 pub mod reach;
+pub mod reach_routines;
 pub mod reel;
 pub mod reel_cases;
 pub mod reel_job;

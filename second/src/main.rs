@@ -37,7 +37,7 @@ second: documents 01 and 02 of Plorrettix, written a second time
   play                           plays a session, standard input to output
   generate PROFILE SEED FRAMES   prints a random session; profiles are mixed,
       retries, turns (priority and freeze), blocks (check words), malformed,
-      refusals, kept (failed reads), reel (noise), wrap (205,000 frames)
+      refusals, kept (failed reads), reel (noise), routines, wrap (205,000 frames)
   compare [OPTIONS] PROGRAM ..   plays random sessions against a program that
       reads a session and writes the answers; names the first frame that
       differs and shortens the session; fails if something was never reached
