@@ -61,6 +61,14 @@ pub enum Frame {
     Running,
 }
 
+impl Frame {
+    /// Reading A21: report, get, put and seal judge the area against the state's m×W; a fresh start does so against
+    /// its own.
+    fn works_on_the_area(&self) -> bool {
+        matches!(self, Frame::Report { .. } | Frame::Get { .. } | Frame::Put { .. } | Frame::Seal { .. })
+    }
+}
+
 /// Answers a line, without its line feed: a frame that is malformed is refused 1.
 pub fn answer_line(pack: &mut Pack, line: &[u8]) -> Vec<u8> {
     let answer = frame_of(line).ok_or(1).and_then(|frame| answer_frame(pack, &frame));
@@ -161,8 +169,12 @@ pub fn line_of(frame: &Frame) -> Vec<u8> {
     digits_of(&bytes)
 }
 
-/// Makes the call of a frame. "First byte 00 or the refusal": the bytes of an accepted call.
+/// Makes the call of a frame. "First byte 00 or the refusal": the bytes of an accepted call. 1: "the area is short",
+/// which that of a session never is, but that of a state image (M-103) can be.
 fn answer_frame(pack: &mut Pack, frame: &Frame) -> Result<Vec<u8>, u64> {
+    if frame.works_on_the_area() && pack.area.len() < pack.buffers * pack.width {
+        return Err(1);
+    }
     let mut answer = vec![0x00];
     match frame {
         Frame::Fresh { buffers, width, masks } => pack.fresh(*buffers, *width, *masks)?,

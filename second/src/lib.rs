@@ -3,6 +3,7 @@
 
 pub mod bench;
 pub mod blocks;
+pub mod calls;
 pub mod channel;
 pub mod channel_events;
 pub mod channel_player;
@@ -16,6 +17,8 @@ pub mod file_walks;
 pub mod folder;
 pub mod frame;
 pub mod generate;
+pub mod image;
+pub mod image_player;
 pub mod pack;
 pub mod pack_cases;
 pub mod pack_player;

@@ -138,7 +138,7 @@ pub fn broken_clauses(state: &State) -> Vec<Clause> {
 }
 
 pub fn is_sound(state: &State) -> bool {
-    broken_clauses(state).is_empty()
+    CLAUSES.iter().all(|(_, holds)| holds(state))
 }
 
 /// "m from 1 to 32, W from 1 to 1,024"; "Before the first fresh start ... m and W are 0".
