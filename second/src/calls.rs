@@ -290,21 +290,18 @@ mod tests {
 
     #[test]
     fn lines_that_are_no_cases() {
+        assert_eq!(answer_calls(""), Ok(String::new()));
         for case in [
-            "",
             "seal",
             "seal 12 1",
             "seal 12 1 0",
             "seal 12 1 0a",
-            "seal 12 1  ",
+            "seal 12 1 ",
             "check 12 1 00",
             "seal 4294967296 1 00",
+            "seal -1 1 00",
         ] {
-            assert_eq!(
-                answer_calls(case.trim_end_matches('\n')),
-                if case.is_empty() { Ok(String::new()) } else { Err("line 1 is no case".to_string()) },
-                "{case}"
-            );
+            assert_eq!(answer_calls(case), Err("line 1 is no case".to_string()), "{case}");
         }
     }
 

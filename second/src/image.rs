@@ -56,7 +56,7 @@ pub enum Fault {
 pub fn pack_of_image(image: &[u8]) -> Result<Pack, Fault> {
     let state = state_of_image(image)?;
     let words = image[AREA_PLACE..].chunks_exact(WORD_BYTES);
-    let area: Vec<u64> = words.map(|word| number_of(word)).collect();
+    let area: Vec<u64> = words.map(number_of).collect();
     Ok(pack_of(&state, &area))
 }
 

@@ -54,12 +54,12 @@ pub fn routine_units(state: &State) -> bool {
 
 /// "levels and numbers in range", of what is named and of what waits.
 pub fn routine_numbers(state: &State) -> bool {
-    all_routines(state, |_, routine| routine.rank <= HIGHEST_RANK && routine.routine <= LAST_ROUTINE)
+    all_routines(state, |routine| routine.rank <= HIGHEST_RANK && routine.routine <= LAST_ROUTINE)
 }
 
 /// "zero where nothing is meant": a routine that is none has no number.
 pub fn routine_zeros(state: &State) -> bool {
-    all_routines(state, |_, routine| routine.rank > 0 || routine.routine == 0)
+    all_routines(state, |routine| routine.rank > 0 || routine.routine == 0)
 }
 
 /// Only a request names a routine.
@@ -89,8 +89,8 @@ fn waiting(state: &State) -> impl Iterator<Item = &UnitState> {
 }
 
 /// Whether every routine that is named or waits passes a test.
-fn all_routines(state: &State, test: impl Fn(&UnitState, &RoutineState) -> bool) -> bool {
-    state.units().all(|unit| test(unit, &unit.named) && test(unit, &unit.waiting))
+fn all_routines(state: &State, test: impl Fn(&RoutineState) -> bool) -> bool {
+    state.units().all(|unit| test(&unit.named) && test(&unit.waiting))
 }
 
 #[cfg(test)]

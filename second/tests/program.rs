@@ -34,7 +34,9 @@ fn play_answers_the_whole_session() {
 
 #[test]
 fn generated_sessions_have_their_count_of_lines() {
-    for profile in ["mixed", "retries", "turns", "blocks", "malformed", "refusals", "wrap"] {
+    for profile in
+        ["mixed", "retries", "turns", "blocks", "malformed", "refusals", "kept", "reel", "routines", "wrap"]
+    {
         let output = run(&["generate", profile, "3", "500"]);
         assert!(output.status.success());
         assert_eq!(output.stdout.iter().filter(|&&character| character == b'\n').count(), 500);

@@ -8,6 +8,7 @@ use crate::pack_player as player;
 use crate::random::Random;
 use crate::sound::is_sound;
 use crate::state::State;
+use crate::state_fields::FROZEN;
 
 const SEED: u64 = 110;
 /// The pools, and the steps on each.
@@ -132,7 +133,7 @@ impl Steps<'_> {
     fn change_one(&mut self) {
         let value = self.random.below(7);
         match self.random.below(8) {
-            0 => self.script.pool(crate::state_fields::FROZEN, value % 2),
+            0 => self.script.pool(FROZEN, value % 2),
             1 => self.script.depth(value % 6),
             2..=4 => {
                 let (place, field) = (self.random.below(5), self.random.below(4));
