@@ -34,7 +34,9 @@ fn play_answers_the_whole_session() {
 
 #[test]
 fn generated_sessions_have_their_count_of_lines() {
-    for profile in ["mixed", "retries", "turns", "blocks", "malformed", "refusals", "wrap"] {
+    for profile in
+        ["mixed", "retries", "turns", "blocks", "malformed", "refusals", "kept", "reel", "routines", "wrap"]
+    {
         let output = run(&["generate", profile, "3", "500"]);
         assert!(output.status.success());
         assert_eq!(output.stdout.iter().filter(|&&character| character == b'\n').count(), 500);
@@ -136,7 +138,10 @@ fn pack_answers_its_script() {
     let script = run(&["pack-cases"]).stdout;
     let played = play_with(&command(&["pack"]), &script).expect("answers");
     assert!(played.ended_well);
-    let is_answered = |line: &&str| !(11..=17).contains(&line.split(' ').next().map_or(0, number));
+    let is_answered = |line: &&str| {
+        let kind = line.split(' ').next().map_or(0, number);
+        !(11..=17).contains(&kind) && !(24..=26).contains(&kind)
+    };
     let answered = String::from_utf8(script).expect("text").lines().filter(is_answered).count();
     assert_eq!(played.answers.iter().filter(|&&character| character == b'\n').count(), answered);
 }
