@@ -1,6 +1,7 @@
 /* The calls from C, driven from outside: a line of output for each line of input, to be compared with what the second program says of the same.
  *   calls trace [IMAGE] < SESSION     each line answered, from the start or from an image: the answer, a blank, and a hash of the state area after it
  *   calls image < SESSION             the state area after the session
+ *   calls richest < SESSION           after how many lines the state has the most bytes that are not 0, its area's words not counted
  *   calls judge IMAGE < CHANGES       the image with the bytes `PLACE VALUE ..` changed, and changed back after it: `good` or `16`
  *   calls blocks < CASES              `seal FIELDS NUMBER HEX`: `0 HEX` or minus a refusal; `check FIELDS NUMBER FOUND HEX`: `ERROR HEX` or minus a refusal
  *   calls threads < SESSION           eight threads play the session at the same time, each on areas of its own
@@ -156,6 +157,24 @@ static void image_after(void) {
     begun(&d, NULL);
     while ((line = next_line(text, bytes, &at, &length)) != NULL) cleared(&d, answered(&d, line, length));
     fwrite(d.state, 1, PLORRETTIX_STATE_BYTES, stdout);
+}
+
+static void richest(void) {
+    size_t bytes, at = 0, length, lines = 0, best = 0, most = 0, n, i;
+    uint8_t *text = whole(NULL, &bytes);
+    const uint8_t *line;
+    struct desk d = new_desk(bytes + 1);
+    begun(&d, NULL);
+    while ((line = next_line(text, bytes, &at, &length)) != NULL) {
+        cleared(&d, answered(&d, line, length));
+        lines++;
+        for (i = n = 0; i < PLORRETTIX_STATE_BYTES - PLORRETTIX_AREA_BYTES; i++) n += d.state[i] != 0;
+        if (n > most) {
+            most = n;
+            best = lines;
+        }
+    }
+    printf("%lu\n", (unsigned long)best);
 }
 
 /* Changes bytes as a line of pairs says; gives how many, and what stood there before. */
@@ -354,6 +373,7 @@ int main(int count, char **words) {
     const char *task = count > 1 ? words[1] : "";
     if (strcmp(task, "trace") == 0 && count <= 3) trace(words[2]);
     else if (strcmp(task, "image") == 0 && count == 2) image_after();
+    else if (strcmp(task, "richest") == 0 && count == 2) richest();
     else if (strcmp(task, "judge") == 0 && count == 3) judge(words[2]);
     else if (strcmp(task, "blocks") == 0 && count == 2) blocks();
     else if (strcmp(task, "threads") == 0 && count == 2) threads();
