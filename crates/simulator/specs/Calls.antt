@@ -17,6 +17,10 @@ use Rattle.session.specs.Session.{areaWords}
 abbrev pub minus : ℕ → ℤ
 minus n = negsuc (n - 1)
 
+-- minus the refusal, or what the call gives where it is not refused
+abbrev pub resultOf : ℕ → ℕ → ℤ
+resultOf refusal value = cond (eqb refusal 0) (pos value) (minus refusal)
+
 -- what a call gives, and its areas afterwards
 pub record Called : Type 0 where
   pub result : ℤ

@@ -2,6 +2,8 @@
 // Each call gives 0 or more, or minus its refusal; refused, it changes no byte.
 mod lines;
 
+use block_bytes::check_bytes;
+use block_bytes::seal_bytes;
 use lines::answer_held;
 use session::ANSWER;
 use session::WORDS;
@@ -12,7 +14,9 @@ use state_image::image_in;
 use state_image::put_image;
 use state_image::read_area;
 ghost use mathlib.Core.Path.{_≡_};
-ghost use Rattle.simulator.specs.Calls.{startCall, answerCall};
+ghost use lib.ListN.{length};
+ghost use Rattle.block_bytes.specs.ByteBlocks.{sealRefusal, sealedBytes, verdictOn, foundAfter};
+ghost use Rattle.simulator.specs.Calls.{resultOf, startCall, answerCall};
 
 // The words of the program's area.
 const AREA: usize = 4096;
@@ -57,4 +61,35 @@ pub extern "C" fn plorrettix_answer(state: &mut [u8], frame: &[u8], answer: &mut
     put_image(state, t, &area);
     let n = r.length;
     n as i64
+}
+
+// What a call gives: minus its refusal, or 0 or more where it is not refused.
+fn result_of(refusal: u8, value: u8) -> i64
+    ensures { λ r. ⌜ r ≡ resultOf refusal value ⌝ }
+{
+    if refusal == 0 {
+        return value as i64;
+    }
+    0 - refusal as i64
+}
+
+// Seals a block: five bytes a word, highest first, the data words and, if a field is chosen (4 sequence, 8 check sums), five bytes more, which become the
+// check word. 0, or -1, -2, -13.
+#[no_mangle]
+pub extern "C" fn plorrettix_seal(block: &mut [u8], fields: u32, number: u32) -> i64
+    ensures { λ r. ⌜ r ≡ resultOf (sealRefusal (now (block .entry)) fields number) 0 ⌝ }
+    ensures { λ _. ⌜ now (block .exit) ≡ sealedBytes (now (block .entry)) fields number ⌝ }
+{
+    let refusal = seal_bytes(block, fields, number);
+    result_of(refusal, 0)
+}
+
+// Checks a block as delivered, check word last if a field is chosen: the error, 0 for none. What was found goes to the front of `found`. -1, -2, -13.
+#[no_mangle]
+pub extern "C" fn plorrettix_check(block: &[u8], fields: u32, number: u32, found: &mut [u8]) -> i64
+    ensures { λ r. ⌜ r ≡ resultOf (verdictOn (now (block .entry)) fields number (length (now (found .entry))) .refusal) (verdictOn (now (block .entry)) fields number (length (now (found .entry))) .error) ⌝ }
+    ensures { λ _. ⌜ now (found .exit) ≡ foundAfter (now (block .entry)) fields number (now (found .entry)) ⌝ }
+{
+    let v = check_bytes(block, fields, number, found);
+    result_of(v.refusal, v.error)
 }
