@@ -308,65 +308,67 @@ static void threads(void) {
     puts("the same");
 }
 
-static void *one_start(void *given) {
-    struct player *p = (struct player *)given;
+static uint8_t longest[5 * (PLORRETTIX_BLOCK_WORDS + 1)];
+
+static void one_start(struct player *p) {
     expect(plorrettix_start(p->desk.state, PLORRETTIX_STATE_BYTES) == 0, "no start");
-    return NULL;
 }
 
-static void *session_alone(void *given) {
-    struct player *p = (struct player *)given;
+static void whole_session(struct player *p) {
     size_t at = 0, length;
     const uint8_t *line;
     while ((line = next_line(p->text, p->bytes, &at, &length)) != NULL)
         expect(plorrettix_answer(p->desk.state, PLORRETTIX_STATE_BYTES, line, length, p->desk.answer, PLORRETTIX_ANSWER_BYTES) > 0, "no answer");
-    return NULL;
 }
 
-static uint8_t longest[5 * (PLORRETTIX_BLOCK_WORDS + 1)];
-
-static void *one_seal(void *given) {
-    (void)given;
+static void one_seal(struct player *p) {
+    (void)p;
     expect(plorrettix_seal(longest, sizeof longest, 12, 1) == 0, "no seal");
+}
+
+static void one_check(struct player *p) {
+    expect(plorrettix_check(longest, sizeof longest, 12, 1, p->desk.answer, PLORRETTIX_FOUND_BYTES) == 0, "no check");
+}
+
+/* What a thread with a stack of its own does, and where its part of that stack begins. */
+struct measured {
+    void (*task)(struct player *);
+    struct player *player;
+    uint8_t *top;
+};
+
+static void *at_work(void *given) {
+    struct measured *m = (struct measured *)given;
+    m->top = (uint8_t *)__builtin_frame_address(0);
+    m->task(m->player);
     return NULL;
 }
 
-static void *one_check(void *given) {
-    uint8_t found[PLORRETTIX_FOUND_BYTES];
-    (void)given;
-    expect(plorrettix_check(longest, sizeof longest, 12, 1, found, sizeof found) == 0, "no check");
-    return NULL;
-}
-
-static void *nothing(void *given) {
-    (void)given;
-    return NULL;
-}
-
-/* The bytes of a stack of its own that a function used, what a thread itself needs not counted. */
-static long used(void *(*f)(void *), void *given, long idle) {
-    uint8_t *stack = (uint8_t *)mmap(NULL, STACK, PROT_READ | PROT_WRITE, MAP_PRIVATE | MAP_ANONYMOUS, -1, 0);
+/* The bytes of the stack, from where the thread's own function stands, that it has come to use. */
+static long used(void (*task)(struct player *), struct player *player) {
+    uint8_t *stack = (uint8_t *)mmap(NULL, STACK, PROT_READ | PROT_WRITE, MAP_PRIVATE | MAP_ANONYMOUS, -1, 0), *lowest = stack;
+    struct measured m;
     pthread_attr_t attributes;
     pthread_t running;
-    size_t n = 0;
     expect(stack != MAP_FAILED, "no memory");
     memset(stack, FILLED, STACK);
+    m.task = task;
+    m.player = player;
     expect(pthread_attr_init(&attributes) == 0 && pthread_attr_setstack(&attributes, stack, STACK) == 0, "no stack");
-    expect(pthread_create(&running, &attributes, f, given) == 0 && pthread_join(running, NULL) == 0, "no thread");
-    while (n < STACK && stack[n] == FILLED) n++;
+    expect(pthread_create(&running, &attributes, at_work, &m) == 0 && pthread_join(running, NULL) == 0, "no thread");
+    while (*lowest == FILLED) lowest++;
     munmap(stack, STACK);
-    return (long)(STACK - n) - idle;
+    return (long)(m.top - lowest);
 }
 
 static void stack(void) {
     struct player p;
-    long idle = used(nothing, NULL, 0);
     p.text = whole(NULL, &p.bytes);
     p.desk = new_desk(1);
-    printf("start %ld\n", used(one_start, &p, idle));
-    printf("answer %ld\n", used(session_alone, &p, idle));
-    printf("seal %ld\n", used(one_seal, NULL, idle));
-    printf("check %ld\n", used(one_check, NULL, idle));
+    printf("start %ld\n", used(one_start, &p));
+    printf("answer %ld\n", used(whole_session, &p));
+    printf("seal %ld\n", used(one_seal, &p));
+    printf("check %ld\n", used(one_check, &p));
 }
 
 int main(int count, char **words) {
