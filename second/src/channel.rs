@@ -1,6 +1,8 @@
 //! One channel with its ten units (document 01, "Requests, reports, turns" and "Outcomes and
 //! attempts").
 
+use crate::routine::Routine;
+
 /// "Units 0 to 9 on each".
 pub const UNITS: usize = 10;
 /// "each held at 32,767" (document 02, M-106).
@@ -84,6 +86,10 @@ pub struct Position {
 pub struct Channel {
     pub declared: [bool; UNITS],
     pub requests: [Option<Request>; UNITS],
+    /// The special routine that a unit's request names, and the one that waits at a unit to be entered
+    /// (document 02, M-110).
+    pub named: [Option<Routine>; UNITS],
+    pub waiting: [Option<Routine>; UNITS],
     pub positions: [Position; UNITS],
     /// The unit at which the next scan for ordinary requests begins.
     pub scan_begin: usize,
@@ -230,12 +236,14 @@ fn one_more(count: u64) -> u64 {
 }
 
 impl Channel {
-    /// A channel as a fresh start leaves it: it "drops all requests, thaws and resets the scans", and every
-    /// unit's position is zero.
+    /// A channel as a fresh start leaves it: it "drops all requests, thaws and resets the scans", every
+    /// unit's position is zero, and no routine waits.
     pub fn fresh(declared: [bool; UNITS]) -> Channel {
         Channel {
             declared,
             requests: Default::default(),
+            named: Default::default(),
+            waiting: Default::default(),
             positions: Default::default(),
             scan_begin: 0,
             priority_begin: 0,
@@ -258,9 +266,20 @@ impl Channel {
         (0..UNITS).find(|&unit| self.working_request(unit as u64).is_some())
     }
 
+    /// The routine that waits at a unit; `unit` may be any number.
+    pub fn waiting_routine(&self, unit: u64) -> Option<&Routine> {
+        self.waiting.get(usize::try_from(unit).ok()?)?.as_ref()
+    }
+
     /// Takes a request of a declared unit that has none, and starts it if the channel is idle.
     pub fn ask(&mut self, unit: usize, operation: Operation, priority: bool) {
+        self.ask_naming(unit, operation, priority, None);
+    }
+
+    /// The same of a request that may name a routine.
+    pub fn ask_naming(&mut self, unit: usize, operation: Operation, priority: bool, names: Option<Routine>) {
         self.requests[unit] = Some(Request::new(operation, priority));
+        self.named[unit] = names;
         self.start_if_idle();
     }
 
@@ -330,9 +349,13 @@ impl Channel {
     }
 
     /// The request is answered: "The scan for ordinary ones begins one unit above that of the last
-    /// ordinary operation to end on the channel, wraps after 9"; the scan for priority ones likewise.
+    /// ordinary operation to end on the channel, wraps after 9"; the scan for priority ones likewise. The
+    /// routine that it names "becomes due when the request is answered".
     fn end(&mut self, unit: usize) {
         let above = (unit + 1) % UNITS;
+        if let Some(due) = self.named[unit].take() {
+            self.waiting[unit] = Some(due);
+        }
         match self.requests[unit].take() {
             Some(ended) if ended.priority => self.priority_begin = above,
             Some(_) => self.scan_begin = above,

@@ -211,10 +211,11 @@ fn our_answers(lines: &[Vec<u8>], ending: Ending) -> Vec<Vec<u8>> {
 #[cfg(test)]
 mod tests {
     use super::*;
-    use crate::channel::{Channel, Position, Turn};
+    use crate::channel::{Channel, Position, Turn, UNITS};
     use crate::file::{Block, Direction, File};
     use crate::frame::answer_line;
-    use crate::pack::Pack;
+    use crate::pack::{Pack, CHANNELS};
+    use crate::routine::Program;
     use crate::session::new_pack;
 
     fn rightly(session: &[u8]) -> Result<Played, String> {
@@ -350,6 +351,60 @@ mod tests {
             requests.for_each(|request| request.noise = 0);
         };
         is_found("always passed", always, 250);
+    }
+
+    /// Wrong ways with special routines: dropped by a close, by a freeze, or with a displaced request; entered twice;
+    /// a list of three, of no end, or without the main program; a priority that is forgotten.
+    #[test]
+    fn wrong_ways_with_routines_are_found() {
+        let dropped_by_close = |pack: &mut Pack| {
+            for channel in 0..CHANNELS {
+                for unit in 0..UNITS {
+                    if pack.file_of_unit(channel as u64, unit as u64).is_none() {
+                        pack.channels[channel].waiting[unit] = None;
+                    }
+                }
+            }
+        };
+        is_found("close", dropped_by_close, 20);
+        let each_channel = |pack: &mut Pack, change: fn(&mut Channel)| {
+            pack.channels.iter_mut().for_each(change);
+        };
+        let not_in_a_freeze = |channel: &mut Channel| {
+            if channel.frozen {
+                channel.waiting = Default::default();
+            }
+        };
+        is_found("freeze", |pack| each_channel(pack, not_in_a_freeze), 20);
+        let not_when_displaced = |channel: &mut Channel| {
+            for unit in 0..UNITS {
+                if channel.requests[unit].as_ref().is_some_and(|request| request.turn == Turn::Displaced) {
+                    channel.named[unit] = None;
+                }
+            }
+        };
+        is_found("displaced", |pack| each_channel(pack, not_when_displaced), 20);
+        let twice = |pack: &mut Pack| {
+            if let Program::Special(entered) = pack.running() {
+                pack.channels[entered.channel].waiting[entered.unit] = Some(entered.routine);
+            }
+        };
+        is_found("twice", twice, 20);
+        let list_of_three = |pack: &mut Pack| {
+            if pack.schedule.pushed.len() > 3 {
+                let runs = pack.schedule.pushed.pop().expect("a program");
+                pack.schedule.runs = runs;
+            }
+        };
+        is_found("three", list_of_three, 40);
+        let without_main = |pack: &mut Pack| pack.schedule.pushed.retain(|program| *program != Program::Main);
+        is_found("main", without_main, 30);
+        let level_forgotten = |pack: &mut Pack| {
+            if let Program::Special(entered) = &mut pack.schedule.runs {
+                entered.routine.level = 0;
+            }
+        };
+        is_found("level", level_forgotten, 20);
     }
 
     #[test]

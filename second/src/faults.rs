@@ -6,6 +6,7 @@ use crate::frame::{line_of, Frame, LONGEST_LINE};
 use crate::generate::Generator;
 use crate::pack::{Opening, CHANNELS, FILES, NO_LENGTH};
 use crate::profile::Action;
+use crate::routine::{Routine, LAST_ROUTINE};
 
 impl Generator {
     /// A frame that may well be refused: a good one, or any one, with up to two numbers changed.
@@ -31,7 +32,7 @@ impl Generator {
     /// Any call for any file or unit, with numbers in their ranges but little regard to the state.
     fn any_frame(&mut self) -> Frame {
         let file = self.some_file();
-        match self.random.below(13) {
+        match self.random.below(14) {
             0 | 1 => Frame::Open(self.any_opening(file)),
             2 => Frame::Close { file },
             3 | 4 => self.any_ask(file),
@@ -39,6 +40,8 @@ impl Generator {
             8 => Frame::Get { file },
             9 | 10 => Frame::Put { file, words: self.some_words() },
             11 => Frame::Seal { file },
+            12 if self.random.chance(1, 2) => Frame::Return,
+            12 => Frame::Running,
             _ => Frame::Skip { file },
         }
     }
@@ -66,7 +69,8 @@ impl Generator {
             _ if input => Operation::Read.number(),
             _ => self.random.between(1, 2),
         };
-        Frame::Ask { file, operation, priority: self.random.below(2) }
+        let names = self.random.chance(1, 4).then(|| self.some_routine());
+        Frame::Ask { file, operation, priority: self.random.below(2), names }
     }
 
     /// A report of any outcome for some unit or for one that works, now and then with words.
@@ -117,10 +121,14 @@ impl Generator {
             Frame::Close { file } | Frame::Get { file } | Frame::Seal { file } | Frame::Skip { file } => {
                 *file = self.other_file();
             }
-            Frame::Ask { file, operation, priority } => match self.random.below(3) {
+            Frame::Ask { file, operation, priority, names } => match self.random.below(4) {
                 0 => *file = self.other_file(),
                 1 => *operation = self.random.below(4),
-                _ => *priority = self.random.pick(&[0, 1, 2, 255]),
+                2 => *priority = self.random.pick(&[0, 1, 2, 255]),
+                _ => {
+                    let level = self.random.pick(&[0, 4, 5, 6, 255]);
+                    *names = Some(Routine { number: self.random.below(LAST_ROUTINE + 1), level });
+                }
             },
             Frame::Report { channel, unit, outcome, length, words } => match self.random.below(7) {
                 0 => *channel = self.random.below(6),
@@ -134,7 +142,7 @@ impl Generator {
                 0 => *file = self.other_file(),
                 _ => self.change_words(words),
             },
-            Frame::Freeze | Frame::Thaw => {}
+            Frame::Freeze | Frame::Thaw | Frame::Return | Frame::Running => {}
         }
     }
 
@@ -187,9 +195,8 @@ impl Generator {
             50..=54 => line.extend(self.random.pick(&[b"0000", b"0001", b"0002", b"FFFF"])),
             55..=69 => line.insert(place, self.random.pick(b" \t\r\0gGxF.-+\x7F\x80\xFF")),
             70..=84 => line[place] = self.random.pick(b" \t\r\0gGxz/:@`\x7F\x80\xFF"),
-            85..=94 => {
-                line[..2].copy_from_slice(self.random.pick(&[b"0B", b"0C", b"10", b"80", b"FF", b"A0"]))
-            }
+            85..=94 => line[..2]
+                .copy_from_slice(self.random.pick(&[b"0B", b"0C", b"0D", b"0E", b"10", b"80", b"FF", b"A0"])),
             95..=104 => line.push(b'\r'),
             _ => line.make_ascii_lowercase(),
         }
@@ -202,6 +209,8 @@ impl Generator {
             0 | 1 => self.fresh_frame(),
             2 => Frame::Freeze,
             3 => Frame::Thaw,
+            4 => Frame::Return,
+            5 => Frame::Running,
             _ => self.any_frame(),
         }
     }
@@ -253,15 +262,19 @@ mod tests {
             assert!(has(&lines, |line| line.contains(character)), "{character}");
         }
         let even = |line: &[u8]| digits(line) && line.len().is_multiple_of(2) && frame_of(line).is_none();
-        for kind in
-            [b"00", b"01", b"02", b"03", b"04", b"05", b"06", b"07", b"08", b"09", b"0A", b"0B", b"FF"]
-        {
+        for kind in [
+            b"00", b"01", b"02", b"03", b"04", b"05", b"06", b"07", b"08", b"09", b"0A", b"0B", b"0C", b"0D",
+            b"FF",
+        ] {
             assert!(has(&lines, |line| even(line) && line.starts_with(kind)), "{kind:?}");
         }
         for length in [LONGEST_LINE, LONGEST_LINE + 1, LONGEST_LINE + 2, 30_000] {
             assert!(has(&lines, |line| line.len() == length), "{length}");
         }
         assert!(has(&lines, |line| line.len() == LONGEST_LINE && frame_of(line).is_some()));
+        // An ask with a routine and no priority, and with a byte too many.
+        assert!(has(&lines, |line| even(line) && line.starts_with(b"03") && line.len() == 10));
+        assert!(has(&lines, |line| even(line) && line.starts_with(b"03") && line.len() == 14));
     }
 
     /// Every pair that a session can bring about.
@@ -278,7 +291,7 @@ mod tests {
             (4, &[7, 13]),
             (6, &[8, 9, 13]),
             (7, &[13]),
-            (8, &[9, 15]),
+            (8, &[9, 10, 15]),
             (9, &[13]),
         ];
         for (low, highs) in pairs {

@@ -2,14 +2,16 @@
 
 use crate::pack::{Got, Opening, Pack, Reported, CHANNELS, NO_LENGTH};
 use crate::refusals::Refusals;
+use crate::routine::{Program, Returned, Routine};
 use crate::word::Fields;
 
 /// "Over 10,248 digits is malformed"; M-106: "Lines then run to 10,252 digits."
 pub const LONGEST_LINE: usize = 10_252;
 /// "Words are five bytes, highest first."
 const WORD_BYTES: usize = 5;
-/// The byte for a working unit if there is none.
+/// The byte for a working unit if there is none, and the three bytes for the main program.
 const NO_UNIT: u8 = 0xFF;
+const MAIN_PROGRAM: [u8; 3] = [0xFF; 3];
 
 /// A frame that is well formed.
 #[derive(Clone, Debug, PartialEq, Eq)]
@@ -27,6 +29,8 @@ pub enum Frame {
         file: u64,
         operation: u64,
         priority: u64,
+        /// The four-byte form names no routine.
+        names: Option<Routine>,
     },
     /// Without a length it has `NO_LENGTH`.
     Report {
@@ -51,6 +55,18 @@ pub enum Frame {
     },
     Freeze,
     Thaw,
+    /// The routine that runs returns (document 02, M-110).
+    Return,
+    /// Asks what runs.
+    Running,
+}
+
+impl Frame {
+    /// Reading A21: report, get, put and seal judge the area against the state's m×W; a fresh start does so against
+    /// its own.
+    fn works_on_the_area(&self) -> bool {
+        matches!(self, Frame::Report { .. } | Frame::Get { .. } | Frame::Put { .. } | Frame::Seal { .. })
+    }
 }
 
 /// Answers a line, without its line feed: a frame that is malformed is refused 1.
@@ -82,7 +98,12 @@ pub fn frame_of(line: &[u8]) -> Option<Frame> {
         }),
         [0x02, file] => Frame::Close { file: file.into() },
         [0x03, file, operation, priority] => {
-            Frame::Ask { file: file.into(), operation: operation.into(), priority: priority.into() }
+            let names = None;
+            Frame::Ask { file: file.into(), operation: operation.into(), priority: priority.into(), names }
+        }
+        [0x03, file, operation, priority, routine, level] => {
+            let names = Some(Routine { number: routine.into(), level: level.into() });
+            Frame::Ask { file: file.into(), operation: operation.into(), priority: priority.into(), names }
         }
         [0x04, channel, unit, outcome, ref rest @ ..] => {
             let (length, words) = length_of(rest);
@@ -100,6 +121,8 @@ pub fn frame_of(line: &[u8]) -> Option<Frame> {
         [0x08, file] => Frame::Skip { file: file.into() },
         [0x09] => Frame::Freeze,
         [0x0A] => Frame::Thaw,
+        [0x0B] => Frame::Return,
+        [0x0C] => Frame::Running,
         _ => return None,
     })
 }
@@ -120,8 +143,9 @@ pub fn line_of(frame: &Frame) -> Vec<u8> {
             bytes.extend((opening.record_length as u16).to_be_bytes());
         }
         Frame::Close { file } => bytes.extend([0x02, *file as u8]),
-        Frame::Ask { file, operation, priority } => {
+        Frame::Ask { file, operation, priority, names } => {
             bytes.extend([0x03, *file as u8, *operation as u8, *priority as u8]);
+            bytes.extend(names.iter().flat_map(|routine| [routine.number as u8, routine.level as u8]));
         }
         Frame::Report { channel, unit, outcome, length, words } => {
             bytes.extend([0x04, *channel as u8, *unit as u8, *outcome as u8]);
@@ -139,20 +163,26 @@ pub fn line_of(frame: &Frame) -> Vec<u8> {
         Frame::Skip { file } => bytes.extend([0x08, *file as u8]),
         Frame::Freeze => bytes.push(0x09),
         Frame::Thaw => bytes.push(0x0A),
+        Frame::Return => bytes.push(0x0B),
+        Frame::Running => bytes.push(0x0C),
     }
     digits_of(&bytes)
 }
 
-/// Makes the call of a frame. "First byte 00 or the refusal": the bytes of an accepted call.
+/// Makes the call of a frame. "First byte 00 or the refusal": the bytes of an accepted call. 1: "the area is short",
+/// which that of a session never is, but that of a state image (M-103) can be.
 fn answer_frame(pack: &mut Pack, frame: &Frame) -> Result<Vec<u8>, u64> {
+    if frame.works_on_the_area() && pack.area.len() < pack.buffers * pack.width {
+        return Err(1);
+    }
     let mut answer = vec![0x00];
     match frame {
         Frame::Fresh { buffers, width, masks } => pack.fresh(*buffers, *width, *masks)?,
         Frame::Open(opening) => pack.open(opening)?,
         Frame::Close { file } => pack.close(*file)?,
         // "ask adds the channel's working unit, FF for none"
-        Frame::Ask { file, operation, priority } => {
-            answer.push(unit_byte(pack.ask(*file, *operation, *priority)?));
+        Frame::Ask { file, operation, priority, names } => {
+            answer.push(unit_byte(pack.ask_naming(*file, *operation, *priority, *names)?));
         }
         Frame::Report { channel, unit, outcome, length, words } => {
             add_report(&mut answer, &pack.report_length(*channel, *unit, *outcome, *length, words)?);
@@ -163,6 +193,14 @@ fn answer_frame(pack: &mut Pack, frame: &Frame) -> Result<Vec<u8>, u64> {
         Frame::Skip { file } => pack.skip(*file)?,
         Frame::Freeze => pack.freeze(),
         Frame::Thaw => pack.thaw(),
+        // Return adds "01 if a waiting routine was entered or 00 if the pushed program resumed", then what runs
+        // now.
+        Frame::Return => {
+            let Returned { entered, runs } = pack.give_back()?;
+            answer.push(entered.into());
+            answer.extend(program_bytes(&runs));
+        }
+        Frame::Running => answer.extend(program_bytes(&pack.running())),
     }
     Ok(answer)
 }
@@ -173,7 +211,9 @@ pub fn refusals_of(pack: &Pack, frame: &Frame) -> Refusals {
         Frame::Fresh { buffers, width, masks } => pack.fresh_refusals(*buffers, *width, *masks),
         Frame::Open(opening) => pack.open_refusals(opening),
         Frame::Close { file } => pack.close_refusals(*file),
-        Frame::Ask { file, operation, priority } => pack.ask_refusals(*file, *operation, *priority),
+        Frame::Ask { file, operation, priority, names } => {
+            pack.ask_refusals(*file, *operation, *priority, *names)
+        }
         Frame::Report { channel, unit, outcome, length, words } => {
             pack.report_refusals(*channel, *unit, *outcome, *length, words)
         }
@@ -181,7 +221,8 @@ pub fn refusals_of(pack: &Pack, frame: &Frame) -> Refusals {
         Frame::Put { file, words } => pack.put_refusals(*file, words),
         Frame::Seal { file } => pack.seal_refusals(*file),
         Frame::Skip { file } => pack.skip_refusals(*file),
-        Frame::Freeze | Frame::Thaw => Refusals::new(),
+        Frame::Return => pack.return_refusals(),
+        Frame::Freeze | Frame::Thaw | Frame::Running => Refusals::new(),
     }
 }
 
@@ -227,6 +268,16 @@ fn add_get(answer: &mut Vec<u8>, got: &Got) {
 
 fn unit_byte(unit: Option<usize>) -> u8 {
     unit.map_or(NO_UNIT, |unit| unit as u8)
+}
+
+/// "channel, unit and number of what runs now, FF FF FF for the main program".
+fn program_bytes(program: &Program) -> [u8; 3] {
+    match program {
+        Program::Main => MAIN_PROGRAM,
+        Program::Special(entered) => {
+            [entered.channel as u8, entered.unit as u8, entered.routine.number as u8]
+        }
+    }
 }
 
 /// "Sizes B, r, W are two bytes, highest first."
@@ -309,7 +360,16 @@ mod tests {
             ("00200400 0001 0002 03FF 1234 FFFF", Frame::Fresh { buffers: 32, width: 1_024, masks }),
             ("010F04090801020304", Frame::Open(opening)),
             ("02FE", Frame::Close { file: 254 }),
-            ("03010203", Frame::Ask { file: 1, operation: 2, priority: 3 }),
+            ("03010203", Frame::Ask { file: 1, operation: 2, priority: 3, names: None }),
+            (
+                "030102030405",
+                Frame::Ask {
+                    file: 1,
+                    operation: 2,
+                    priority: 3,
+                    names: Some(Routine { number: 4, level: 5 }),
+                },
+            ),
             ("04010203", report(NO_LENGTH, &[])),
             ("04010203 0102030405 FFFFFFFFFF", report(NO_LENGTH, &[0x102030405, (1 << 40) - 1])),
             ("04010203 0000", report(0, &[])),
@@ -323,6 +383,8 @@ mod tests {
             ("0806", Frame::Skip { file: 6 }),
             ("09", Frame::Freeze),
             ("0A", Frame::Thaw),
+            ("0B", Frame::Return),
+            ("0C", Frame::Running),
         ];
         for (spaced, frame) in frames {
             let line = spaced.replace(' ', "");
@@ -346,7 +408,7 @@ mod tests {
             "0\t",
             "0A\0",
             "0G",
-            "0B",
+            "0D",
             "FF",
             "0900",
             "0A00",
@@ -358,6 +420,9 @@ mod tests {
             "020000",
             "030000",
             "0300000000",
+            "03000000000000",
+            "0B00",
+            "0C00",
             "040000",
             "0400000000",
             "04000001000000",
@@ -407,5 +472,27 @@ mod tests {
         assert_eq!(answer_line(&mut pack, b"03000000"), b"0000");
         assert_eq!(answer_line(&mut pack, b"040000000FFFFFFFFF"), b"0001000003FFFF0001000000000000FF");
         assert_eq!(answer_line(&mut pack, b"0500"), b"00040FFFFFFFFF");
+    }
+
+    /// Reading R6: the answers of return and of what runs; all others stay as they are.
+    #[test]
+    fn r6_answers_with_routines() {
+        let mut pack = Pack::new(8);
+        for (line, answer) in [
+            ("0C", "00FFFFFF"),
+            ("0B", "12"),
+            ("0001000402010000000000000000", "00"),
+            ("010000090000020002", "00"),
+            ("03000000FF05", "01"),
+            ("03000000FF04", "0009"),
+            ("0C", "00FFFFFF"),
+            ("04000903", "000300FF"),
+            ("0C", "000009FF"),
+            ("0B", "0000FFFFFF"),
+            ("0B", "12"),
+            ("0C", "00FFFFFF"),
+        ] {
+            assert_eq!(answer_line(&mut pack, line.as_bytes()), answer.as_bytes(), "{line}");
+        }
     }
 }

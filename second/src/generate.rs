@@ -10,6 +10,7 @@ use crate::frame::{answer_line, line_of, Frame};
 use crate::pack::{Opening, Pack, CHANNELS, CHECK, DOUBLE, FILES, NO_LENGTH, OUTPUT, SEQUENCE};
 use crate::profile::{Action, Habits, Profile};
 use crate::random::Random;
+use crate::routine::{Program, Routine, HIGHEST_LEVEL, LAST_ROUTINE};
 use crate::session::new_pack;
 use crate::word::{check_word, logical_sum, Chosen, ALL_ONES, HALF_BITS, NUMBER_BITS};
 
@@ -103,6 +104,11 @@ impl Generator {
             Action::Skip => self.any_file(is_full_input).map(|file| Frame::Skip { file }),
             Action::Freeze => (!self.is_frozen() || self.random.chance(1, 9)).then_some(Frame::Freeze),
             Action::Thaw => (self.is_frozen() || self.random.chance(1, 9)).then_some(Frame::Thaw),
+            Action::Return => {
+                let runs = self.pack.running() != Program::Main;
+                (runs || self.random.chance(1, 9)).then_some(Frame::Return)
+            }
+            Action::Running => Some(Frame::Running),
             Action::Faulty => Some(self.faulty_frame()),
             Action::Malformed => None,
         }
@@ -188,7 +194,11 @@ impl Generator {
         let declared = self.pack.channels[channel as usize].declared;
         let is_free =
             |unit: &u64| declared[*unit as usize] && self.pack.file_of_unit(channel, *unit).is_none();
-        let free: Vec<u64> = (0..UNITS as u64).filter(is_free).collect();
+        let mut free: Vec<u64> = (0..UNITS as u64).filter(is_free).collect();
+        let waits = |unit: &u64| self.pack.channels[channel as usize].waiting_routine(*unit).is_some();
+        if free.iter().any(waits) && self.profile == Profile::Routines && self.random.chance(1, 3) {
+            free.retain(waits);
+        }
         (!free.is_empty()).then(|| (channel, self.random.pick(&free)))
     }
 
@@ -205,18 +215,31 @@ impl Generator {
 
     /// Asks for what the file is ready for.
     fn ask_frame(&mut self) -> Option<Frame> {
-        let file = self.any_file(is_ready)?;
+        let waiting_too = self.profile == Profile::Routines && self.random.chance(1, 30);
+        let fit = |pack: &Pack, file: &File| is_ready(pack, file) && (waiting_too || !waits_at(pack, file));
+        let file = self.any_file(fit)?;
         let opened = self.opened(file);
         let operation = match opened.direction {
             Direction::Input => Operation::Read,
             Direction::Output if opened.full.is_empty() => Operation::Mark,
             Direction::Output => Operation::Write,
         };
-        if operation == Operation::Mark && self.random.chance(9, 10) {
+        let marks = if self.profile == Profile::Routines { 9 } else { 1 };
+        if operation == Operation::Mark && !self.random.chance(marks, 10) {
             return None;
         }
         let priority = u64::from(self.random.chance(self.habits.priority, 100));
-        Some(Frame::Ask { file, operation: operation.number(), priority })
+        let named = self.random.chance(self.habits.routines, 100);
+        let names = named.then(|| self.some_routine());
+        Some(Frame::Ask { file, operation: operation.number(), priority, names })
+    }
+
+    /// A routine of any priority; often of the one above what runs, so that lists grow to their end.
+    pub(crate) fn some_routine(&mut self) -> Routine {
+        let above = self.pack.running().level().map_or(0, |level| level + 1);
+        let any = self.random.below(HIGHEST_LEVEL + 1);
+        let level = self.random.pick(&[any, above.min(HIGHEST_LEVEL)]);
+        Routine { number: self.random.below(LAST_ROUTINE + 1), level }
     }
 
     /// A channel that works, and its unit.
@@ -374,6 +397,11 @@ fn is_ready(pack: &Pack, file: &File) -> bool {
     ready && pack.request_of(file).is_none()
 }
 
+/// A routine waits at the file's unit, and an ask would be refused for it.
+fn waits_at(pack: &Pack, file: &File) -> bool {
+    pack.channels[file.channel].waiting_routine(file.unit as u64).is_some()
+}
+
 #[cfg(test)]
 mod tests {
     use super::*;
@@ -415,6 +443,7 @@ mod tests {
             Profile::Blocks,
             Profile::Kept,
             Profile::Reel,
+            Profile::Routines,
             Profile::Wrap,
         ] {
             assert!(accepted(profile) >= 90, "{profile:?}: {}", accepted(profile));

@@ -5,6 +5,7 @@ use std::path::Path;
 use std::process::ExitCode;
 
 use second::bench::{bench, BENCH_FRAMES};
+use second::calls::{answer_calls, call_cases};
 use second::channel_events::channel_events;
 use second::channel_player::answer_events;
 use second::compare::{compare, Options};
@@ -12,6 +13,9 @@ use second::file_player::answer_walks;
 use second::file_walks::file_walks;
 use second::folder::read_file;
 use second::generate::Generator;
+use second::image::{AREA_PLACE, IMAGE_BYTES};
+use second::image_player::{begin, image_after, judge_changes, say, trace, BAD_IMAGE};
+use second::pack::Pack;
 use second::pack_cases::pack_cases;
 use second::pack_player::answer_script;
 use second::plan::{plan_text, Answer};
@@ -33,17 +37,15 @@ use second::words::answer_cases;
 
 const HELP: &str = "\
 second: documents 01 and 02 of Plorrettix, written a second time
-
   play                           plays a session, standard input to output
   generate PROFILE SEED FRAMES   prints a random session; profiles are mixed,
       retries, turns (priority and freeze), blocks (check words), malformed,
-      refusals, kept (failed reads), reel (noise), wrap (205,000 frames)
+      refusals, kept (failed reads), reel (noise), routines, wrap (long)
   compare [OPTIONS] PROGRAM ..   plays random sessions against a program that
       reads a session and writes the answers; names the first frame that
       differs and shortens the session; fails if something was never reached
-      --profile NAME (all)  --seed N (1)  --count N (5 of each profile)
-      --frames N (4000 each)  --partial (what is never reached does not fail)
-      --budget N (5000000 frames are played at most to shorten a session)
+      --profile NAME (all)  --seed N (1)  --count N (5 each)  --frames N (4000)
+      --partial (no such failure)  --budget N (5000000 frames to shorten)
   talk [OPTIONS] PROGRAM ..      plays a session with a program, each line after
       the answer before it; fails if an answer does not come  --terminal
       --bytes, --parts SEED (cut so, and not by lines)  --seconds N (20 a line)
@@ -51,6 +53,8 @@ second: documents 01 and 02 of Plorrettix, written a second time
   words, channel, files, pack    answer cases of check words, of one channel,
       of one file and its buffers, of calls on a state and an area by hand
   word-cases, channel-events, file-walks, pack-cases   print fixed cases
+  image say|after|next|trace|judge|size   state images of the simulator's calls
+  calls; calls-cases SEED COUNT  seals and checks as those calls; prints cases
   plan, plan-check LIST PROPOSAL   proposes buffers for openings; judges them
   reel list|words|octal          shows a tape image; reel make [--bcd] makes one
   reel write|read --block B --record R [--sequence] [--check]   by the pack
@@ -113,6 +117,16 @@ fn run(arguments: &[String]) -> Result<ExitCode, String> {
         ["sheet-cases", folder, seed, count] | ["sheet-cases", folder, "--seed", seed, "--count", count] => {
             write_sheet_cases(Path::new(folder), number(seed)?, number(count)?)?;
         }
+        ["image", "size"] => print(&format!("{IMAGE_BYTES} {AREA_PLACE}\n"))?,
+        ["image", "after"] => return from_image(None, &standard_bytes()?, image_after),
+        ["image", "after", session] => return from_image(None, &read_file(session)?, image_after),
+        ["image", "next", image] => return from_image(Some(image), &standard_bytes()?, image_after),
+        ["image", "trace"] => return from_image(None, &standard_bytes()?, trace),
+        ["image", "trace", image] => return from_image(Some(image), &standard_bytes()?, trace),
+        ["image", "judge", image] => print(&judge_changes(&read_file(image)?, &standard_input()?)?)?,
+        ["image", "say", ref images @ ..] => return say_images(images),
+        ["calls"] => print(&answer_calls(&standard_input()?)?)?,
+        ["calls-cases", seed, count] => print(&call_cases(number(seed)?, number(count)?))?,
         ["help"] => print(HELP)?,
         _ => return Err("what shall be done? See `second help`".to_string()),
     }
@@ -245,6 +259,35 @@ fn sheet(session: &str, answers: &str) -> Result<ExitCode, String> {
             Ok(ExitCode::from(1))
         }
     }
+}
+
+/// Plays a session from an image, and writes what is made of it. A bad image is `16` with status 1.
+fn from_image(
+    image: Option<&str>,
+    session: &[u8],
+    make: impl Fn(Pack, &[u8]) -> Vec<u8>,
+) -> Result<ExitCode, String> {
+    let image = image.map(read_file).transpose()?;
+    match begin(image.as_deref()) {
+        Ok(pack) => print_bytes(&make(pack, session))?,
+        Err(_) => {
+            print(&format!("{BAD_IMAGE}\n"))?;
+            return Ok(ExitCode::from(1));
+        }
+    }
+    Ok(ExitCode::SUCCESS)
+}
+
+/// Says of each image, a line each, whether it is good; without a file that on standard input.
+fn say_images(images: &[&str]) -> Result<ExitCode, String> {
+    let said: Vec<String> = if images.is_empty() {
+        vec![say(&standard_bytes()?)]
+    } else {
+        images.iter().map(|image| read_file(image).map(|image| say(&image))).collect::<Result<_, _>>()?
+    };
+    let all_good = said.iter().all(|line| !line.starts_with(BAD_IMAGE));
+    print(&said.iter().map(|line| format!("{line}\n")).collect::<String>())?;
+    Ok(if all_good { ExitCode::SUCCESS } else { ExitCode::from(1) })
 }
 
 /// Writes what was made of a reel, then the refusal, if there is one, to standard error with status 1.

@@ -1,9 +1,10 @@
-//! The pack: five channels, sixteen files, a pool of buffers, and the eleven calls. Every call
-//! takes any numbers, judges them all first, and after a refusal has changed nothing.
+//! The pack: five channels, sixteen files, a pool of buffers, special routines, and the thirteen calls. Every
+//! call takes any numbers, judges them all first, and after a refusal has changed nothing.
 
 use crate::channel::{Booked, Channel, Operation, Outcome, Request, UNITS};
 use crate::file::{Direction, File, Found, Part, PartFilled};
 use crate::refusals::Refusals;
+use crate::routine::{Entered, Program, Returned, Routine, Schedule};
 use crate::word::{is_word, judge, seal, Chosen, Fields, Judged};
 
 /// "Channels 0 to 4 (the manual's A to E)."
@@ -34,6 +35,8 @@ pub const NO_LENGTH: u64 = 65_536;
 pub struct Pack {
     pub channels: [Channel; CHANNELS],
     pub files: [Option<File>; FILES],
+    /// What runs, and what was interrupted (document 02, M-110); what waits stands with its unit.
+    pub schedule: Schedule,
     /// The pool has `buffers` buffers (m) of `width` words (W).
     pub buffers: usize,
     pub width: usize,
@@ -110,17 +113,20 @@ impl Pack {
         Pack {
             channels: std::array::from_fn(|_| Channel::fresh([false; UNITS])),
             files: Default::default(),
+            schedule: Schedule::default(),
             buffers: 0,
             width: 0,
             area: vec![0; area_words],
         }
     }
 
-    /// "A fresh start closes everything, drops all requests, thaws and resets the scans."
+    /// "A fresh start closes everything, drops all requests, thaws and resets the scans." It drops waiting
+    /// routines and the push-down list, and the main program runs.
     pub fn fresh(&mut self, buffers: u64, width: u64, masks: [u64; CHANNELS]) -> Result<(), u64> {
         self.fresh_refusals(buffers, width, masks).judge()?;
         self.channels = masks.map(|mask| Channel::fresh(std::array::from_fn(|unit| mask >> unit & 1 == 1)));
         self.files = Default::default();
+        self.schedule = Schedule::default();
         self.buffers = buffers as usize;
         self.width = width as usize;
         Ok(())
@@ -197,7 +203,18 @@ impl Pack {
 
     /// Asks for an operation on the file's unit; gives the channel's working unit.
     pub fn ask(&mut self, file: u64, operation: u64, priority: u64) -> Result<Option<usize>, u64> {
-        self.ask_refusals(file, operation, priority).judge()?;
+        self.ask_naming(file, operation, priority, None)
+    }
+
+    /// The same of an ask that may name a routine: "An ask may name a routine and a priority 0 to 4".
+    pub fn ask_naming(
+        &mut self,
+        file: u64,
+        operation: u64,
+        priority: u64,
+        names: Option<Routine>,
+    ) -> Result<Option<usize>, u64> {
+        self.ask_refusals(file, operation, priority, names).judge()?;
         let operation = Operation::of(operation).expect("a judged operation");
         let opened = self.judged_file(file);
         // "An accepted read takes the lowest empty buffer."
@@ -205,20 +222,22 @@ impl Pack {
             opened.taken = opened.lowest_empty();
         }
         let (channel, unit) = (opened.channel, opened.unit);
-        self.channels[channel].ask(unit, operation, priority == 1);
+        self.channels[channel].ask_naming(unit, operation, priority == 1, names);
         Ok(self.channels[channel].working_unit())
     }
 
-    /// 8 and 15 as for close; 9: "ask read: no empty buffer. Ask write, skip: no full buffer";
-    /// 10: "a file mark has been read since the open".
-    pub fn ask_refusals(&self, file: u64, operation: u64, priority: u64) -> Refusals {
+    /// 8 and 15 as for close, and 8 for "a unit whose routine waits"; 9: "ask read: no empty buffer. Ask write,
+    /// skip: no full buffer"; 10: "a file mark has been read since the open".
+    pub fn ask_refusals(&self, file: u64, operation: u64, priority: u64, names: Option<Routine>) -> Refusals {
         let mut refusals = self.file_refusals(file);
         let operation = Operation::of(operation);
         refusals.when(1, operation.is_none() || priority > 1);
+        refusals.when(1, names.is_some_and(|routine| !routine.is_in_range()));
         let Some(opened) = self.file(file) else {
             return refusals;
         };
         refusals.when(8, self.request_of(opened).is_some());
+        refusals.when(8, self.channels[opened.channel].waiting_routine(opened.unit as u64).is_some());
         match operation {
             Some(Operation::Read) => {
                 refusals.when(6, opened.direction == Direction::Output);
@@ -299,6 +318,10 @@ impl Pack {
             }
             // "after a permanent error it is full still"
             (Operation::Write, _) => {}
+        }
+        // The channel's next start has been made. A report that answers nothing makes nothing due.
+        if !matches!(result, Booked::Repeated | Booked::BackspaceThree) {
+            self.look();
         }
         Ok(Reported {
             result,
@@ -480,9 +503,79 @@ impl Pack {
         self.channels.iter_mut().for_each(Channel::freeze);
     }
 
-    /// "Thaw lets starts happen."
+    /// "Thaw lets starts happen", and then "thaw looks again".
     pub fn thaw(&mut self) {
         self.channels.iter_mut().for_each(Channel::thaw);
+        self.look();
+    }
+
+    /// The routine that runs returns: "On a return, the highest waiting routine is entered if it is above the
+    /// program last pushed, otherwise that program resumes."
+    pub fn give_back(&mut self) -> Result<Returned, u64> {
+        self.return_refusals().judge()?;
+        let next = self
+            .highest_waiting()
+            .filter(|waiting| !self.is_frozen() && self.schedule.is_followed_by(&Program::Special(*waiting)));
+        match next {
+            // The list stays: what returned makes room for what is entered.
+            Some(waiting) => self.schedule.runs = self.enter(waiting),
+            None => self.schedule.resume(),
+        }
+        Ok(Returned { entered: next.is_some(), runs: self.schedule.runs })
+    }
+
+    /// "Returns are the operator's, refused 18 with none running."
+    pub fn return_refusals(&self) -> Refusals {
+        let mut refusals = Refusals::new();
+        refusals.when(18, self.schedule.runs == Program::Main);
+        refusals
+    }
+
+    /// What runs.
+    pub fn running(&self) -> Program {
+        self.schedule.runs
+    }
+
+    /// "a due routine of higher priority than the one in progress is entered and the interrupted one goes on
+    /// a push-down list"; "while frozen nothing enters". The others that wait are not above it.
+    fn look(&mut self) {
+        if self.is_frozen() {
+            return;
+        }
+        let waiting = self.highest_waiting();
+        if let Some(waiting) =
+            waiting.filter(|&next| self.schedule.is_interrupted_by(&Program::Special(next)))
+        {
+            let entered = self.enter(waiting);
+            self.schedule.interrupt(entered);
+        }
+    }
+
+    /// The highest waiting routine: "4 is highest; ties go to the lowest channel, then unit".
+    pub fn highest_waiting(&self) -> Option<Entered> {
+        let mut highest: Option<Entered> = None;
+        for (channel, state) in self.channels.iter().enumerate() {
+            for (unit, routine) in state.waiting.iter().enumerate() {
+                let Some(routine) = *routine else {
+                    continue;
+                };
+                if highest.is_none_or(|found| routine.level > found.routine.level) {
+                    highest = Some(Entered { channel, unit, routine });
+                }
+            }
+        }
+        highest
+    }
+
+    /// "A due routine is entered once": it waits at its unit no more.
+    fn enter(&mut self, waiting: Entered) -> Program {
+        self.channels[waiting.channel].waiting[waiting.unit] = None;
+        Program::Special(waiting)
+    }
+
+    /// All channels are frozen together.
+    pub fn is_frozen(&self) -> bool {
+        self.channels[0].frozen
     }
 
     /// An open file; the number may be any.

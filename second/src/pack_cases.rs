@@ -29,6 +29,19 @@
 //!   requests, mark 1 that of priority requests (M-112).
 //! - `16 field value`: a field of the pool. `17`: state, room and length are again as at first.
 //!
+//! Special routines (M-110). A rank is 0 for none (no routine; the main program) and else a routine's priority and 1.
+//!
+//! - `21 file operation priority given routine level`: ask with a naming; a naming that is not given (0) names none,
+//!   whatever its numbers are. Answer as of ask.
+//! - `22`: return. Answer: `entered rank channel unit routine`: 1 if a waiting routine was entered, 0 if the program
+//!   last pushed resumed, and what runs now; the main program is four zeros.
+//! - `23`: what runs. Answer: `rank channel unit routine`.
+//! - `24 depth`, a change: how many programs are on the push-down list, any byte.
+//! - `25 place field value`, a change: a field of a program. Place 0 is what runs, 1 to 4 the list from the bottom up;
+//!   0 rank, 1 channel, 2 unit, 3 routine. Places past the depth can be set too.
+//! - `26 channel unit field value`, a change: what stands with a unit, whether it has a request or not: 0 the rank that
+//!   its request names, 1 that routine, 2 the rank that waits there, 3 that routine. No other change touches these.
+//!
 //! Prints. `18`: the room. `19`: the state. `20`: 1 if the state is sound, else 0.
 //!
 //! Fields of a file: 0 open, 1 channel, 2 unit, 3 output, 4 double, 5 sequence, 6 check, 7 B, 8 r, 9 turned
@@ -44,7 +57,9 @@
 //!
 //! A state is printed as the four fields of the pool; for each channel its mark 0 and its mark 1, then each
 //! unit that is not all zero with its number before its fields, then 10; then each file that is not all
-//! zero with its number before its fields; then 16.
+//! zero with its number before its fields; then 16; then the depth, each place of a program that is not all zero with
+//! its number before its four fields, and 5; then each unit at which something is named or waits: channel, unit and
+//! the four fields of command 26; then 5.
 
 mod areas;
 mod buffers;
@@ -57,6 +72,8 @@ mod output_by_hand;
 mod random_changes;
 mod random_steps;
 mod reels_by_hand;
+mod routine_steps;
+mod routines_by_hand;
 mod script;
 mod spoilt;
 mod turns_by_hand;
@@ -65,6 +82,7 @@ mod unsound_bench;
 mod unsound_files;
 mod unsound_masks;
 mod unsound_requests;
+mod unsound_routines;
 
 use script::Script;
 
@@ -85,6 +103,9 @@ pub fn pack_cases() -> Vec<Vec<u64>> {
     random_steps::add_cases(&mut script);
     unsound_masks::add_cases(&mut script);
     kept_masks::add_cases(&mut script);
+    unsound_routines::add_cases(&mut script);
+    routines_by_hand::add_cases(&mut script);
+    routine_steps::add_cases(&mut script);
     script.commands
 }
 
@@ -93,8 +114,8 @@ mod tests {
     use super::*;
     use crate::pack::{DOUBLE, FILES};
     use crate::pack_player::{
-        answer_script, Player, ASK, CLOSE, FRESH, GET, OPEN, PRINT_SOUND, PRINT_STATE, PUT, REPORT, ROOM,
-        SEAL, SKIP, THAW,
+        answer_script, Player, ASK, ASK_NAMING, CLOSE, FRESH, GET, OPEN, PRINT_SOUND, PRINT_STATE, PUT,
+        REPORT, RETURN, ROOM, RUNNING, SEAL, SKIP, THAW,
     };
     use crate::sound::{all_clauses, broken_clauses, is_sound, Clause};
     use crate::state::{Buffer, State};
@@ -103,7 +124,7 @@ mod tests {
     use std::collections::{BTreeMap, BTreeSet};
 
     /// The refusal numbers of each call that takes more than none, from the table of document 01.
-    const REFUSALS: [(u64, &[u64]); 9] = [
+    const REFUSALS: [(u64, &[u64]); 12] = [
         (FRESH, &[1]),
         (OPEN, &[1, 3, 4, 7, 13]),
         (CLOSE, &[1, 5, 8, 15]),
@@ -113,7 +134,15 @@ mod tests {
         (PUT, &[1, 2, 5, 6, 9, 13]),
         (SEAL, &[1, 2, 5, 6, 9]),
         (SKIP, &[1, 5, 6, 9]),
+        (ASK_NAMING, &[1, 5, 6, 8, 9, 10, 15]),
+        (RETURN, &[1, 18]),
+        (RUNNING, &[1]),
     ];
+
+    /// All calls.
+    fn calls() -> impl Iterator<Item = u64> {
+        (FRESH..=THAW).chain(ASK_NAMING..=RUNNING)
+    }
 
     const OTHER_SEEDS: u64 = 20;
 
@@ -127,7 +156,7 @@ mod tests {
 
     impl Played<'_> {
         fn is_call(&self) -> bool {
-            self.command[0] <= THAW
+            calls().any(|call| call == self.command[0])
         }
 
         /// The first number of the answer: 0, or the refusal of a call.
@@ -163,9 +192,9 @@ mod tests {
     #[test]
     fn the_script_keeps_its_size() {
         let script = lines_of(&pack_cases());
-        assert!(script.len() < 200_000, "{}", script.len());
+        assert!(script.len() < 250_000, "{}", script.len());
         let answers = answer_script(&script).expect("a script");
-        assert!(answers.len() < 260_000, "{}", answers.len());
+        assert!(answers.len() < 330_000, "{}", answers.len());
     }
 
     #[test]
@@ -182,7 +211,7 @@ mod tests {
         }
         assert_eq!(met, expected);
         let numbers: BTreeSet<u64> = met.into_iter().map(|(_, number)| number).collect();
-        assert!(numbers.into_iter().eq((1..=13).chain([15])));
+        assert!(numbers.into_iter().eq((1..=13).chain([15, 18])));
     }
 
     #[test]
@@ -210,6 +239,15 @@ mod tests {
                     note("error of a get", error);
                 }
                 (ASK, [0, working]) => _ = note("ask", u64::from(*working == 255)),
+                (ASK_NAMING, [0, working]) => _ = note("ask that names", u64::from(*working == 255)),
+                (RETURN, [0, entered, rank, ..]) => {
+                    note("return", *entered);
+                    note(if *entered == 1 { "rank entered" } else { "rank resumed" }, *rank);
+                }
+                (RUNNING, [0, rank, ..]) => {
+                    note("rank that runs", *rank);
+                    note("depth", played.before.state.programs.depth);
+                }
                 (PRINT_SOUND, [sound]) => _ = note("sound", *sound),
                 _ => {}
             }
@@ -223,10 +261,16 @@ mod tests {
             ("block shown", 1),
             ("get", 4),
             ("ask", 1),
+            ("ask that names", 1),
+            ("return", 1),
+            ("rank resumed", 4),
+            ("rank that runs", 5),
+            ("depth", 4),
             ("sound", 1),
         ] {
             assert!(met[what].iter().copied().eq(0..=last), "{what}");
         }
+        assert!(met["rank entered"].iter().copied().eq(1..=5));
         assert!(met["error of a get"].iter().copied().eq([0, 1, 2, 3, 4, 10]));
         assert!(met["result that delivers a block"].iter().copied().eq([1, 2, 5, 6]));
     }
@@ -327,7 +371,7 @@ mod tests {
                 states.push(played.before.state.clone());
             }
         });
-        for call in FRESH..=THAW {
+        for call in calls() {
             assert!(met[&call].len() >= 3, "{call}: {}", met[&call].len());
         }
     }

@@ -3,17 +3,19 @@
 
 use crate::channel::UNITS;
 use crate::pack::{Opening, CHANNELS, FILES};
+use crate::routine::Routine;
 use crate::sound::is_sound;
 use crate::state::State;
 use crate::state_calls::{self as calls, Shown};
 use crate::state_fields::{
-    set_file_field, set_pool_field, set_scan_mark, set_unit_field, state_numbers, AT, BLOCK_SIZE,
-    BUFFER_FIELDS, CHANNEL_MARKS, FILE_FIELDS, FOUND_NUMBER, FOUND_SUM, FREE, LOW, MARKS, NUMBER,
-    NUMBER_READ, POOL_FIELDS, RECORDS, RECORD_LENGTH, SUM_READ, UNIT_FIELDS, WIDTH, WORDS,
+    program_fields, set_file_field, set_pool_field, set_post_field, set_program_field, set_scan_mark,
+    set_unit_field, state_numbers, AT, BLOCK_SIZE, BUFFER_FIELDS, CHANNEL_MARKS, FILE_FIELDS, FOUND_NUMBER,
+    FOUND_SUM, FREE, LOW, MARKS, NUMBER, NUMBER_READ, PLACES, POOL_FIELDS, POST_FIELDS, PROGRAM_FIELDS,
+    RECORDS, RECORD_LENGTH, SUM_READ, UNIT_FIELDS, WIDTH, WORDS,
 };
 use crate::text::{line_of, numbers_of};
 
-/// The commands: the calls, then the changes, then what prints.
+/// The commands: calls, changes, and what prints; from 21 on calls and changes about special routines.
 pub const FRESH: u64 = 0;
 pub const OPEN: u64 = 1;
 pub const CLOSE: u64 = 2;
@@ -35,6 +37,12 @@ pub const START_OVER: u64 = 17;
 pub const PRINT_ROOM: u64 = 18;
 pub const PRINT_STATE: u64 = 19;
 pub const PRINT_SOUND: u64 = 20;
+pub const ASK_NAMING: u64 = 21;
+pub const RETURN: u64 = 22;
+pub const RUNNING: u64 = 23;
+pub const DEPTH: u64 = 24;
+pub const PROGRAM: u64 = 25;
+pub const POST: u64 = 26;
 
 /// The numbers of the room, of which the area is the first part.
 pub const ROOM: usize = 64;
@@ -87,7 +95,7 @@ impl Player {
     pub fn play(&mut self, command: &[u64]) -> Result<Option<Vec<u64>>, String> {
         check_form(command)?;
         Ok(match command[0] {
-            FRESH..=THAW => Some(self.call(command)),
+            FRESH..=THAW | ASK_NAMING..=RUNNING => Some(self.call(command)),
             PRINT_ROOM => Some(self.room.to_vec()),
             PRINT_STATE => Some(state_numbers(&self.state)),
             PRINT_SOUND => Some(vec![u64::from(is_sound(&self.state))]),
@@ -119,8 +127,10 @@ impl Player {
                 calls::open(state, &opening).map(nothing)
             }
             [CLOSE, file] => calls::close(state, file).map(nothing),
-            [ASK, file, operation, priority] => {
-                calls::ask(state, file, operation, priority).map(|working| vec![working.unwrap_or(NO_UNIT)])
+            [ASK, file, operation, priority] => ask(state, [file, operation, priority], None),
+            [ASK_NAMING, file, operation, priority, given, number, level] => {
+                let names = (given != 0).then_some(Routine { number, level });
+                ask(state, [file, operation, priority], names)
             }
             [REPORT, channel, unit, outcome, length, _, ref words @ ..] => {
                 let answer = calls::report(state, area, channel, unit, outcome, length, words)?;
@@ -137,6 +147,11 @@ impl Player {
             [SEAL, file] => calls::seal(state, area, file).map(nothing),
             [SKIP, file] => calls::skip(state, file).map(nothing),
             [FREEZE] => calls::freeze(state).map(nothing),
+            [RETURN] => {
+                let answer = calls::give_back(state)?;
+                Ok([&[u64::from(answer.entered)][..], &program_fields(&answer.runs)].concat())
+            }
+            [RUNNING] => calls::running(state).map(|program| program_fields(&program).to_vec()),
             _ => calls::thaw(state).map(nothing),
         }
     }
@@ -155,9 +170,27 @@ impl Player {
                 set_scan_mark(&mut self.state.channels[channel as usize], mark, value);
             }
             [POOL, field, value] => set_pool_field(&mut self.state, field, value),
+            [DEPTH, depth] => self.state.programs.depth = depth,
+            [PROGRAM, place, field, value] => {
+                set_program_field(&mut self.state.programs, place, field, value);
+            }
+            [POST, channel, unit, field, value] => {
+                let units = &mut self.state.channels[channel as usize].units;
+                set_post_field(&mut units[unit as usize], field, value);
+            }
             _ => *self = Player::new(),
         }
     }
+}
+
+/// An ask; its answer is the working unit.
+fn ask(
+    state: &mut State,
+    [file, operation, priority]: [u64; 3],
+    names: Option<Routine>,
+) -> Result<Vec<u64>, u64> {
+    let working = calls::ask(state, file, operation, priority, names)?;
+    Ok(vec![working.unwrap_or(NO_UNIT)])
 }
 
 /// Numbers, then a part of the area: its start, its count and its words.
@@ -201,16 +234,21 @@ fn limits_of(command: &[u64]) -> Option<Vec<u64>> {
         FRESH => [&[BYTE][..], &[TWO_BYTES; 6]].concat(),
         OPEN => [&[BYTE; 4][..], &[TWO_BYTES; 2]].concat(),
         ASK => vec![BYTE; 3],
+        ASK_NAMING => vec![BYTE; 6],
         REPORT => vec![BYTE, BYTE, BYTE, FOUR_BYTES, MOST_WORDS],
         PUT => vec![BYTE, MOST_WORDS],
         CLOSE | GET | SEAL | SKIP => vec![BYTE],
-        FREEZE | THAW | START_OVER | PRINT_ROOM | PRINT_STATE | PRINT_SOUND => vec![],
+        FREEZE | THAW | RETURN | RUNNING => vec![],
+        START_OVER | PRINT_ROOM | PRINT_STATE | PRINT_SOUND => vec![],
         LENGTH => vec![ROOM as u64],
         WORD => vec![ROOM as u64 - 1, u64::MAX],
         FILE => vec![files, FILE_FIELDS - 1, file_limit(command.get(2).copied())],
         UNIT => vec![channels, units, UNIT_FIELDS - 1, unit_limit(command.get(3).copied())],
         SCAN_MARK => vec![channels, CHANNEL_MARKS - 1, BYTE],
         POOL => vec![POOL_FIELDS - 1, pool_limit(command.get(1).copied())],
+        DEPTH => vec![BYTE],
+        PROGRAM => vec![PLACES - 1, PROGRAM_FIELDS - 1, BYTE],
+        POST => vec![channels, units, POST_FIELDS - 1, BYTE],
         _ => return None,
     })
 }
@@ -296,7 +334,7 @@ mod tests {
     fn lengths_and_positions() {
         let unit = |fields: &str| {
             let file = "0 1 0 0 0 0 0 0 2 1 0 1 0 0 1 0 0 0 0 0 0 0 0 0 0 0 0 0 0 0 0 0 0";
-            format!("1 4 0 0 0 0 0 {fields} 10{} {file} 16", " 0 0 10".repeat(4))
+            format!("1 4 0 0 0 0 0 {fields} 10{} {file} 16 0 5 5", " 0 0 10".repeat(4))
         };
         answers(
             "0 1 4 1 0 0 0 0; 1 0 0 0 0 2 1; 3 0 0 0; 4 0 0 1 2 0; 19; 4 0 0 1 3 0; 4 0 0 1 1 1 9; 19",
@@ -315,6 +353,62 @@ mod tests {
             "0 1 4 1 0 0 0 0; 1 0 0 0 0 2 1; 3 0 0 0; 4 0 0 1 65537 0; 4 0 0 0 1 1 9; 4 0 0 1 2 1 9; 4 0 1 1 2 0; \
              14 0 0 7 32767; 14 0 0 8 32767; 20; 4 0 0 3 65536 0; 14 0 0 8 32768; 20",
             &["0", "0", "0 0", "1", "1", "1", "11", "1", "0 3 0 0 0 0 0 255 0 0", "0"],
+        );
+    }
+
+    /// A request names routine 200 of priority 3 and is answered in a freeze; the thaw enters it. A naming that
+    /// is not given names none, whatever its numbers are.
+    #[test]
+    fn routines_that_are_named_and_entered() {
+        answers(
+            "0 1 4 1 0 0 0 0; 1 0 0 0 1 2 1; 21 0 2 0 1 200 5; 21 0 2 0 1 200 3; 9; 4 0 0 0 65536 0; 23; 3 0 2 0; 10; \
+             23; 3 0 2 0; 22; 22; 4 0 0 0 65536 0; 21 0 2 0 0 7 200; 4 0 0 0 65536 0; 23",
+            &[
+                "0",
+                "0",
+                "1",
+                "0 0",
+                "0",
+                "0 1 0 0 0 0 0 255 0 0",
+                "0 0 0 0 0",
+                "8",
+                "0",
+                "0 4 0 0 200",
+                "0 0",
+                "0 0 0 0 0 0",
+                "18",
+                "0 1 0 0 0 0 0 255 0 0",
+                "0 0",
+                "0 1 0 0 0 0 0 255 0 0",
+                "0 0 0 0 0",
+            ],
+        );
+    }
+
+    /// Changes of programs and posts, and how they are printed and judged.
+    #[test]
+    fn programs_and_posts_by_hand() {
+        let units = "0 0 0 1 0 0 0 0 0 0 0 0 0 10 0 0 10 0 0 10 0 0 10 0 0 10";
+        answers(
+            "0 1 1 1 0 0 0 0; 24 1; 20; 25 0 0 5; 25 0 3 77; 20; 26 0 0 2 5; 26 0 0 3 9; 20; 19; 22; 23; 16 2 1; 22; 20; \
+             26 0 0 2 0; 20; 26 0 0 3 0; 20; 26 0 0 0 1; 20; 17; 20; 25 4 2 1; 20; 19",
+            &[
+                "0",
+                "0",
+                "1",
+                "1",
+                &format!("1 1 0 1 {units} 16 1 0 5 0 0 77 5 0 0 0 0 5 9 5"),
+                "0 1 5 0 0 9",
+                "0 5 0 0 9",
+                "0 0 0 0 0 0",
+                "1",
+                "1",
+                "1",
+                "0",
+                "1",
+                "0",
+                &format!("0 0 0 0{} 16 0 4 0 0 1 0 5 5", " 0 0 10".repeat(5)),
+            ],
         );
     }
 
@@ -339,9 +433,12 @@ mod tests {
         let room = |first: &str, between: usize, last: &str| format!("{first} {} {last}", zeros(between));
         answers(
             "12 0 18446744073709551615; 12 63 7; 18; 19",
-            &[&room("18446744073709551615", 62, "7"), &format!("0 0 0 0{} 16", " 0 0 10".repeat(5))],
+            &[&room("18446744073709551615", 62, "7"), &format!("0 0 0 0{} 16 0 5 5", " 0 0 10".repeat(5))],
         );
-        answers("15 1 0 7; 15 1 1 8; 15 4 1 255; 19", &["0 0 0 0 0 0 10 7 8 10 0 0 10 0 0 10 0 255 10 16"]);
+        answers(
+            "15 1 0 7; 15 1 1 8; 15 4 1 255; 19",
+            &["0 0 0 0 0 0 10 7 8 10 0 0 10 0 0 10 0 255 10 16 0 5 5"],
+        );
     }
 
     /// The mask of the free buffers: printed after the freeze, set by hand modulo 2^32, and judged.
@@ -353,12 +450,12 @@ mod tests {
             "0 3 1 3 0 0 0 0; 19; 1 0 0 0 2 1 1; 19; 2 0; 9; 19",
             &[
                 "0",
-                &format!("3 1 0 7 {units} 16"),
+                &format!("3 1 0 7 {units} 16 0 5 5"),
                 "0",
-                &format!("3 1 0 4 {units} {file} 16"),
+                &format!("3 1 0 4 {units} {file} 16 0 5 5"),
                 "0",
                 "0",
-                &format!("3 1 1 7 {units} 16"),
+                &format!("3 1 1 7 {units} 16 0 5 5"),
             ],
         );
         answers(
@@ -379,7 +476,7 @@ mod tests {
         complains("17; 20 x", "something that is no number of 64 bits");
         complains("17; 12 0 18446744073709551616", "something that is no number of 64 bits");
         assert_eq!(answer_script("17\n\n17\n"), Err("line 2: no command".to_string()));
-        complains("17; 21", "no command 21");
+        complains("17; 27", "no command 27");
         for (command, takes, given) in [
             ("0 1 1 1 0 0 0", 7, 6),
             ("1 0 0 0 0 3", 6, 5),
@@ -396,6 +493,12 @@ mod tests {
             ("14 0 0 0", 4, 3),
             ("15 0 9", 3, 2),
             ("20 0", 0, 1),
+            ("21 0 0 0", 6, 3),
+            ("22 0", 0, 1),
+            ("23 0", 0, 1),
+            ("24", 1, 0),
+            ("25 0 0", 3, 2),
+            ("26 0 0 0", 4, 3),
         ] {
             let kind = command.split(' ').next().expect("a command");
             complains(command, &format!("command {kind} takes {takes} numbers and not {given}"));
@@ -442,6 +545,15 @@ mod tests {
             ("16 0 256", 2, 255, 256),
             ("16 1 65536", 2, 65_535, 65_536),
             ("16 2 256", 2, 255, 256),
+            ("21 0 0 0 1 0 256", 6, 255, 256),
+            ("24 256", 1, 255, 256),
+            ("25 5 0 0", 1, 4, 5),
+            ("25 0 4 0", 2, 3, 4),
+            ("25 0 0 256", 3, 255, 256),
+            ("26 5 0 0 0", 1, 4, 5),
+            ("26 0 10 0 0", 2, 9, 10),
+            ("26 0 0 4 0", 3, 3, 4),
+            ("26 0 0 0 256", 4, 255, 256),
         ] {
             let kind = command.split(' ').next().expect("a command");
             complains(command, &format!("number {place} of command {kind} is over {limit}: {number}"));

@@ -111,6 +111,6 @@ mod tests {
         let person = Person { lines: vec!["09\n", "\n", "0A\n", "0B\n"], given: 0, flushed: &flushed };
         let mut desk = Desk { written: Vec::new(), flushed: &flushed };
         play(&mut BufReader::new(person), &mut desk).expect("a session");
-        assert_eq!(*flushed.borrow(), b"00\n01\n00\n01\n");
+        assert_eq!(*flushed.borrow(), b"00\n01\n00\n12\n");
     }
 }

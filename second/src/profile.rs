@@ -18,11 +18,13 @@ pub enum Profile {
     Kept,
     /// Where the reels stand: long runs of failures and of noise records.
     Reel,
+    /// Special routines: all priorities, ties, full lists, freezes and returns.
+    Routines,
     /// Block numbers that pass 32,767.
     Wrap,
 }
 
-pub const PROFILES: [(&str, Profile); 9] = [
+pub const PROFILES: [(&str, Profile); 10] = [
     ("mixed", Profile::Mixed),
     ("retries", Profile::Retries),
     ("turns", Profile::Turns),
@@ -31,6 +33,7 @@ pub const PROFILES: [(&str, Profile); 9] = [
     ("refusals", Profile::Refusals),
     ("kept", Profile::Kept),
     ("reel", Profile::Reel),
+    ("routines", Profile::Routines),
     ("wrap", Profile::Wrap),
 ];
 
@@ -48,6 +51,8 @@ pub enum Action {
     Skip,
     Freeze,
     Thaw,
+    Return,
+    Running,
     /// A frame with numbers or at a time that may well be refused.
     Faulty,
     Malformed,
@@ -56,17 +61,18 @@ pub enum Action {
 /// How a profile likes its sessions.
 pub struct Habits {
     /// How often each action is tried, against the others.
-    pub weights: [(Action, u64); 13],
+    pub weights: [(Action, u64); 15],
     pub buffers: (u64, u64),
     /// Widths up to this one; now and then the widest buffers of all.
     pub width: u64,
     /// How many channels are used, and how many files are open at most.
     pub channels: u64,
     pub files: usize,
-    /// In parts of a hundred: asks with priority, failures, marks and ends of medium among
+    /// In parts of a hundred: asks with priority, asks that name a routine, failures, marks and ends of medium among
     /// reports, files with check words, damaged blocks among those delivered, failed reads with words,
     /// redundancies of reads with a length, and files for output.
     pub priority: u64,
+    pub routines: u64,
     pub redundancies: u64,
     pub incomplete_words: u64,
     pub marks: u64,
@@ -85,13 +91,14 @@ impl Profile {
 
     pub fn habits(self) -> Habits {
         let mixed = Habits {
-            // Fresh, open, close, ask, report, get, put, seal, skip, freeze, thaw, faulty, malformed.
-            weights: weights([1, 60, 10, 250, 300, 120, 120, 15, 15, 8, 20, 30, 6]),
+            // Fresh, open, close, ask, report, get, put, seal, skip, freeze, thaw, return, running, faulty, malformed.
+            weights: weights([1, 60, 10, 250, 300, 120, 120, 15, 15, 8, 20, 12, 4, 30, 6]),
             buffers: (8, 32),
             width: 12,
             channels: 5,
             files: 14,
             priority: 20,
+            routines: 6,
             redundancies: 15,
             incomplete_words: 4,
             marks: 3,
@@ -106,7 +113,7 @@ impl Profile {
             Profile::Mixed => mixed,
             Profile::Wrap => Habits { damaged: 1, ..mixed },
             Profile::Retries => Habits {
-                weights: weights([1, 60, 3, 150, 900, 60, 60, 5, 5, 4, 20, 10, 1]),
+                weights: weights([1, 60, 3, 150, 900, 60, 60, 5, 5, 4, 20, 6, 2, 10, 1]),
                 channels: 3,
                 files: 6,
                 redundancies: 98,
@@ -115,7 +122,7 @@ impl Profile {
                 ..mixed
             },
             Profile::Turns => Habits {
-                weights: weights([1, 90, 3, 400, 400, 80, 80, 5, 40, 25, 60, 10, 1]),
+                weights: weights([1, 90, 3, 400, 400, 80, 80, 5, 40, 25, 60, 6, 2, 10, 1]),
                 buffers: (20, 32),
                 width: 4,
                 channels: 2,
@@ -125,7 +132,7 @@ impl Profile {
                 ..mixed
             },
             Profile::Blocks => Habits {
-                weights: weights([1, 40, 15, 200, 250, 300, 250, 40, 20, 2, 20, 15, 1]),
+                weights: weights([1, 40, 15, 200, 250, 300, 250, 40, 20, 2, 20, 6, 2, 15, 1]),
                 width: 40,
                 files: 10,
                 redundancies: 3,
@@ -135,20 +142,22 @@ impl Profile {
                 damaged: 40,
                 ..mixed
             },
-            Profile::Malformed => {
-                Habits { weights: weights([1, 60, 10, 150, 200, 80, 80, 10, 10, 8, 20, 40, 400]), ..mixed }
-            }
+            Profile::Malformed => Habits {
+                weights: weights([1, 60, 10, 150, 200, 80, 80, 10, 10, 8, 20, 6, 2, 40, 400]),
+                ..mixed
+            },
             Profile::Refusals => Habits {
-                weights: weights([1, 60, 20, 150, 200, 60, 90, 10, 10, 8, 20, 800, 20]),
+                weights: weights([1, 60, 20, 150, 200, 60, 90, 10, 10, 8, 20, 6, 2, 800, 20]),
                 buffers: (1, 6),
                 width: 6,
                 channels: 2,
                 files: 4,
                 marks: 15,
+                routines: 25,
                 ..mixed
             },
             Profile::Kept => Habits {
-                weights: weights([1, 60, 8, 250, 400, 250, 40, 5, 25, 8, 20, 25, 1]),
+                weights: weights([1, 60, 8, 250, 400, 250, 40, 5, 25, 8, 20, 6, 2, 25, 1]),
                 files: 8,
                 redundancies: 25,
                 incomplete_words: 50,
@@ -160,7 +169,7 @@ impl Profile {
                 ..mixed
             },
             Profile::Reel => Habits {
-                weights: weights([1, 60, 2, 300, 1200, 120, 30, 5, 60, 12, 30, 25, 1]),
+                weights: weights([1, 60, 2, 300, 1200, 120, 30, 5, 60, 12, 30, 6, 2, 25, 1]),
                 channels: 2,
                 files: 7,
                 priority: 20,
@@ -168,14 +177,29 @@ impl Profile {
                 outputs: 20,
                 ..mixed
             },
+            Profile::Routines => Habits {
+                weights: weights([1, 60, 12, 400, 420, 60, 60, 5, 25, 22, 45, 90, 50, 30, 1]),
+                buffers: (16, 32),
+                width: 4,
+                files: 12,
+                priority: 25,
+                routines: 85,
+                redundancies: 8,
+                marks: 4,
+                outputs: 70,
+                ..mixed
+            },
         }
     }
 }
 
 /// The weights of the actions, in the order of their names.
-fn weights(numbers: [u64; 13]) -> [(Action, u64); 13] {
+fn weights(numbers: [u64; 15]) -> [(Action, u64); 15] {
     use Action::*;
-    let actions = [Fresh, Open, Close, Ask, Report, Get, Put, Seal, Skip, Freeze, Thaw, Faulty, Malformed];
+    let actions = [
+        Fresh, Open, Close, Ask, Report, Get, Put, Seal, Skip, Freeze, Thaw, Return, Running, Faulty,
+        Malformed,
+    ];
     std::array::from_fn(|index| (actions[index], numbers[index]))
 }
 

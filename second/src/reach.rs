@@ -9,6 +9,8 @@ use crate::channel::{
 use crate::file::Direction;
 use crate::frame::{answer_line, frame_of, refusals_of, Frame};
 use crate::pack::{Pack, FILES, NO_LENGTH};
+use crate::reach_routines::{entered_name, Before, OF_ROUTINES};
+use crate::routine::HIGHEST_LEVEL;
 use crate::session::new_pack;
 use crate::word::LAST_NUMBER;
 
@@ -23,8 +25,8 @@ pub struct Reach {
 impl Default for Reach {
     fn default() -> Reach {
         let mut names = Vec::new();
-        // There is no refusal 14.
-        names.extend((1..=13).chain([15]).map(|number| format!("refusal {number}")));
+        // There is no refusal 14; 16 and 17 are of no frame.
+        names.extend((1..=13).chain([15, 18]).map(|number| format!("refusal {number}")));
         names.extend((0..=7).map(|number| format!("result {number}")));
         names.extend(CLEANER_PASSES.map(|attempt| format!("backspace three, attempt {attempt}")));
         names.extend((1..=3).map(|number| format!("check error {number}")));
@@ -32,6 +34,8 @@ impl Default for Reach {
         // M-101: 4 and 10 are errors of reads.
         names.extend([1, 2, 3, 4, 10].map(|number| format!("get error {number}")));
         names.extend(OTHERS.map(str::to_string));
+        names.extend((0..=HIGHEST_LEVEL).map(entered_name));
+        names.extend(OF_ROUTINES.map(str::to_string));
         Reach { counts: names.into_iter().map(|name| (name, 0)).collect(), pairs: BTreeMap::new() }
     }
 }
@@ -130,7 +134,7 @@ impl Reach {
         self.pairs.contains_key(&(low, high))
     }
 
-    fn count(&mut self, name: &str) {
+    pub(crate) fn count(&mut self, name: &str) {
         if let Some((_, count)) = self.counts.iter_mut().find(|(known, _)| known == name) {
             *count += 1;
         }
@@ -138,6 +142,7 @@ impl Reach {
 
     fn play_line(&mut self, pack: &mut Pack, line: &[u8]) -> Vec<u8> {
         let frame = frame_of(line);
+        let before = Before::of(pack);
         let last_numbers = files_at_the_last_number(pack);
         let at_work = pack.channels.each_ref().map(Channel::working_unit);
         if let Some(frame) = &frame {
@@ -150,6 +155,9 @@ impl Reach {
         }
         let answer = answer_line(pack, line);
         let bytes = bytes_of(&answer);
+        if let Some(frame) = &frame {
+            self.see_routines(&before, pack, frame, &bytes);
+        }
         match (bytes[0], frame) {
             (0, Some(Frame::Report { channel, unit, outcome, length, words })) => {
                 self.see_report(pack, channel, unit, &bytes);
@@ -291,7 +299,7 @@ impl Reach {
         self.count_if(LENGTH_IDLE, *outcome == 1 && right && asked.is_none());
     }
 
-    fn count_if(&mut self, name: &str, came_about: bool) {
+    pub(crate) fn count_if(&mut self, name: &str, came_about: bool) {
         if came_about {
             self.count(name);
         }
@@ -394,7 +402,7 @@ mod tests {
     fn everything_is_missing_at_first() {
         let reach = Reach::default();
         assert_eq!(reach.missing().len(), reach.counts.len());
-        assert_eq!(reach.counts.len(), 14 + 8 + 9 + 3 + 5 + 5 + 33);
+        assert_eq!(reach.counts.len(), 15 + 8 + 9 + 3 + 5 + 5 + 33 + 5 + OF_ROUTINES.len());
         assert!(!reach.missing().contains(&"refusal 14"));
         assert_eq!(reach.lines().lines().count(), reach.counts.len() + 1);
     }

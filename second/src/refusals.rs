@@ -1,9 +1,12 @@
 //! The choice among refusal numbers that apply at once.
 
+/// The highest refusal of a call: "refused 18 with none running" (document 02, M-110).
+const LAST_REFUSAL: usize = 18;
+
 /// The refusal numbers that apply to a call.
 #[derive(Clone, Debug, Default, PartialEq, Eq)]
 pub struct Refusals {
-    applying: [bool; 16],
+    applying: [bool; LAST_REFUSAL + 1],
 }
 
 impl Refusals {

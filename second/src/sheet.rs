@@ -178,6 +178,19 @@ mod tests {
         gives(session, &answers.replacen("1\n00\n00\n", "1\n01\n00\n", 1), &format!("9\n{requests}"));
     }
 
+    /// An ask that names a routine is listed as any other; returns and what runs are no events, and an ask that is
+    /// refused for a waiting routine is not listed.
+    #[test]
+    fn routines_are_no_events() {
+        let session =
+            "0001000400010000000000000000\n010000000100010001\n030002000904\n04000000\n0C\n030002010900\n\
+                       04000000\n03000200\n0B\n0B\n0B\n03000200\n";
+        let answers =
+            "00\n00\n0000\n000100FF\n00000009\n0000\n000100FF\n08\n0001000009\n0000FFFFFF\n12\n0000\n";
+        gives(session, answers, "0\n0 0 3 4 1\n0 0 6 7 1\n0 0 12 0 0\n");
+        gives(session, &answers.replacen("\n12\n", "\n01\n", 1), "11\n0 0 3 4 1\n0 0 6 7 1\n0 0 12 0 0\n");
+    }
+
     /// A result 07 leaves its request unanswered, and a noise record too; both reports count.
     #[test]
     fn backspace_three_is_no_answer() {

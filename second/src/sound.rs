@@ -1,10 +1,15 @@
 //! When a state that a caller passes back is sound (document 01, "A state passed back by the caller
-//! is sound if ..."), clause by clause. A clause that cannot be judged does not count as broken.
+//! is sound if ..."), clause by clause. A clause that cannot be judged does not count as broken. Those about
+//! special routines stand apart.
 
 use std::collections::BTreeSet;
 
 use crate::channel::{Operation, Position, Request, Turn, LAST_COUNT, MOST_NOISE, UNITS};
 use crate::pack::{CHANNELS, MOST_BUFFERS, MOST_WIDTH};
+use crate::sound_routines::{
+    list_depth, main_program, named_by_requests, nothing_above, program_numbers, program_zeros,
+    rising_priorities, routine_numbers, routine_units, routine_zeros, waiting_alone, waiting_units,
+};
 use crate::state::{Buffer, FileState, Slot, State};
 use crate::word::{ones, Fields, HALF_BITS, LAST_NUMBER};
 
@@ -17,7 +22,7 @@ const READ_ERRORS: [u64; 3] = [0, 4, 10];
 type Holds = fn(&State) -> bool;
 
 /// The clauses, each with the test that a state must pass.
-const CLAUSES: [(Clause, Holds); 36] = [
+const CLAUSES: [(Clause, Holds); 48] = [
     (Clause::PoolSizes, pool_sizes),
     (Clause::NothingBeforeFresh, nothing_before_fresh),
     (Clause::ScanMarks, scan_marks),
@@ -54,6 +59,18 @@ const CLAUSES: [(Clause, Holds); 36] = [
     (Clause::PartFilledWords, part_filled_words),
     (Clause::PlacesOfGet, places_of_get),
     (Clause::Attempts, attempts),
+    (Clause::ListDepth, list_depth),
+    (Clause::ProgramNumbers, program_numbers),
+    (Clause::ProgramZeros, program_zeros),
+    (Clause::MainProgram, main_program),
+    (Clause::RisingPriorities, rising_priorities),
+    (Clause::RoutineUnits, routine_units),
+    (Clause::RoutineNumbers, routine_numbers),
+    (Clause::RoutineZeros, routine_zeros),
+    (Clause::NamedByRequests, named_by_requests),
+    (Clause::WaitingUnits, waiting_units),
+    (Clause::WaitingAlone, waiting_alone),
+    (Clause::NothingAbove, nothing_above),
 ];
 
 /// A clause of soundness.
@@ -95,6 +112,18 @@ pub enum Clause {
     PartFilledWords,
     PlacesOfGet,
     Attempts,
+    ListDepth,
+    ProgramNumbers,
+    ProgramZeros,
+    MainProgram,
+    RisingPriorities,
+    RoutineUnits,
+    RoutineNumbers,
+    RoutineZeros,
+    NamedByRequests,
+    WaitingUnits,
+    WaitingAlone,
+    NothingAbove,
 }
 
 /// Every clause, in the order of the document.
@@ -109,7 +138,7 @@ pub fn broken_clauses(state: &State) -> Vec<Clause> {
 }
 
 pub fn is_sound(state: &State) -> bool {
-    broken_clauses(state).is_empty()
+    CLAUSES.iter().all(|(_, holds)| holds(state))
 }
 
 /// "m from 1 to 32, W from 1 to 1,024"; "Before the first fresh start ... m and W are 0".

@@ -3,6 +3,7 @@
 
 use crate::channel::{Position, Request, UNITS};
 use crate::pack::{CHANNELS, FILES};
+use crate::routine::DEEPEST;
 use crate::word::{Chosen, Fields};
 
 /// What a buffer of a file holds.
@@ -55,12 +56,40 @@ pub struct FileState {
     pub high: Buffer,
 }
 
+/// A special routine (M-110) that a request names or that waits. The rank is one above its priority, and 0 if
+/// there is none.
+#[derive(Clone, Copy, Debug, Default, PartialEq, Eq)]
+pub struct RoutineState {
+    pub rank: u64,
+    pub routine: u64,
+}
+
+/// A program that runs or was interrupted. The main program has rank 0.
+#[derive(Clone, Copy, Debug, Default, PartialEq, Eq)]
+pub struct ProgramState {
+    pub rank: u64,
+    pub channel: u64,
+    pub unit: u64,
+    pub routine: u64,
+}
+
+/// What runs, and the push-down list: so many programs of it, the one pushed first at the bottom, place 0.
+#[derive(Clone, Debug, Default, PartialEq, Eq)]
+pub struct ProgramsState {
+    pub runs: ProgramState,
+    pub depth: u64,
+    pub list: [ProgramState; DEEPEST],
+}
+
 /// A unit; it is idle if it has no request.
 #[derive(Clone, Debug, Default, PartialEq, Eq)]
 pub struct UnitState {
     pub declared: bool,
     pub request: Option<Request>,
     pub position: Position,
+    /// What its request names, and what waits there.
+    pub named: RoutineState,
+    pub waiting: RoutineState,
 }
 
 #[derive(Clone, Debug, Default, PartialEq, Eq)]
@@ -82,6 +111,7 @@ pub struct State {
     pub free: u32,
     pub channels: [ChannelState; CHANNELS],
     pub files: [FileState; FILES],
+    pub programs: ProgramsState,
 }
 
 impl Slot {
@@ -116,6 +146,18 @@ impl FileState {
     /// How many of its buffers hold something of a kind.
     pub fn count(&self, kind: impl Fn(&Slot) -> bool) -> usize {
         self.buffers().iter().filter(|buffer| kind(&buffer.slot)).count()
+    }
+}
+
+impl ProgramsState {
+    /// The push-down list from the bottom up; a depth above four has no more than four.
+    pub fn pushed(&self) -> &[ProgramState] {
+        &self.list[..usize::try_from(self.depth).map_or(DEEPEST, |depth| depth.min(DEEPEST))]
+    }
+
+    /// The list from the bottom up, then what runs.
+    pub fn in_order(&self) -> impl Iterator<Item = &ProgramState> {
+        self.pushed().iter().chain([&self.runs])
     }
 }
 

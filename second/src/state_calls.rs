@@ -1,10 +1,11 @@
-//! The eleven calls on a state that a caller passes and an area that it lends. Every call judges the
+//! The thirteen calls on a state that a caller passes and an area that it lends. Every call judges the
 //! state; a fresh start, report, get, put and seal judge the area too. A refused call changes neither.
 
 use crate::file::{File, Found, Part};
 use crate::pack::{Got, Opening, Pack, CHANNELS};
+use crate::routine::Routine;
 use crate::sound::is_sound;
-use crate::state::State;
+use crate::state::{ProgramState, State};
 use crate::state_pack::{pack_of, state_of};
 use crate::word::{Fields, Judged};
 
@@ -63,10 +64,23 @@ pub fn close(state: &mut State, file: u64) -> Result<(), u64> {
     without_area(state, |pack| pack.close(file))
 }
 
-/// Gives the channel's working unit.
-pub fn ask(state: &mut State, file: u64, operation: u64, priority: u64) -> Result<Option<u64>, u64> {
+/// What a return gives: whether a waiting routine was entered, and what runs now.
+#[derive(Clone, Debug, PartialEq, Eq)]
+pub struct ReturnAnswer {
+    pub entered: bool,
+    pub runs: ProgramState,
+}
+
+/// Gives the channel's working unit. The ask may name a routine.
+pub fn ask(
+    state: &mut State,
+    file: u64,
+    operation: u64,
+    priority: u64,
+    names: Option<Routine>,
+) -> Result<Option<u64>, u64> {
     without_area(state, |pack| {
-        let working_unit = pack.ask(file, operation, priority)?;
+        let working_unit = pack.ask_naming(file, operation, priority, names)?;
         Ok(working_unit.map(|unit| unit as u64))
     })
 }
@@ -140,6 +154,20 @@ pub fn thaw(state: &mut State) -> Result<(), u64> {
     })
 }
 
+/// The routine that runs returns.
+pub fn give_back(state: &mut State) -> Result<ReturnAnswer, u64> {
+    let entered = without_area(state, |pack| pack.give_back())?.entered;
+    Ok(ReturnAnswer { entered, runs: state.programs.runs })
+}
+
+/// What runs; "refused only for an unsound state, and changes nothing".
+pub fn running(state: &State) -> Result<ProgramState, u64> {
+    if !is_sound(state) {
+        return Err(1);
+    }
+    Ok(state.programs.runs)
+}
+
 /// A call that needs no area. 1: "a state passed back is unsound".
 fn without_area<T>(state: &mut State, call: impl FnOnce(&mut Pack) -> Result<T, u64>) -> Result<T, u64> {
     if !is_sound(state) {
@@ -189,6 +217,7 @@ fn found_start(pack: &Pack, file: u64) -> u64 {
 mod tests {
     use super::*;
     use crate::pack::{CHECK, DOUBLE, NO_LENGTH, OUTPUT, SEQUENCE};
+    use crate::state::RoutineState;
 
     const READ: u64 = 0;
     const WRITE: u64 = 1;
@@ -207,7 +236,7 @@ mod tests {
         open(&mut state, &opening(1, OUTPUT + SEQUENCE + CHECK, 3, 1)).expect("an open");
         open(&mut state, &opening(2, 0, 1, 1)).expect("an open");
         for words in [[1, 2].as_slice(), &[3, 4, 5]] {
-            ask(&mut state, 0, READ, 0).expect("an ask");
+            ask(&mut state, 0, READ, 0, None).expect("an ask");
             report(&mut state, &mut area, 0, 0, 0, NO_LENGTH, words).expect("a report");
         }
         get(&mut state, &mut area, 0).expect("a get");
@@ -221,29 +250,33 @@ mod tests {
             0 => fresh(state, area, 1, 1, [1, 0, 0, 0, 0]),
             1 => open(state, &opening(3, 0, 1, 1)),
             2 => close(state, 0),
-            3 => ask(state, 2, READ, 0).map(|_| ()),
+            3 => ask(state, 2, READ, 0, None).map(|_| ()),
             4 => report(state, area, 0, 3, 0, NO_LENGTH, &[]).map(|_| ()),
             5 => get(state, area, 0).map(|_| ()),
             6 => put(state, area, 1, &[7]),
             7 => seal(state, area, 1),
             8 => skip(state, 0),
             9 => freeze(state),
-            _ => thaw(state),
+            10 => thaw(state),
+            11 => give_back(state).map(|_| ()),
+            _ => running(state).map(|_| ()),
         }
     }
 
-    /// A report is 11 here: no channel works.
+    const CALLS: u64 = 13;
+
+    /// A report is 11 here: no channel works; a return is 18: no routine runs.
     fn expected(number: u64) -> Result<(), u64> {
-        if number == 4 {
-            Err(11)
-        } else {
-            Ok(())
+        match number {
+            4 => Err(11),
+            11 => Err(18),
+            _ => Ok(()),
         }
     }
 
     #[test]
     fn every_call_judges_the_state() {
-        for number in 0..11 {
+        for number in 0..CALLS {
             let (mut state, mut area) = state_and_area();
             assert_eq!(call(number, &mut state.clone(), &mut area.clone()), expected(number));
             for marks in [[10, 0], [0, 10]] {
@@ -260,7 +293,7 @@ mod tests {
     fn every_call_judges_the_mask() {
         let (right, area) = state_and_area();
         assert_eq!(right.free, 1 << 4);
-        for number in 0..11 {
+        for number in 0..CALLS {
             for bit in 0..32 {
                 let (mut state, mut words) = (right.clone(), area.clone());
                 state.free ^= 1 << bit;
@@ -303,7 +336,7 @@ mod tests {
         state = closed(3, Ok(()), 0b10110);
         assert_eq!(open(&mut state, &opening(3, DOUBLE, 1, 1)), Ok(()));
         assert_eq!((state.free, &state.files[3].buffers()[1].number), (0b10000, &2));
-        for number in 3..11 {
+        for number in 3..CALLS {
             let (mut state, mut area) = state_and_area();
             assert_eq!(call(number, &mut state, &mut area), expected(number));
             assert_eq!(state.free, 1 << 4);
@@ -330,7 +363,7 @@ mod tests {
     /// Report, get, put and seal need all twenty words; a fresh start only the new ones.
     #[test]
     fn calls_that_judge_the_area() {
-        for number in 0..11 {
+        for number in 0..CALLS {
             let (state, area) = state_and_area();
             let judges = [4, 5, 6, 7].contains(&number);
             for (length, short) in [(20, false), (19, true), (1, true)] {
@@ -357,13 +390,35 @@ mod tests {
         assert_eq!(get(&mut state, &mut area, 0), shown(4, 6, &[5]));
         assert_eq!(get(&mut state, &mut area, 0), shown(1, 0, &[]));
         seal(&mut state, &mut area, 1).expect("a seal");
-        ask(&mut state, 1, WRITE, 0).expect("an ask");
+        ask(&mut state, 1, WRITE, 0, None).expect("an ask");
         let block = Shown { start: 8, words: vec![6, 6 << 18 | 1] };
         let found = Fields::default();
         let answer = ReportAnswer { result: 1, check_error: 0, found, working_unit: None, block };
         assert_eq!(report(&mut state, &mut area, 0, 1, 0, NO_LENGTH, &[]), Ok(answer));
         assert_eq!(area[..11], [1, 2, 102, 103, 3, 4, 5, 107, 6, 1_572_865, 110]);
         assert!(area[10..].iter().copied().eq(110..122));
+    }
+
+    /// A routine becomes due, is entered, and returns; the state tells it.
+    #[test]
+    fn routines_in_a_state() {
+        let (mut state, mut area) = state_and_area();
+        let named = Some(Routine { number: 9, level: 4 });
+        assert_eq!(ask(&mut state, 2, READ, 0, Some(Routine { number: 9, level: 5 })), Err(1));
+        assert_eq!(ask(&mut state, 2, READ, 0, named), Ok(Some(2)));
+        assert_eq!(state.channels[0].units[2].named, RoutineState { rank: 5, routine: 9 });
+        freeze(&mut state).expect("a freeze");
+        report(&mut state, &mut area, 0, 2, 0, NO_LENGTH, &[1]).expect("a report");
+        assert_eq!(state.channels[0].units[2].named, RoutineState::default());
+        assert_eq!(state.channels[0].units[2].waiting, RoutineState { rank: 5, routine: 9 });
+        assert_eq!(running(&state), Ok(ProgramState::default()));
+        thaw(&mut state).expect("a thaw");
+        let program = ProgramState { rank: 5, channel: 0, unit: 2, routine: 9 };
+        assert_eq!(running(&state), Ok(program));
+        assert_eq!((state.programs.depth, state.channels[0].units[2].waiting.rank), (1, 0));
+        let back = ReturnAnswer { entered: false, runs: ProgramState::default() };
+        assert_eq!(give_back(&mut state), Ok(back));
+        assert_eq!(give_back(&mut state), Err(18));
     }
 
     /// Readings A24 and A26: 2 for a spoilt word that is summed or handed out, and nothing changes.

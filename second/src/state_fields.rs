@@ -1,8 +1,11 @@
 //! The fields of a state by number: how a script changes one, and how a state is printed.
 
 use crate::channel::{Operation, Position, Request, Turn, UNITS};
-use crate::pack::FILES;
-use crate::state::{Buffer, ChannelState, FileState, Slot, State, UnitState};
+use crate::pack::{CHANNELS, FILES};
+use crate::routine::DEEPEST;
+use crate::state::{
+    Buffer, ChannelState, FileState, ProgramState, ProgramsState, RoutineState, Slot, State, UnitState,
+};
 use crate::word::Fields;
 
 /// The fields of a file.
@@ -73,9 +76,29 @@ pub const ORDINARY_MARK: u64 = 0;
 pub const PRIORITY_MARK: u64 = 1;
 pub const CHANNEL_MARKS: u64 = 2;
 
-/// What ends the units of a channel, and what ends a printed state.
+/// The places of programs (M-110): what runs, then the push-down list from the bottom up.
+pub const RUNNING: u64 = 0;
+pub const PLACES: u64 = 1 + DEEPEST as u64;
+
+/// The fields of a program.
+pub const RANK: u64 = 0;
+pub const PROGRAM_CHANNEL: u64 = 1;
+pub const PROGRAM_UNIT: u64 = 2;
+pub const ROUTINE: u64 = 3;
+pub const PROGRAM_FIELDS: u64 = 4;
+
+/// What stands with a unit: the rank and the routine that its request names, and those that wait there.
+pub const NAMED_RANK: u64 = 0;
+pub const NAMED_ROUTINE: u64 = 1;
+pub const WAITING_RANK: u64 = 2;
+pub const WAITING_ROUTINE: u64 = 3;
+pub const POST_FIELDS: u64 = 4;
+
+/// What ends the units of a channel, the files, the programs, and a printed state.
 const NO_MORE_UNITS: u64 = UNITS as u64;
 const NO_MORE_FILES: u64 = FILES as u64;
+const NO_MORE_PLACES: u64 = PLACES;
+const NO_MORE_POSTS: u64 = CHANNELS as u64;
 
 /// Sets a field of a file. A number that the slot's kind has not is not set.
 pub fn set_file_field(file: &mut FileState, field: u64, value: u64) {
@@ -181,6 +204,30 @@ pub fn set_scan_mark(channel: &mut ChannelState, mark: u64, value: u64) {
     }
 }
 
+/// Sets a field of a program; the place is that of what runs or one of the list.
+pub fn set_program_field(programs: &mut ProgramsState, place: u64, field: u64, value: u64) {
+    let program = match place {
+        RUNNING => &mut programs.runs,
+        _ => &mut programs.list[place as usize - 1],
+    };
+    match field {
+        RANK => program.rank = value,
+        PROGRAM_CHANNEL => program.channel = value,
+        PROGRAM_UNIT => program.unit = value,
+        _ => program.routine = value,
+    }
+}
+
+/// Sets a field of what stands with a unit, whether it has a request or not.
+pub fn set_post_field(unit: &mut UnitState, field: u64, value: u64) {
+    match field {
+        NAMED_RANK => unit.named.rank = value,
+        NAMED_ROUTINE => unit.named.routine = value,
+        WAITING_RANK => unit.waiting.rank = value,
+        _ => unit.waiting.routine = value,
+    }
+}
+
 /// The fields of a file in their order; what a slot's kind has not is 0.
 pub fn file_fields(file: &FileState) -> Vec<u64> {
     let [opened, output, double] = [file.opened, file.output, file.double].map(u64::from);
@@ -235,6 +282,22 @@ pub fn scan_marks(channel: &ChannelState) -> [u64; 2] {
     [channel.mark, channel.priority_mark]
 }
 
+/// The fields of a program in their order.
+pub fn program_fields(program: &ProgramState) -> [u64; PROGRAM_FIELDS as usize] {
+    [program.rank, program.channel, program.unit, program.routine]
+}
+
+/// The programs of all places in their order.
+pub fn places(programs: &ProgramsState) -> impl Iterator<Item = &ProgramState> {
+    [&programs.runs].into_iter().chain(&programs.list)
+}
+
+/// What stands with a unit, in its order.
+pub fn post_fields(unit: &UnitState) -> [u64; POST_FIELDS as usize] {
+    let RoutineState { rank, routine } = unit.waiting;
+    [unit.named.rank, unit.named.routine, rank, routine]
+}
+
 /// A state as it is printed: what is all zero is left out.
 pub fn state_numbers(state: &State) -> Vec<u64> {
     let mut numbers = pool_fields(state).to_vec();
@@ -248,18 +311,49 @@ pub fn state_numbers(state: &State) -> Vec<u64> {
         }
     }
     numbers.push(NO_MORE_FILES);
+    numbers.extend(program_numbers(&state.programs));
+    numbers.extend(post_numbers(state));
     numbers
 }
 
 fn channel_numbers(channel: &ChannelState) -> Vec<u64> {
     let mut numbers = scan_marks(channel).to_vec();
     for (number, unit) in channel.units.iter().enumerate() {
-        if *unit != UnitState::default() {
+        let fields = unit_fields(unit);
+        if fields.iter().any(|&field| field != 0) {
             numbers.push(number as u64);
-            numbers.extend(unit_fields(unit));
+            numbers.extend(fields);
         }
     }
     numbers.push(NO_MORE_UNITS);
+    numbers
+}
+
+/// The depth, then each place that is not all zero.
+fn program_numbers(programs: &ProgramsState) -> Vec<u64> {
+    let mut numbers = vec![programs.depth];
+    for (place, program) in places(programs).enumerate() {
+        if *program != ProgramState::default() {
+            numbers.push(place as u64);
+            numbers.extend(program_fields(program));
+        }
+    }
+    numbers.push(NO_MORE_PLACES);
+    numbers
+}
+
+/// Each unit at which something is named or waits, with its channel and its number.
+fn post_numbers(state: &State) -> Vec<u64> {
+    let mut numbers = Vec::new();
+    for (channel, state) in state.channels.iter().enumerate() {
+        for (unit, post) in state.units.iter().map(post_fields).enumerate() {
+            if post != [0; POST_FIELDS as usize] {
+                numbers.extend([channel as u64, unit as u64]);
+                numbers.extend(post);
+            }
+        }
+    }
+    numbers.push(NO_MORE_POSTS);
     numbers
 }
 
@@ -362,7 +456,7 @@ mod tests {
         let mut state = State::default();
         let mut expected = vec![0; 4];
         expected.extend([0, 0, 10].repeat(5));
-        expected.push(16);
+        expected.extend([16, 0, 5, 5]);
         assert_eq!(state_numbers(&state), expected);
         set_pool_field(&mut state, BUFFERS, 3);
         set_pool_field(&mut state, WIDTH, 5);
@@ -377,7 +471,30 @@ mod tests {
         expected.extend([0, 0, 10, 0, 200, 10, 0, 0, 0, 0, 3, 0, 0, 0, 0, 0, 0, 0, 0, 10, 15]);
         expected.extend([0, 0, 0, 0, 0, 0, 0, 0, 0, 0, 2, 0]);
         expected.extend([0; 2 * BUFFER_FIELDS as usize]);
-        expected.push(16);
+        expected.extend([16, 0, 5, 5]);
+        assert_eq!(state_numbers(&state), expected);
+    }
+
+    /// Programs by their places and posts by their units; a place past the depth is printed too.
+    #[test]
+    fn programs_and_posts_as_they_are_printed() {
+        let mut state = State::default();
+        state.programs.depth = 200;
+        for (place, value) in [(0, 20), (2, 40), (4, 60)] {
+            for field in 0..PROGRAM_FIELDS {
+                set_program_field(&mut state.programs, place, field, value + field);
+            }
+        }
+        for (channel, unit, value) in [(0, 9, 70), (3, 0, 80)] {
+            for field in 0..POST_FIELDS {
+                set_post_field(&mut state.channels[channel].units[unit], field, value + field);
+            }
+        }
+        set_post_field(&mut state.channels[4].units[1], WAITING_ROUTINE, 1);
+        let mut expected = vec![0; 4];
+        expected.extend([0, 0, 10].repeat(5));
+        expected.extend([16, 200, 0, 20, 21, 22, 23, 2, 40, 41, 42, 43, 4, 60, 61, 62, 63, 5]);
+        expected.extend([0, 9, 70, 71, 72, 73, 3, 0, 80, 81, 82, 83, 4, 1, 0, 0, 0, 1, 5]);
         assert_eq!(state_numbers(&state), expected);
     }
 }

@@ -4,7 +4,10 @@
 use crate::channel::{Channel, UNITS};
 use crate::file::{Block, Direction, File, PartFilled};
 use crate::pack::Pack;
-use crate::state::{Buffer, ChannelState, FileState, Slot, State, UnitState};
+use crate::routine::{Entered, Program, Routine, Schedule};
+use crate::state::{
+    Buffer, ChannelState, FileState, ProgramState, ProgramsState, RoutineState, Slot, State, UnitState,
+};
 
 /// The pack of a sound state, with the area that the caller lends. It finds the free buffers from its
 /// files, as the mask of a sound state tells them.
@@ -15,6 +18,10 @@ pub fn pack_of(state: &State, area: &[u64]) -> Pack {
             let file = &state.files[number];
             file.opened.then(|| file_of(file))
         }),
+        schedule: Schedule {
+            runs: program_of(&state.programs.runs),
+            pushed: state.programs.pushed().iter().map(program_of).collect(),
+        },
         buffers: state.buffers as usize,
         width: state.width as usize,
         area: area.to_vec(),
@@ -31,13 +38,52 @@ pub fn state_of(pack: &Pack) -> State {
         free: pack.free_buffers().iter().fold(0, |mask, buffer| mask | 1 << buffer),
         channels: std::array::from_fn(|number| channel_state(&pack.channels[number])),
         files: std::array::from_fn(|number| pack.files[number].as_ref().map(file_state).unwrap_or_default()),
+        programs: ProgramsState {
+            runs: program_state(&pack.schedule.runs),
+            depth: pack.schedule.pushed.len() as u64,
+            list: std::array::from_fn(|place| {
+                pack.schedule.pushed.get(place).map(program_state).unwrap_or_default()
+            }),
+        },
     }
+}
+
+fn program_of(state: &ProgramState) -> Program {
+    let named = routine_of(&RoutineState { rank: state.rank, routine: state.routine });
+    named.map_or(Program::Main, |routine| {
+        Program::Special(Entered { channel: state.channel as usize, unit: state.unit as usize, routine })
+    })
+}
+
+fn program_state(program: &Program) -> ProgramState {
+    match program {
+        Program::Main => ProgramState::default(),
+        Program::Special(entered) => {
+            let RoutineState { rank, routine } = routine_state(Some(entered.routine));
+            ProgramState { rank, channel: entered.channel as u64, unit: entered.unit as u64, routine }
+        }
+    }
+}
+
+/// A rank is one above the priority.
+fn routine_of(state: &RoutineState) -> Option<Routine> {
+    let level = state.rank.checked_sub(1)?;
+    Some(Routine { number: state.routine, level })
+}
+
+fn routine_state(routine: Option<Routine>) -> RoutineState {
+    routine.map_or(RoutineState::default(), |routine| RoutineState {
+        rank: routine.level + 1,
+        routine: routine.number,
+    })
 }
 
 fn channel_of(state: &ChannelState, frozen: bool) -> Channel {
     Channel {
         declared: std::array::from_fn(|unit| state.units[unit].declared),
         requests: std::array::from_fn(|unit| state.units[unit].request.clone()),
+        named: std::array::from_fn(|unit| routine_of(&state.units[unit].named)),
+        waiting: std::array::from_fn(|unit| routine_of(&state.units[unit].waiting)),
         positions: std::array::from_fn(|unit| state.units[unit].position),
         scan_begin: state.mark as usize,
         priority_begin: state.priority_mark as usize,
@@ -50,6 +96,8 @@ fn channel_state(channel: &Channel) -> ChannelState {
         declared: channel.declared[unit],
         request: channel.requests[unit].clone(),
         position: channel.positions[unit],
+        named: routine_state(channel.named[unit]),
+        waiting: routine_state(channel.waiting[unit]),
     };
     let units: [UnitState; UNITS] = std::array::from_fn(unit_state);
     ChannelState { mark: channel.scan_begin as u64, priority_mark: channel.priority_begin as u64, units }

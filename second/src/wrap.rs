@@ -61,7 +61,7 @@ impl Generator {
         if unread || file.lowest_empty().is_none() {
             Frame::Get { file: 0 }
         } else {
-            Frame::Ask { file: 0, operation: Operation::Read.number(), priority: 0 }
+            Frame::Ask { file: 0, operation: Operation::Read.number(), priority: 0, names: None }
         }
     }
 
@@ -70,7 +70,7 @@ impl Generator {
             self.blocks_left = self.blocks_left.saturating_sub(1);
             Frame::Put { file: 0, words: vec![self.random_word()] }
         } else {
-            Frame::Ask { file: 0, operation: Operation::Write.number(), priority: 0 }
+            Frame::Ask { file: 0, operation: Operation::Write.number(), priority: 0, names: None }
         }
     }
 }

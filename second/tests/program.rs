@@ -136,7 +136,10 @@ fn pack_answers_its_script() {
     let script = run(&["pack-cases"]).stdout;
     let played = play_with(&command(&["pack"]), &script).expect("answers");
     assert!(played.ended_well);
-    let is_answered = |line: &&str| !(11..=17).contains(&line.split(' ').next().map_or(0, number));
+    let is_answered = |line: &&str| {
+        let kind = line.split(' ').next().map_or(0, number);
+        !(11..=17).contains(&kind) && !(24..=26).contains(&kind)
+    };
     let answered = String::from_utf8(script).expect("text").lines().filter(is_answered).count();
     assert_eq!(played.answers.iter().filter(|&&character| character == b'\n').count(), answered);
 }

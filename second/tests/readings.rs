@@ -275,7 +275,7 @@ fn a13_numbers_above_their_lists_are_1() {
     session.gives(&ask(0, READ, 1), "00 00");
     session.refuses(&report(0, 0, 5, &[]), "01");
     session.refuses(&report(0, 0, 255, &[]), "01");
-    for kind in 0x0B..=0xFF {
+    for kind in 0x0D..=0xFF {
         session.refuses(&format!("{kind:02X}"), "01");
     }
 }
@@ -370,7 +370,7 @@ fn b1_malformed_lines_are_1() {
         "0500\r",
         "0500\0",
         "\t",
-        "0B",
+        "0D",
         "0500FF",
         "05",
         "0600FF",

@@ -80,8 +80,8 @@ fn answers_to_pack_cases_are_stored() {
 /// The sessions of the pages, and the one that is stored with the program that plays them.
 #[test]
 fn answers_to_sessions_are_stored() {
-    let sessions =
-        ["first", "found", "kept", "late", "reel"].map(|name| (format!("docs/{name}.session"), format!("docs/{name}.answers")));
+    let sessions = ["first", "found", "kept", "late", "reel"]
+        .map(|name| (format!("docs/{name}.session"), format!("docs/{name}.answers")));
     let program = ("crates/play/stdin".to_string(), "crates/play/stdout".to_string());
     for (session, answers) in sessions.into_iter().chain([program]) {
         let given = String::from_utf8(answers_to(file(&session).as_bytes())).expect("digits");

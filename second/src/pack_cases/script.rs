@@ -4,11 +4,12 @@
 use crate::channel::UNITS;
 use crate::pack::{CHANNELS, FILES, NO_LENGTH};
 use crate::pack_player::{self as player, Player};
-use crate::state::State;
+use crate::state::{ProgramState, ProgramsState, RoutineState, State, UnitState};
 use crate::state_fields::{
-    file_fields, pool_fields, unit_fields, AT, ATTEMPTS, ERROR, FILE_FIELDS, FOUND_SUM, FREE, FULL,
-    INCOMPLETE, NOISE, NUMBER_READ, OPERATION, ORDINARY_MARK, PART_FILLED, POOL_FIELDS, PRIORITY,
-    PRIORITY_MARK, SLOT_KIND, SUM_READ, TURN_KIND, UNIT_FIELDS, WORDS,
+    file_fields, places, pool_fields, post_fields, program_fields, unit_fields, AT, ATTEMPTS, ERROR,
+    FILE_FIELDS, FOUND_SUM, FREE, FULL, INCOMPLETE, NOISE, NUMBER_READ, OPERATION, ORDINARY_MARK,
+    PART_FILLED, POOL_FIELDS, POST_FIELDS, PRIORITY, PRIORITY_MARK, PROGRAM_FIELDS, SLOT_KIND, SUM_READ,
+    TURN_KIND, UNIT_FIELDS, WORDS,
 };
 
 pub const READ: u64 = 0;
@@ -84,6 +85,26 @@ impl Script {
     /// An ordinary request.
     pub fn ask(&mut self, file: u64, operation: u64) {
         self.add(&[player::ASK, file, operation, 0]);
+    }
+
+    /// An ordinary request that names a routine and a priority.
+    pub fn ask_naming(&mut self, file: u64, operation: u64, routine: u64, level: u64) {
+        self.add(&[player::ASK_NAMING, file, operation, 0, 1, routine, level]);
+    }
+
+    /// The routine that runs returns.
+    pub fn give_back(&mut self) {
+        self.add(&[player::RETURN]);
+    }
+
+    /// What runs.
+    pub fn running(&mut self) {
+        self.add(&[player::RUNNING]);
+    }
+
+    /// A report of a channel without words.
+    pub fn report_on(&mut self, channel: u64, unit: u64, outcome: u64) {
+        self.add(&[player::REPORT, channel, unit, outcome, NO_LENGTH, 0]);
     }
 
     /// A report of channel 0 with words.
@@ -169,6 +190,63 @@ impl Script {
 
     pub fn pool(&mut self, field: u64, value: u64) {
         self.add(&[player::POOL, field, value]);
+    }
+
+    /// How many programs are on the push-down list, by hand.
+    pub fn depth(&mut self, depth: u64) {
+        self.add(&[player::DEPTH, depth]);
+    }
+
+    /// A field of a program; place 0 is what runs, then comes the list from the bottom up.
+    pub fn program(&mut self, place: u64, field: u64, value: u64) {
+        self.add(&[player::PROGRAM, place, field, value]);
+    }
+
+    /// A field of what stands with a unit.
+    pub fn post(&mut self, channel: u64, unit: u64, field: u64, value: u64) {
+        self.add(&[player::POST, channel, unit, field, value]);
+    }
+
+    /// The routine that a unit's request names, by its rank and number.
+    pub fn named(&mut self, channel: u64, unit: u64, rank: u64, routine: u64) {
+        let post = RoutineState { rank, routine };
+        self.set_post(channel, unit, |unit| unit.named = post);
+    }
+
+    /// The routine that waits at a unit.
+    pub fn waiting(&mut self, channel: u64, unit: u64, rank: u64, routine: u64) {
+        let post = RoutineState { rank, routine };
+        self.set_post(channel, unit, |unit| unit.waiting = post);
+    }
+
+    /// The changes that make what stands with a unit what is wanted.
+    fn set_post(&mut self, channel: u64, unit: u64, change: impl Fn(&mut UnitState)) {
+        let now = &self.player.state.channels[channel as usize].units[unit as usize];
+        let mut wanted = now.clone();
+        change(&mut wanted);
+        let (now, wanted) = (post_fields(now), post_fields(&wanted));
+        for field in 0..POST_FIELDS {
+            if now[field as usize] != wanted[field as usize] {
+                self.post(channel, unit, field, wanted[field as usize]);
+            }
+        }
+    }
+
+    /// The changes that make what runs and the list what they are to be.
+    pub fn set_programs(&mut self, target: &ProgramsState) {
+        if self.player.state.programs.depth != target.depth {
+            self.depth(target.depth);
+        }
+        let wanted: Vec<ProgramState> = places(target).copied().collect();
+        let now: Vec<ProgramState> = places(&self.player.state.programs).copied().collect();
+        for (place, (now, wanted)) in (0..).zip(now.iter().zip(&wanted)) {
+            for field in 0..PROGRAM_FIELDS {
+                let value = program_fields(wanted)[field as usize];
+                if program_fields(now)[field as usize] != value {
+                    self.program(place, field, value);
+                }
+            }
+        }
     }
 
     /// Sets the mask of the free buffers by hand.
@@ -265,6 +343,7 @@ impl Script {
                 }
             }
         }
+        self.set_programs(&target.programs);
     }
 
     fn set_channel(&mut self, target: &State, channel: usize) {
@@ -285,6 +364,10 @@ impl Script {
                     self.unit(channel as u64, unit as u64, field, value);
                 }
             }
+            let RoutineState { rank, routine } = wanted.units[unit].named;
+            self.named(channel as u64, unit as u64, rank, routine);
+            let RoutineState { rank, routine } = wanted.units[unit].waiting;
+            self.waiting(channel as u64, unit as u64, rank, routine);
         }
     }
 }

@@ -3,6 +3,7 @@
 
 use super::script::{Script, READ, WRITE};
 use crate::pack::{CHECK, DOUBLE, NO_LENGTH, OUTPUT, SEQUENCE};
+use crate::pack_player::{ASK_NAMING, RETURN, RUNNING};
 use crate::sound::{broken_clauses, is_sound, Clause};
 
 /// The files of the bench.
@@ -27,6 +28,23 @@ pub const CALLS: [&[u64]; 10] = [
     &[10],
 ];
 
+/// The same with the calls of special routines, for benches on which a routine runs.
+pub const ROUTINE_CALLS: [&[u64]; 13] = [
+    &[RETURN],
+    &[RUNNING],
+    &[ASK_NAMING, INPUT, READ, 0, 1, 70, 3],
+    CALLS[0],
+    CALLS[9],
+    CALLS[3],
+    CALLS[4],
+    CALLS[1],
+    CALLS[5],
+    CALLS[6],
+    CALLS[7],
+    CALLS[8],
+    CALLS[2],
+];
+
 /// A fresh start that every sound state accepts.
 pub const FRESH_START: &[u64] = &[0, 2, 3, 1, 0, 0, 0, 512];
 
@@ -39,6 +57,7 @@ const STARTED: usize = 6;
 /// A pack with a file of each sort, all of its calls open to it.
 pub struct Bench<'a> {
     pub script: &'a mut Script,
+    calls: &'static [&'static [u64]],
     /// The unsound states so far, and the sound ones.
     states: usize,
     sound_states: usize,
@@ -46,7 +65,12 @@ pub struct Bench<'a> {
 
 impl<'a> Bench<'a> {
     pub fn new(script: &'a mut Script) -> Bench<'a> {
-        Bench { script, states: 0, sound_states: 0 }
+        Bench { script, calls: &CALLS, states: 0, sound_states: 0 }
+    }
+
+    /// A bench that is met by the calls of special routines too.
+    pub fn with_routines(script: &'a mut Script) -> Bench<'a> {
+        Bench { calls: &ROUTINE_CALLS, ..Bench::new(script) }
     }
 
     /// Nine buffers of six words. File 0: double input with a block and check words. 1: double output, part-filled.
@@ -96,7 +120,7 @@ impl<'a> Bench<'a> {
         self.script.print_sound();
         self.script.add(FRESH_START);
         for step in 0..2 {
-            self.script.add(CALLS[(2 * self.states + step) % CALLS.len()]);
+            self.script.add(self.calls[(2 * self.states + step) % self.calls.len()]);
         }
         if self.states.is_multiple_of(PRINTED) {
             self.script.print_state();

@@ -13,7 +13,7 @@ use crate::sheet::MOST_LISTED;
 pub const MOST_FRAMES: usize = 400;
 
 /// The profiles of the sessions; requests wait for one another most often in `turns`.
-const PROFILES: [Profile; 10] = [
+const PROFILES: [Profile; 11] = [
     Profile::Mixed,
     Profile::Retries,
     Profile::Turns,
@@ -24,6 +24,7 @@ const PROFILES: [Profile; 10] = [
     Profile::Refusals,
     Profile::Kept,
     Profile::Reel,
+    Profile::Routines,
 ];
 
 /// Fresh starts that are refused: no buffers, too many of them, no words, too many of them in a buffer or in
