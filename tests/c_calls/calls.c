@@ -17,7 +17,7 @@
 #include <string.h>
 #include <sys/mman.h>
 
-enum { BEFORE = 64, FILLED = 0xA5, BLOCK_ROOM = 8192, FOUND_ROOM = 64, THREADS = 8, STACK = 1 << 20 };
+enum { BEFORE = 64, FILLED = 0xA5, BLOCK_ROOM = 16384, FOUND_ROOM = 4096, THREADS = 8, STACK = 1 << 20 };
 
 static void fail(const char *what) {
     fflush(stdout);
