@@ -127,7 +127,7 @@ fn run(arguments: &[String]) -> Result<ExitCode, String> {
         ["image", "say", ref images @ ..] => return say_images(images),
         ["calls"] => print(&answer_calls(&standard_input()?)?)?,
         ["calls-cases", seed, count] => print(&call_cases(number(seed)?, number(count)?))?,
-        ["help"] => print(HELP)?,
+        ["help" | "--help" | "-h"] => print(HELP)?,
         _ => return Err("what shall be done? See `second help`".to_string()),
     }
     Ok(ExitCode::SUCCESS)

@@ -77,13 +77,23 @@ fn answers_to_pack_cases_are_stored() {
     assert_same_lines(&stored("pack_cases", "stdout"), &answer_script(&script).expect("script"));
 }
 
+/// The names of the sessions of the pages.
+fn sessions() -> Vec<String> {
+    let folder = Path::new(env!("CARGO_MANIFEST_DIR")).join("../docs");
+    let files = fs::read_dir(&folder).expect("the pages").map(|entry| entry.expect("a file").file_name());
+    let names = files.filter_map(|name| name.to_str()?.strip_suffix(".session").map(str::to_string));
+    names.collect()
+}
+
 /// The sessions of the pages, and the one that is stored with the program that plays them.
 #[test]
 fn answers_to_sessions_are_stored() {
-    let sessions = ["first", "found", "kept", "late", "reel"]
-        .map(|name| (format!("docs/{name}.session"), format!("docs/{name}.answers")));
+    let sessions = sessions();
+    assert!(sessions.len() >= 5, "{sessions:?}");
+    let sessions =
+        sessions.iter().map(|name| (format!("docs/{name}.session"), format!("docs/{name}.answers")));
     let program = ("crates/play/stdin".to_string(), "crates/play/stdout".to_string());
-    for (session, answers) in sessions.into_iter().chain([program]) {
+    for (session, answers) in sessions.chain([program]) {
         let given = String::from_utf8(answers_to(file(&session).as_bytes())).expect("digits");
         assert_same_lines(&file(&answers), &given);
     }
