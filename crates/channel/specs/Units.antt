@@ -17,6 +17,10 @@ use Rattle.channel.specs.declared.Work.the-variants.{At, Nothing}
 abbrev pub unitCount : ℕ
 unitCount = 10
 
+-- "Channels 0 to 4"
+abbrev pub channelCount : ℕ
+channelCount = 5
+
 abbrev pub size : Channel → ℕ
 size c = length (c .units)
 

@@ -16,6 +16,9 @@ pub use units::with_unit;
 // How many units a channel has.
 pub const UNITS: usize = 10;
 
+// How many channels there are, the manual's A to E.
+pub const CHANNELS: usize = 5;
+
 pub enum Op {
     Read,
     Write,

@@ -4,3 +4,5 @@ pub mod Highest
 pub mod Schedule
 pub mod Kept
 pub mod Own
+pub mod Table
+pub mod Facts

@@ -1,4 +1,6 @@
+pub mod Changes
 pub mod Order
+pub mod Posts
 pub mod Ranks
 pub mod Right
 pub mod Schedule

@@ -2,3 +2,4 @@ pub mod Example
 pub mod History
 pub mod Lifted
 pub mod Machine
+pub mod Parts

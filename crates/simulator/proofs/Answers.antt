@@ -96,7 +96,12 @@ pub answer-short : (state frame answer : List ℕ) → isImage unitCount state �
 unfolding answerCall
 answer-short state frame answer e h = rw (e, lt-ltb (length answer) mostText h)
 
-units-all : unitCount ≤ unitCount
+pub answer-accepted : (state frame answer : List ℕ) → isImage unitCount state ≡ true → mostText ≤ length answer
+    → answerCall state frame answer ≡ answeredCall (answerTo (stateIn unitCount state) (areaIn unitCount state) frame) answer
+unfolding answerCall
+answer-accepted state frame answer e h = rw (e, le-ltb (length answer) mostText h)
+
+pub units-all : unitCount ≤ unitCount
 units-all = omega arith
 
 pub state-there : (state : List ℕ) → isImage unitCount state ≡ true → imageIn state .state ≡ stateIn unitCount state
@@ -126,8 +131,7 @@ module _ (state frame answer words : List ℕ) (good : isImage unitCount state �
       record { files = ap (λ (x : State). length (x .files)) is-state ∙ w .files; channels = ap (λ (x : State). length (x .channels)) is-state ∙ w .channels }
 
   call : answerCall state frame answer ≡ answeredCall reply answer
-  unfolding answerCall
-  call = rw (good, le-ltb (length answer) mostText space, is-state, is-area)
+  call = answer-accepted state frame answer good space ∙ rw (is-state, is-area)
 
   after-state : after .state ≡ reply .state
   unfolding IsAfter

@@ -1,2 +1,4 @@
 pub mod Answers
+pub mod Goods
 pub mod Signs
+pub mod Units

@@ -5,21 +5,19 @@ use mathlib.Core.List.{List}
 use lib.Dec.{ltb}
 use lib.ListN.{getD, replicate}
 use Rattle.channel.specs.declared.Channel.{Channel}
+pub use Rattle.channel.specs.Units.{channelCount}
 use Rattle.channel.specs.Units.{freshOf}
 use Rattle.file.specs.declared.File.{File}
 use Rattle.file.specs.Sizes.{closedFile}
 use Rattle.pool.specs.Free.{fileCount}
+use Rattle.routines.specs.Posts.{noRoutines}
 use Rattle.state.specs.declared.State.{State}
-
--- "Channels 0 to 4"
-abbrev pub channelCount : ℕ
-channelCount = 5
 
 -- a channel without declared units: what stands past the last channel
 abbrev pub noChannel : Channel
 noChannel = freshOf 0
 
--- "Before the first fresh start: no buffers (m and W are 0), no units"
+-- "Before the first fresh start: no buffers (m and W are 0), no units"; "the main program runs" (document 02, M-110)
 unfoldable pub beforeStart : State
 beforeStart = record {
   m = 0;
@@ -28,6 +26,7 @@ beforeStart = record {
   channels = replicate channelCount noChannel;
   files = replicate fileCount closedFile;
   free = 0;
+  routines = noRoutines;
 }
 
 -- the file and the channel of a number; past the last a closed file, and a channel without units

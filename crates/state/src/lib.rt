@@ -1,8 +1,9 @@
-// The whole state of a pack by value: the pool's two numbers, the freeze, five channels, sixteen files, and a bit for each free buffer. A file or a channel is looked up or
-// replaced. When a state is sound stands in `state_sound`. It knows nothing of what a call does.
+// The whole state of a pack by value: the pool's two numbers, the freeze, five channels, sixteen files, a bit for each free buffer, and the special routines. A file,
+// a channel or the routines are looked up or replaced. When a state is sound stands in `state_sound`. It knows nothing of what a call does.
 mod places;
 mod stores;
 
+pub use channel::CHANNELS;
 use channel::Channel;
 use file::File;
 pub use places::area_short;
@@ -11,13 +12,13 @@ pub use places::channel_at;
 pub use places::channel_in;
 pub use places::file_at;
 use pool::FILES;
+use routines::Routines;
 pub use stores::with_channel;
 pub use stores::with_file;
+pub use stores::with_routines;
 
-// How many channels there are, the manual's A to E.
-pub const CHANNELS: usize = 5;
-
-// A pool of m buffers of w words; whether starts are frozen; the channels with their units; the files; the free buffers, bit b for buffer b.
+// A pool of m buffers of w words; whether starts are frozen; the channels with their units; the files; the free buffers, bit b for buffer b;
+// what runs, and the routines that are named and that wait.
 pub struct State {
     pub m: u8,
     pub w: u16,
@@ -25,6 +26,7 @@ pub struct State {
     pub channels: [Channel; CHANNELS],
     pub files: [File; FILES],
     pub free: u32,
+    pub routines: Routines,
 }
 
 // The answer of a call that adds nothing to its refusal, 0 for none: and the state after it, which is the one passed if it is refused.

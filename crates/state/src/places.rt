@@ -6,15 +6,17 @@ use channel::fresh;
 use file::File;
 use file::closed_file;
 use pool::FILES;
+use routines::no_routines;
 ghost use mathlib.Core.Path.{_≡_};
 ghost use Rattle.state.specs.Places.{beforeStart, channelIn, fileAt, channelAt, areaShort};
 
-// The state before the first fresh start: no buffers, no units, no file open.
+// The state before the first fresh start: no buffers, no units, no file open; the main program runs.
 pub fn before_start() -> State
     ensures { λ r. ⌜ r ≡ beforeStart ⌝ }
 {
     let c = fresh(0);
     let f = closed_file();
+    let routines = no_routines();
     let channels = [c; CHANNELS];
     let files = [f; FILES];
     State {
@@ -24,6 +26,7 @@ pub fn before_start() -> State
         channels,
         files,
         free: 0,
+        routines,
     }
 }
 

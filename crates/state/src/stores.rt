@@ -5,8 +5,9 @@ use channel::Channel;
 use file::File;
 use pool::FILES;
 use pool::free_after;
+use routines::Routines;
 ghost use mathlib.Core.Path.{_≡_};
-ghost use Rattle.state.specs.Stores.{withFile, withChannel};
+ghost use Rattle.state.specs.Stores.{withFile, withChannel, withRoutines};
 
 // The state with another file in the place of that number, unchanged past the last. A file that is opened takes its buffers from the free ones,
 // one that is closed gives them back.
@@ -33,5 +34,14 @@ pub fn with_channel(s: State, c: usize, x: Channel) -> State
     }
     let mut t = s;
     t.channels[c] = x;
+    t
+}
+
+// The state with other routines.
+pub fn with_routines(s: State, r: Routines) -> State
+    ensures { λ t. ⌜ t ≡ withRoutines s r ⌝ }
+{
+    let mut t = s;
+    t.routines = r;
     t
 }

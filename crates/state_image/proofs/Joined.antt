@@ -22,6 +22,7 @@ use Rattle.codec.proofs.Codecs.{each-length, first-length}
 use Rattle.codec.proofs.Loops.{put-fits, put-then}
 use Rattle.state_image.specs.Units.{channelOnes, channelTwos, channelHead, channelRow, channelFrom, unitsCodec, channelCodec}
 use Rattle.state_image.specs.Files.{bufferBytes, bufferSize, bufferCodec, fileOnes, fileTwos, fileHead, fileSize, fileRow, fileFrom, fileCodec, filesCodec}
+use Rattle.state_image.specs.Routines.{routinesCodec}
 use Rattle.state_image.specs.Images.{stateHead, stateRow, channelsCodec, stateSize, stateCodec, wordsCodec, imageWords, imageSize, imageOf, stateIn, isImage, imageIn, imageFits}
 use Rattle.state_image.specs.declared.Image.{Image}
 use Rattle.state_image.proofs.Keeps.{channels-sized, files-keep, state-sized}
@@ -63,21 +64,29 @@ channel-put n at c xs o p room e g =
     let one : o ≡ paste at (channelRow c) xs = put-fits at (channelRow c) xs o (omega arith) e in
     put-then at channelHead (at + channelHead) (channelRow c) (unitsCodec n .write (c .units)) xs o p refl refl (omega arith) one g
 
--- ---- a state: its own numbers, the channels and the files
+-- ---- a state: its own numbers, the channels, the files and the routines
 
-pub state-put : (n : ℕ) (s : State) (xs o p q : List ℕ) → stateSize n ≤ length xs → o ≡ pastedIn 0 (stateRow s) xs
+pub state-put : (n : ℕ) (s : State) (xs o p q r : List ℕ) → stateSize n ≤ length xs → o ≡ pastedIn 0 (stateRow s) xs
     → p ≡ paste stateHead (channelsCodec n .write (s .channels)) o → q ≡ paste (stateHead + channelsCodec n .size) (filesCodec .write (s .files)) p
-    → q ≡ paste 0 (stateCodec n .write s) xs
-state-put n s xs o p q room e g h =
+    → r ≡ paste (stateHead + (channelsCodec n .size + filesCodec .size)) (routinesCodec n .write (s .routines)) q
+    → r ≡ paste 0 (stateCodec n .write s) xs
+state-put n s xs o p q r room e g h k =
     let cs = channelsCodec n .write (s .channels) in
     let fs = filesCodec .write (s .files) in
+    let rs = routinesCodec n .write (s .routines) in
     let long : length cs ≡ channelsCodec n .size = channels-sized n (s .channels) in
     let one : o ≡ paste 0 (stateRow s) xs = put-fits 0 (stateRow s) xs o (omega arith) e in
     let two : p ≡ paste 0 (stateRow s ++ cs) xs = put-then 0 stateHead stateHead (stateRow s) cs xs o p refl refl (omega arith) one g in
     let far : length (stateRow s ++ cs) ≡ stateHead + channelsCodec n .size = length-append (stateRow s) cs ∙ rw long in
     let z : stateHead + channelsCodec n .size ≡ 0 + (stateHead + channelsCodec n .size) = omega arith in
-    put-then 0 (stateHead + channelsCodec n .size) (stateHead + channelsCodec n .size) (stateRow s ++ cs) fs xs p q z far (omega arith) two h
-    ∙ ap (λ (l : List ℕ). paste 0 l xs) (append-assoc (stateRow s) cs fs)
+    let three : q ≡ paste 0 ((stateRow s ++ cs) ++ fs) xs =
+    put-then 0 (stateHead + channelsCodec n .size) (stateHead + channelsCodec n .size) (stateRow s ++ cs) fs xs p q z far (omega arith) two h in
+    let end = stateHead + (channelsCodec n .size + filesCodec .size) in
+    let farther : length ((stateRow s ++ cs) ++ fs) ≡ end =
+    length-append (stateRow s ++ cs) fs ∙ (let y : length (stateRow s ++ cs) + length fs ≡ end = omega (arith, far, files-keep .sized (s .files)) in y) in
+    let y : end ≡ 0 + end = omega arith in
+    put-then 0 end end ((stateRow s ++ cs) ++ fs) rs xs q r y farther (omega arith) three k
+    ∙ ap (λ (l : List ℕ). paste 0 l xs) (append-assoc (stateRow s ++ cs) fs rs ∙ append-assoc (stateRow s) cs (fs ++ rs))
 
 -- ---- an image: a state and its words
 

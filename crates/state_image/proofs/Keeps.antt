@@ -1,6 +1,6 @@
 -- The codecs of an image keep what they write: of a unit, a buffer and a file all, of a channel of n units those whose units from n on are blank, of a state
 -- the whole ones with a right free mask. Assumes nothing.
-use mathlib.Core.Path.{_≡_, refl, sym, ap, _∙_}
+use mathlib.Core.Path.{_≡_, refl, sym, ap, ap₂, _∙_}
 use mathlib.Core.Bool.{Bool, true, false}
 use mathlib.Core.List.{List, [], _∷_, _++_, append-assoc}
 use Prim.Native.Nat.{ℕ, _+_, _*_, _-_, _/_, _%_, _≤_}
@@ -21,6 +21,7 @@ use Rattle.file.specs.declared.Buffer.{Buffer}
 use Rattle.file.specs.declared.File.{File}
 use Rattle.file.specs.Slots.{slotKind, fullPlace, fullArrival}
 use Rattle.file.specs.Sizes.{closedFile}
+use Rattle.routines.specs.declared.Routines.{Routines}
 use Rattle.pool.specs.Free.{fileCount}
 use Rattle.codec.specs.declared.Row.{Row}
 use Rattle.pool.specs.Masks.{freeMask}
@@ -32,6 +33,8 @@ use Rattle.codec.proofs.Codecs.{any, all-any, padded-keeps, each-length, first-
 use Rattle.codec.proofs.Numbers.{flag-back, two-back, word-keeps}
 use Rattle.state_image.specs.Units.{turnByte, requestIn, turnOf, opByte, opOf, unitOnes, unitTwos, unitRow, unitBytes, requestFrom, unitWith, unitCodec, unitsCodec, channelRow, channelCodec}
 use Rattle.state_image.specs.Files.{slotWords, bufferOnes, bufferTwos, bufferRow, bufferBytes, fullFrom, slotOf, bufferFrom, bufferCodec, fileOnes, fileTwos, fileRow, fileFrom, fileCodec, filesCodec}
+use Rattle.state_image.specs.Routines.{routinesCodec}
+use Rattle.state_image.proofs.Posts.{HasPosts, routines-sized, routines-keep}
 use Rattle.state_image.specs.Images.{UnitsTo, Whole, stateOnes, stateTwos, stateHead, stateRow, stateWith, stateFrom, channelsCodec, stateSize, stateCodec, imageWords, wordsCodec}
 
 -- ---- a unit
@@ -122,7 +125,10 @@ pub state-sized : (n : ℕ) (s : State) → length (stateCodec n .write s) ≡ s
 state-sized n s =
     let cs = channelsCodec n .write (s .channels) in
     let fs = filesCodec .write (s .files) in
-    length-append (stateRow s) (cs ++ fs) ∙ ap (λ (k : ℕ). stateHead + k) (length-append cs fs ∙ rw (channels-sized n (s .channels), files-keep .sized (s .files)))
+    let rs = routinesCodec n .write (s .routines) in
+    length-append (stateRow s) (cs ++ (fs ++ rs))
+    ∙ ap (λ (k : ℕ). stateHead + k)
+    (length-append cs (fs ++ rs) ∙ ap₂ _+_ (channels-sized n (s .channels)) (length-append fs rs ∙ ap₂ _+_ (files-keep .sized (s .files)) (routines-sized n (s .routines))))
 
 -- the states that are read back
 abbrev pub Kept : ℕ → State → Type 0
@@ -139,30 +145,62 @@ whole-files n s w =
     let far : length (s .files) ≤ fileCount = omega (arith, w .files) in
     record { long = omega (arith, w .files); each = all-any (take fileCount (s .files)); rest = drop-of-length-le (s .files) far }
 
-own-state-back : (s : State) (rest : List ℕ) → stateWith (rowOf stateOnes stateTwos (stateRow s ++ rest)) (s .channels) (s .files) (s .free) ≡ s
+whole-routines : (n : ℕ) (s : State) → Whole n s → HasPosts n (s .routines)
+whole-routines n s w = record { pushed = w .pushed; posts = w .posts; units = w .unitPosts }
+
+own-state-back : (s : State) (rest : List ℕ) → stateWith (rowOf stateOnes stateTwos (stateRow s ++ rest)) (s .channels) (s .files) (s .free) (s .routines) ≡ s
 own-state-back s rest = simp (flag-back, two-back)
 
+module _ (n : ℕ) (h : n ≤ unitCount) (s : State) (rest : List ℕ) (g : Kept n s) where
+  abbrev cs : List ℕ
+  cs = channelsCodec n .write (s .channels)
+
+  abbrev fs : List ℕ
+  fs = filesCodec .write (s .files)
+
+  abbrev rs : List ℕ
+  rs = routinesCodec n .write (s .routines)
+
+  abbrev there : List ℕ
+  there = stateCodec n .write s ++ rest
+
+  pieces : (cs ++ (fs ++ rs)) ++ rest ≡ cs ++ (fs ++ (rs ++ rest))
+  pieces = append-assoc cs (fs ++ rs) rest ∙ ap (λ (l : List ℕ). cs ++ l) (append-assoc fs rs rest)
+
+  channels-there : channelsCodec n .read (drop stateHead there) ≡ s .channels
+  channels-there =
+      ap (channelsCodec n .read) pieces
+      ∙ padded-keeps (channelCodec n) (UnitsTo n) (channel-keeps n h) noChannel channelCount channelCount .back (s .channels) (fs ++ (rs ++ rest)) (whole-channels n s (g .0))
+
+  after-channels : drop (stateHead + channelsCodec n .size) there ≡ fs ++ (rs ++ rest)
+  after-channels =
+      sym (drop-drop (channelsCodec n .size) stateHead there)
+      ∙ ap (drop (channelsCodec n .size)) pieces ∙ drop-at cs (fs ++ (rs ++ rest)) (channelsCodec n .size) (channels-sized n (s .channels))
+
+  files-there : filesCodec .read (drop (stateHead + channelsCodec n .size) there) ≡ s .files
+  files-there = ap (filesCodec .read) after-channels ∙ files-keep .back (s .files) (rs ++ rest) (whole-files n s (g .0))
+
+  after-files : drop (stateHead + (channelsCodec n .size + filesCodec .size)) there ≡ rs ++ rest
+  after-files =
+      let z : stateHead + (channelsCodec n .size + filesCodec .size) ≡ stateHead + channelsCodec n .size + filesCodec .size = omega arith in
+      ap (λ (k : ℕ). drop k there) z ∙ sym (drop-drop (filesCodec .size) (stateHead + channelsCodec n .size) there)
+      ∙ ap (drop (filesCodec .size)) after-channels ∙ drop-at fs (rs ++ rest) (filesCodec .size) (files-keep .sized (s .files))
+
+  routines-read : routinesCodec n .read (drop (stateHead + (channelsCodec n .size + filesCodec .size)) there) ≡ s .routines
+  routines-read = ap (routinesCodec n .read) after-files ∙ routines-keep n h .back (s .routines) rest (whole-routines n s (g .0))
+
+  kept-back : stateCodec n .read there ≡ s
+  kept-back =
+      let r = rowOf stateOnes stateTwos there in
+      ap (λ (x : List Channel).
+      stateFrom r x (filesCodec .read (drop (stateHead + channelsCodec n .size) there)) (routinesCodec n .read (drop (stateHead + (channelsCodec n .size + filesCodec .size)) there)))
+      channels-there
+      ∙ ap₂ (λ (x : List File) (y : Routines). stateFrom r (s .channels) x y) files-there routines-read
+      ∙ ap (λ (k : ℕ). stateWith r (s .channels) (s .files) k (s .routines)) (sym (g .1))
+      ∙ own-state-back s ((cs ++ (fs ++ rs)) ++ rest)
+
 pub state-keeps : (n : ℕ) → n ≤ unitCount → Keeps (stateCodec n) (Kept n)
-state-keeps n h = record {
-  sized = state-sized n;
-  back = λ s rest g.
-      let cs = channelsCodec n .write (s .channels) in
-      let fs = filesCodec .write (s .files) in
-      let r = rowOf stateOnes stateTwos (stateRow s ++ ((cs ++ fs) ++ rest)) in
-      let apart : (cs ++ fs) ++ rest ≡ cs ++ (fs ++ rest) = append-assoc cs fs rest in
-      let channels : channelsCodec n .read ((cs ++ fs) ++ rest) ≡ s .channels =
-      ap (channelsCodec n .read) apart
-      ∙ padded-keeps (channelCodec n) (UnitsTo n) (channel-keeps n h) noChannel channelCount channelCount .back (s .channels) (fs ++ rest) (whole-channels n s (g .0)) in
-      let after : drop (stateHead + channelsCodec n .size) (stateRow s ++ ((cs ++ fs) ++ rest)) ≡ fs ++ rest =
-      sym (drop-drop (channelsCodec n .size) stateHead (stateRow s ++ ((cs ++ fs) ++ rest)))
-      ∙ ap (drop (channelsCodec n .size)) apart ∙ drop-at cs (fs ++ rest) (channelsCodec n .size) (channels-sized n (s .channels)) in
-      let files : filesCodec .read (drop (stateHead + channelsCodec n .size) (stateRow s ++ ((cs ++ fs) ++ rest))) ≡ s .files =
-      ap (filesCodec .read) after ∙ files-keep .back (s .files) rest (whole-files n s (g .0)) in
-      ap (λ (x : List Channel). stateFrom r x (filesCodec .read (drop (stateHead + channelsCodec n .size) (stateRow s ++ ((cs ++ fs) ++ rest))))) channels
-      ∙ ap (stateFrom r (s .channels)) files
-      ∙ ap (stateWith r (s .channels) (s .files)) (sym (g .1))
-      ∙ own-state-back s ((cs ++ fs) ++ rest);
-}
+state-keeps n h = record { sized = state-sized n; back = λ s rest g. kept-back n h s rest g }
 
 -- ---- the words of an area
 

@@ -1,3 +1,4 @@
+pub mod Posts
 pub mod Tags
 pub mod Keeps
 pub mod Joined

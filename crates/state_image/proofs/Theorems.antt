@@ -26,7 +26,10 @@ use Rattle.codec.proofs.Codecs.{any, all-any, same-self, same-is, padded-keeps,
 use Rattle.codec.proofs.Numbers.{word-keeps, words-tight}
 use Rattle.state_image.specs.Units.{channelCodec, unitsCodec, channelHead, unitCodec}
 use Rattle.state_image.specs.Files.{fileCodec, filesCodec}
-use Rattle.state_image.specs.Images.{stateHead, channelsCodec, stateSize, stateCodec, imageWords, wordsCodec, imageSize, imageOf, stateIn, areaIn, isImage, UnitsTo, Whole, AreBytes}
+use Rattle.routines.specs.Ranks.{depth, mainProgram}
+use Rattle.routines.specs.Posts.{emptyPost}
+use Rattle.state_image.specs.Routines.{programSize, programCodec, programsSize, postCodec, postsCodec, emptyPosts}
+use Rattle.state_image.specs.Images.{stateHead, channelsCodec, stateSize, stateCodec, imageWords, wordsCodec, imageSize, imageOf, stateIn, areaIn, isImage, UnitsTo, PostsTo, Whole, AreBytes}
 use Rattle.state_image.proofs.Keeps.{state-sized, words-sized, state-keeps}
 
 -- ---- sizes
@@ -121,15 +124,22 @@ module _ (n : ℕ) (h : n ≤ unitCount) where
   units-read bs =
       (padded-length unitCodec (idleUnit false) unitCount n h (drop channelHead bs), padded-rest unitCodec (idleUnit false) unitCount n h (drop channelHead bs))
 
+  posts-read : (bs : List ℕ) → PostsTo n (postsCodec n .read bs)
+  posts-read bs = (padded-length postCodec emptyPost unitCount n h bs, padded-rest postCodec emptyPost unitCount n h bs)
+
   pub whole-read : (bs : List ℕ) → Whole n (stateIn n bs)
   unfolding stateIn
   whole-read bs =
       let cs = drop stateHead bs in
       let fs = drop (stateHead + channelsCodec n .size) bs in
+      let rs = drop (stateHead + (channelsCodec n .size + filesCodec .size)) bs in
       record {
         channels = padded-length (channelCodec n) noChannel channelCount channelCount (omega arith) cs;
         units = rw (read-whole (channelCodec n) noChannel channelCount cs) (read-each (channelCodec n) (UnitsTo n) units-read channelCount cs);
         files = padded-length fileCodec closedFile fileCount fileCount (omega arith) fs;
+        pushed = padded-length programCodec mainProgram depth depth (omega arith) (drop (1 + programSize) rs);
+        posts = padded-length (postsCodec n) emptyPosts channelCount channelCount (omega arith) (drop programsSize rs);
+        unitPosts = rw (read-whole (postsCodec n) emptyPosts channelCount (drop programsSize rs)) (read-each (postsCodec n) (PostsTo n) posts-read channelCount (drop programsSize rs));
       }
 
   pub area-read : (bs : List ℕ) → length (areaIn n bs) ≡ imageWords

@@ -9,6 +9,10 @@ use lib.ListN.{length, getD, take, drop, replicate}
 use Rattle.channel.specs.declared.Channel.{Channel}
 use Rattle.channel.specs.Units.{unitCount, idleUnit}
 use Rattle.file.specs.declared.File.{File}
+use Rattle.routines.specs.declared.Posts.{Posts}
+use Rattle.routines.specs.declared.Routines.{Routines}
+use Rattle.routines.specs.Ranks.{depth}
+use Rattle.routines.specs.Posts.{emptyPost}
 use Rattle.pool.specs.Free.{fileCount}
 use Rattle.pool.specs.Masks.{freeMask}
 use Rattle.state.specs.declared.State.{State}
@@ -19,9 +23,10 @@ use Rattle.codec.specs.Codecs.{Codec, padded, All, same}
 use Rattle.codec.specs.Rows.{rowOf, rowSize, twoBytes, wordCodec}
 use Rattle.state_image.specs.Units.{unitsCodec, channelCodec}
 use Rattle.state_image.specs.Files.{filesCodec}
+use Rattle.state_image.specs.Routines.{routinesCodec}
 use Rattle.state_image.specs.declared.Image.{Image}
 
--- ---- a state: its own numbers, the channels, the files. The free mask follows from the files and has no bytes.
+-- ---- a state: its own numbers, the channels, the files, the routines. The free mask follows from the files and has no bytes.
 
 abbrev pub stateOnes : ℕ
 stateOnes = 2
@@ -42,31 +47,33 @@ stateRow s =
     ∷ twoBytes (s .w)
     []
 
-abbrev pub stateWith : Row → List Channel → List File → ℕ → State
-stateWith r channels files free = record {
+abbrev pub stateWith : Row → List Channel → List File → ℕ → Routines → State
+stateWith r channels files free routines = record {
   m = getD (r .ones) 0 0;
   w = getD (r .twos) 0 0;
   frozen = eqb (getD (r .ones) 1 0) 1;
   channels = channels;
   files = files;
   free = free;
+  routines = routines;
 }
 
-abbrev pub stateFrom : Row → List Channel → List File → State
-stateFrom r channels files = stateWith r channels files (freeMask (getD (r .ones) 0 0) files)
+abbrev pub stateFrom : Row → List Channel → List File → Routines → State
+stateFrom r channels files routines = stateWith r channels files (freeMask (getD (r .ones) 0 0) files) routines
 
 abbrev pub channelsCodec : ℕ → Codec (List Channel)
 channelsCodec n = padded (channelCodec n) noChannel channelCount channelCount
 
 abbrev pub stateSize : ℕ → ℕ
-stateSize n = stateHead + (channelsCodec n .size + filesCodec .size)
+stateSize n = stateHead + (channelsCodec n .size + (filesCodec .size + routinesCodec n .size))
 
 abbrev pub stateCodec : ℕ → Codec State
 stateCodec n = record {
   size = stateSize n;
-  write = λ s. stateRow s ++ (channelsCodec n .write (s .channels) ++ filesCodec .write (s .files));
+  write = λ s. stateRow s ++ (channelsCodec n .write (s .channels) ++ (filesCodec .write (s .files) ++ routinesCodec n .write (s .routines)));
   read = λ bs.
-      stateFrom (rowOf stateOnes stateTwos bs) (channelsCodec n .read (drop stateHead bs)) (filesCodec .read (drop (stateHead + channelsCodec n .size) bs));
+      stateFrom (rowOf stateOnes stateTwos bs) (channelsCodec n .read (drop stateHead bs)) (filesCodec .read (drop (stateHead + channelsCodec n .size) bs))
+      (routinesCodec n .read (drop (stateHead + (channelsCodec n .size + filesCodec .size)) bs));
 }
 
 -- ---- the image: a state, then the words of its area, eight bytes each, lowest first, of any value
@@ -108,14 +115,21 @@ imageFits bytes area = eqb (length bytes) (imageSize unitCount) && eqb (length a
 
 -- ---- what the statements are about
 
--- a state as the code has it: five channels of ten units, of which those from n on are not declared, and sixteen files
+-- a state as the code has it: five channels of ten units, of which those from n on are not declared, sixteen files, a push-down list of four places, and a post
+-- for each unit, empty from n on
 abbrev pub UnitsTo : ℕ → Channel → Type 0
 UnitsTo n c = (length (c .units) ≡ unitCount) × (drop n (c .units) ≡ replicate (unitCount - n) (idleUnit false))
+
+abbrev pub PostsTo : ℕ → Posts → Type 0
+PostsTo n p = (length (p .units) ≡ unitCount) × (drop n (p .units) ≡ replicate (unitCount - n) emptyPost)
 
 pub record Whole (n : ℕ) (s : State) : Type 0 where
   pub channels : length (s .channels) ≡ channelCount
   pub units : All (UnitsTo n) (s .channels)
   pub files : length (s .files) ≡ fileCount
+  pub pushed : length (s .routines .programs .pushed) ≡ depth
+  pub posts : length (s .routines .posts) ≡ channelCount
+  pub unitPosts : All (PostsTo n) (s .routines .posts)
 
 -- every number of a list is a byte
 abbrev pub AreBytes : List ℕ → Type 0

@@ -1,3 +1,4 @@
 pub mod Units
 pub mod Files
+pub mod Routines
 pub mod Images

@@ -40,7 +40,7 @@ const OWN: usize = OWN_ONES + 2 * OWN_TWOS + 4 * OWN_FOURS;
 const FILE: usize = OWN + (BUFFER + BUFFER);
 
 // The bytes of all files.
-pub const ALL: usize = FILES * FILE;
+pub const FILE_BYTES: usize = FILES * FILE;
 
 fn slot_kind(x: Slot) -> u8
     ensures { λ r. ⌜ r ≡ slotKind x ⌝ }

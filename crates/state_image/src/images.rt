@@ -1,8 +1,11 @@
 // A whole state and its area as an image.
 use crate::Image;
-use crate::files::ALL;
+use crate::files::FILE_BYTES;
 use crate::files::files_at;
 use crate::files::put_files;
+use crate::programs::ROUTINE_BYTES;
+use crate::programs::put_routines;
+use crate::programs::routines_at;
 use crate::units::CHANNEL;
 use crate::units::channels_at;
 use crate::units::put_channels;
@@ -19,6 +22,7 @@ use codec::row_at;
 use file::File;
 use pool::FILES;
 use pool::free_mask;
+use routines::Routines;
 use state::CHANNELS;
 use state::State;
 use state::before_start;
@@ -43,7 +47,7 @@ const FOURS: usize = 0;
 const OWN: usize = ONES + 2 * TWOS + 4 * FOURS;
 
 // The bytes of a state, and of its image with the area.
-const STATE: usize = OWN + (CHANNELS * CHANNEL + ALL);
+const STATE: usize = OWN + (CHANNELS * CHANNEL + (FILE_BYTES + ROUTINE_BYTES));
 
 pub const IMAGE: usize = STATE + ALL_WORDS;
 
@@ -54,8 +58,14 @@ fn state_row(s: State) -> [u8; OWN]
     [s.m, s.frozen as u8, (s.w % 256) as u8, (s.w / 256) as u8]
 }
 
-fn state_with(r: Row, channels: [Channel; CHANNELS], files: [File; FILES], free: u32) -> State
-    ensures { λ x. ⌜ x ≡ stateWith r channels files free ⌝ }
+fn state_with(
+    r: Row,
+    channels: [Channel; CHANNELS],
+    files: [File; FILES],
+    free: u32,
+    routines: Routines,
+) -> State
+    ensures { λ x. ⌜ x ≡ stateWith r channels files free routines ⌝ }
 {
     State {
         m: r.ones[0],
@@ -64,6 +74,7 @@ fn state_with(r: Row, channels: [Channel; CHANNELS], files: [File; FILES], free:
         channels,
         files,
         free,
+        routines,
     }
 }
 
@@ -74,6 +85,7 @@ fn put_state(out: &mut [u8], s: State, n: usize)
 {
     let channels = s.channels;
     let files = s.files;
+    let routines = s.routines;
     let own = state_row(s);
     put_bytes(out, 0, &own);
     put_channels(out, OWN, channels, n);
@@ -81,6 +93,12 @@ fn put_state(out: &mut [u8], s: State, n: usize)
         out,
         OWN + CHANNELS * (crate::units::OWN + n * crate::units::UNIT),
         files,
+    );
+    put_routines(
+        out,
+        OWN + (CHANNELS * (crate::units::OWN + n * crate::units::UNIT) + FILE_BYTES),
+        routines,
+        n,
     );
 }
 
@@ -95,8 +113,13 @@ fn state_at(b: &[u8], n: usize) -> State
         b,
         OWN + CHANNELS * (crate::units::OWN + n * crate::units::UNIT),
     );
+    let routines = routines_at(
+        b,
+        OWN + (CHANNELS * (crate::units::OWN + n * crate::units::UNIT) + FILE_BYTES),
+        n,
+    );
     let free = free_mask(r.ones[0], files);
-    state_with(r, channels, files, free)
+    state_with(r, channels, files, free, routines)
 }
 
 // Whether the state's bytes are these.

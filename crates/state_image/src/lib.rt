@@ -3,6 +3,7 @@
 // It knows nothing of calls.
 mod files;
 mod images;
+mod programs;
 mod units;
 mod words;
 

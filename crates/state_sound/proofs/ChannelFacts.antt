@@ -20,8 +20,9 @@ use Rattle.channel.specs.declared.Turn.{Turn}
 use Rattle.channel.specs.declared.Turn.the-variants.{Idle, Waiting, Displaced, Working}
 use Rattle.channel.specs.declared.Unit.{Unit}
 use Rattle.channel.specs.declared.Channel.{Channel}
+use Rattle.channel.specs.declared.Work.{Work}
 use Rattle.channel_outcomes.specs.Rules.{rowOf}
-use Rattle.channel.specs.Units.{size, atStart, idleUnit, unitAt, declaredAt, turnAt, positionAt, freshWith, bitsFrom, freshOf, isIdle, isWorking, unitWorks}
+use Rattle.channel.specs.Units.{size, atStart, idleUnit, unitAt, declaredAt, turnAt, positionAt, freshWith, bitsFrom, freshOf, isIdle, hasRequest, isWorking, unitWorks}
 use Rattle.channel_turns.specs.Scans.{beginOf, workingIn, Scanned, finds, misses}
 use Rattle.channel_theorems.proofs.Theorems.Turning.{held, markAs, working-scan}
 use Rattle.channel_theorems.proofs.Theorems.Starts.{works-found}
@@ -83,6 +84,14 @@ none-idle Idle = refl
 none-idle (Waiting q) = refl
 none-idle (Displaced q) = refl
 none-idle (Working q) = refl
+
+-- a unit has a request if something is requested of it
+pub request-none : (c : Channel) (u : ℕ) → hasRequest c u ≡ not (isNone (requested (turnAt c u)))
+unfolding hasRequest
+request-none c u = ap not (sym (none-idle (turnAt c u)))
+
+pub request-alike : (c d : Channel) (u : ℕ) → requested (turnAt c u) ≡ requested (turnAt d u) → hasRequest c u ≡ hasRequest d u
+request-alike c d u e = request-none c u ∙ ap (λ (w : Work). not (isNone w)) e ∙ sym (request-none d u)
 
 busy-turn : (t : Turn) → isIdle t ≡ false → isWorking t ≡ false → isWaiting t ≡ true
 busy-turn Idle i w = true-not-false refl i

@@ -35,8 +35,10 @@ use Rattle.state_sound.proofs.FileFacts as file
 use Rattle.state.specs.declared.State.{State}
 use Rattle.state.specs.Places.{noChannel, fileAt, channelIn, channelAt}
 use Rattle.state_sound.specs.Requests.{requested, isNone, isRead, isWrite, fitsOutput}
-use Rattle.state_sound.specs.Soundness.{ifOpen, channelOf, requestOf, fileInRange, turnInRange, positionRight, unitInRange, marksRight, channelInRange, numbersInRange, buffersApart, noBufferHeldTwice, hasItsOwn, unitsApart, eachHasItsOwn, unitFits, channelFits, requestsFit, worksRight, channelsWork, takenByRead, readsAloneTake, writeHasBlock, writesHaveBlocks, fullBlocksRight, partBuffersRight, placesRight, inLimit, turnInLimit, channelInLimit, attemptsInLimit, freeMaskRight, sound}
+use Rattle.state_sound.specs.Soundness.{ifOpen, channelOf, requestOf, fileInRange, turnInRange, positionRight, unitInRange, marksRight, channelInRange, numbersInRange, buffersApart, noBufferHeldTwice, hasItsOwn, unitsApart, eachHasItsOwn, unitFits, channelFits, requestsFit, worksRight, channelsWork, takenByRead, readsAloneTake, writeHasBlock, writesHaveBlocks, fullBlocksRight, partBuffersRight, placesRight, inLimit, turnInLimit, channelInLimit, attemptsInLimit, freeMaskRight, routinesRight, sound}
 use Rattle.state_sound.specs.Judged.{fileReady, fileFits, turnRight, unitRight, unitServed, channelRight, judgedState}
+use Rattle.routines.proofs.Laws.Facts.{RoutinesFacts, right-facts, facts-right}
+use Rattle.routines_sound.specs.Beside.{declaredIn, requestIn, routinesBeside}
 use Rattle.state_sound.proofs.Everywhere.{by-place, all-places, from-places, place-inside, pair-places}
 use Rattle.state_sound.proofs.Apart.{buffers-swap, units-swap, apart-swap, buffers-closed, units-closed, apart-closed}
 use Rattle.state_sound.proofs.ChannelFacts.{ChannelFacts, channel-facts, mark-right, units-right, works-right, no-idle, no-facts}
@@ -61,6 +63,8 @@ pub record SoundFacts (s : State) : Type 0 where
   pub served : (c u : ℕ) → isNone (requested (turnAt (channelAt s c) u)) ≡ false → Served (s .files) c u
   -- the mask says which buffers are free
   pub free : s .free ≡ freeMask (s .m) (s .files)
+  -- the routines are right beside the channels
+  pub routines : RoutinesFacts (declaredIn (s .channels)) (requestIn (s .channels)) (s .frozen) (s .routines)
 
 -- ---- an open file's clauses, one by one
 
@@ -167,6 +171,14 @@ closed-sound : (m w : ℕ) → fileSound m w closedFile ≡ true
 unfolding fileSound isBlank
 closed-sound m w = refl
 
+beside-facts : (s : State) → routinesBeside (s .channels) (s .frozen) (s .routines) ≡ true → RoutinesFacts (declaredIn (s .channels)) (requestIn (s .channels)) (s .frozen) (s .routines)
+unfolding routinesBeside
+beside-facts s h = right-facts (declaredIn (s .channels)) (requestIn (s .channels)) (s .frozen) (s .routines) h
+
+facts-beside : (s : State) → RoutinesFacts (declaredIn (s .channels)) (requestIn (s .channels)) (s .frozen) (s .routines) → routinesBeside (s .channels) (s .frozen) (s .routines) ≡ true
+unfolding routinesBeside
+facts-beside s h = facts-right (declaredIn (s .channels)) (requestIn (s .channels)) (s .frozen) (s .routines) h
+
 module _ (s : State) where
   judged-facts : judgedState s ≡ true → SoundFacts s
   unfolding judgedState filesSound fileSound fileFits channelRight unitServed
@@ -175,6 +187,7 @@ module _ (s : State) where
       let h₂ = both {a = filesSound (s .m) (s .w) (s .files)} (h₁ .1) in
       let h₃ = both {a = allOf (fileFits (s .channels)) (s .files)} (h₂ .1) in
       let h₄ = both {a = allFrom (channelRight (s .m) (s .frozen) (s .files)) 0 (s .channels)} (h₃ .1) in
+      let h₅ = both {a = eqb (s .free) (freeMask (s .m) (s .files))} (h₄ .1) in
       let f = both {a = allOf (fileSound (s .m) (s .w)) (s .files)} (h₂ .0) in
       let each : (i : ℕ) → fileSound (s .m) (s .w) (fileAt s i) ≡ true = all-places (s .files) closedFile (fileSound (s .m) (s .w)) (closed-sound (s .m) (s .w)) (f .0) in
       let fit : (i : ℕ) → fileFits (s .channels) (fileAt s i) ≡ true = all-places (s .files) closedFile (fileFits (s .channels)) refl (h₃ .0) in
@@ -189,7 +202,8 @@ module _ (s : State) where
         served = λ c u. by-place (s .channels) noChannel (λ x. isNone (requested (turnAt x u)) ≡ false → Served (s .files) c u) c
             (λ l. unit c u (channelAt s c) (from-at (channelRight (s .m) (s .frozen) (s .files)) noChannel (s .channels) (h₄ .0) c l))
             (λ n. true-not-false (ap (λ (t : Turn). isNone (requested t)) (no-idle u)) n);
-        free = eqb-true (s .free) (freeMask (s .m) (s .files)) (h₄ .1);
+        free = eqb-true (s .free) (freeMask (s .m) (s .files)) (h₅ .0);
+        routines = beside-facts s (h₅ .1);
       }
     where
       own : (c : ℕ) (x : Channel) → channelRight (s .m) (s .frozen) (s .files) c x ≡ true → ChannelFacts (s .m) (s .frozen) x
@@ -239,7 +253,8 @@ module _ (s : State) where
         (and-both (allOf (unitRight (s .m)) (channelAt s c .units)) _ (units-right (s .m) (s .frozen) (channelAt s c) (F .channels c))
         (and-both (worksRight (s .frozen) (channelAt s c .units)) _ (works-right (s .m) (s .frozen) (channelAt s c) (F .channels c))
         (at-from (unitServed (s .files) c) (idleUnit false) (channelAt s c .units) (λ u k. unit c u (isNone (requested (turnAt (channelAt s c) u))) refl))))))
-        (eq-eqb (s .free) (freeMask (s .m) (s .files)) (F .free)))))
+        (and-both (eqb (s .free) (freeMask (s .m) (s .files))) _ (eq-eqb (s .free) (freeMask (s .m) (s .files)) (F .free))
+        (facts-beside s (F .routines))))))
       where
         unit : (c u : ℕ) (t : Bool) → isNone (requested (turnAt (channelAt s c) u)) ≡ t → (isNone (requested (turnAt (channelAt s c) u)) || anyOf (serves c u) (s .files)) ≡ true
         unit c u true e = or-first (isNone (requested (turnAt (channelAt s c) u))) _ e
@@ -261,6 +276,7 @@ module _ (s : State) where
       places : placesRight s ≡ true
       limits : attemptsInLimit s ≡ true
       mask : freeMaskRight s ≡ true
+      beside : routinesRight s ≡ true
 
     parts : Parts
     unfolding sound
@@ -276,6 +292,7 @@ module _ (s : State) where
         let h₉ = both {a = partBuffersRight s} (h₈ .1) in
         let h₁₀ = both {a = placesRight s} (h₉ .1) in
         let h₁₁ = both {a = attemptsInLimit s} (h₁₀ .1) in
+        let h₁₂ = both {a = freeMaskRight s} (h₁₁ .1) in
         record {
           numbers = h₁ .0;
           buffers = h₂ .0;
@@ -288,7 +305,8 @@ module _ (s : State) where
           part = h₉ .0;
           places = h₁₀ .0;
           limits = h₁₁ .0;
-          mask = h₁₁ .1;
+          mask = h₁₂ .0;
+          beside = h₁₂ .1;
         }
 
     ranges-at : (i : ℕ) → fileInRange (s .w) (fileAt s i) ≡ true
@@ -394,7 +412,7 @@ module _ (s : State) where
             (all-right (s .m) (x .units) (and-right (marksRight x) _ a) b) w
 
     pub sound-facts : SoundFacts s
-    unfolding apart fileReady numbersInRange freeMaskRight
+    unfolding apart fileReady numbersInRange freeMaskRight routinesRight
     sound-facts = record {
       pool = and-left (poolSound (s .m) (s .w)) _ (parts .numbers);
       files = λ i o. from-clauses (s .m) (s .w) (fileAt s i) o (clauses-at i o) (taken-right (requestOf (s .channels) (fileAt s i)) (fileAt s i) (way-at i o) (taken-at i o));
@@ -407,6 +425,7 @@ module _ (s : State) where
       channels = channel-at;
       served = λ c u n. let p = served-fits c u n in record { place = p .place; bound = and-left (serves c u (fileAt s (p .place))) _ (p .passes) };
       free = eqb-true (s .free) (freeMask (s .m) (s .files)) (parts .mask);
+      routines = beside-facts s (parts .beside);
     }
 
   -- ---- and back
@@ -465,7 +484,7 @@ module _ (s : State) where
         unit c u false e = or-second (isNone (requested (turnAt (channelAt s c) u))) _ (fit c u (F .served c u e))
 
     pub facts-sound : sound s ≡ true
-    unfolding sound noBufferHeldTwice eachHasItsOwn channelsWork readsAloneTake writesHaveBlocks fullBlocksRight partBuffersRight placesRight attemptsInLimit freeMaskRight apart
+    unfolding sound noBufferHeldTwice eachHasItsOwn channelsWork readsAloneTake writesHaveBlocks fullBlocksRight partBuffersRight placesRight attemptsInLimit freeMaskRight routinesRight apart
     facts-sound =
         and-both (numbersInRange s) _ numbers-of
         (and-both (allPairs buffersApart (s .files)) _
@@ -486,7 +505,8 @@ module _ (s : State) where
         (and-both (allOf (λ (f : File). ifOpen f (placeRight f)) (s .files)) _ (each-open placeRight (λ i o. parts-at i o .place))
         (and-both (allOf channelInLimit (s .channels)) _
         (at-all channelInLimit noChannel (s .channels) (λ c l. all-each (s .m) (channelAt s c .units) (units-right (s .m) (s .frozen) (channelAt s c) (F .channels c)) .1))
-        (eq-eqb (s .free) (freeMask (s .m) (s .files)) (F .free))))))))))))
+        (and-both (eqb (s .free) (freeMask (s .m) (s .files))) _ (eq-eqb (s .free) (freeMask (s .m) (s .files)) (F .free))
+        (facts-beside s (F .routines)))))))))))))
 
 -- what the code walks is document 01's paragraph
 pub judged-sound : (s : State) → judgedState s ≡ sound s

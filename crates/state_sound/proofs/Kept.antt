@@ -29,7 +29,10 @@ use Rattle.state_sound.proofs.Replaced.{Alike}
 use Rattle.state_sound.proofs.Shares.{apart-holds, held-inside}
 use Rattle.state.specs.declared.State.{State}
 use Rattle.state.specs.Places.{noChannel, fileAt, channelIn, channelAt}
-use Rattle.state.specs.Stores.{withFile, withChannel}
+use Rattle.state.specs.Stores.{withFile, withChannel, withRoutines}
+use Rattle.routines.specs.declared.Routines.{Routines}
+use Rattle.routines.proofs.Laws.Facts.{RoutinesFacts}
+use Rattle.routines_sound.specs.Beside.{declaredIn, requestIn}
 use Rattle.state_sound.specs.Requests.{requested, isNone, isRead, isWrite, fitsOutput}
 use Rattle.state_sound.specs.Soundness.{channelOf, requestOf}
 use Rattle.state_sound.specs.Judged.{fileReady}
@@ -62,7 +65,7 @@ unfolding apart
 units-differ f g a o p c u =
     true-not-false (and-both (f .opened) _ o (serves-unit (f .channel) (f .unit) g p c u)) (not-true (shareUnit f g) (and-right (not (shareBuffer f g)) _ a))
 
--- ---- file i is open as f afterwards, and channel c, which is its channel, is x
+-- ---- file i is open as f afterwards, channel c, which is its channel, is x, and the routines are r
 
 pub record Replaced (s : State) (c i : ℕ) (x : Channel) (f : File) : Type 0 where
   pub place : i < length (s .files)
@@ -146,9 +149,9 @@ module _ (s : State) (c i : ℕ) (x : Channel) (f : File) (F : SoundFacts s) (R 
       go true o = sym (after-same (s .free) (fileAt s i) f (o ∙ sym (R .opened))) ∙ F .free ∙ sym (held-mask (s .m) (s .files) i f (R .held o))
       go false o = ap (λ (k : ℕ). freeAfter k (fileAt s i) f) (F .free) ∙ opened-mask (s .m) (s .files) i f (R .place) o (R .opened)
 
-  pub replaced-facts : SoundFacts (withFile (withChannel s c x) i f)
-  unfolding withFile withChannel
-  replaced-facts = record {
+  pub replaced-facts : (r : Routines) → RoutinesFacts (declaredIn cs) (requestIn cs) (s .frozen) r → SoundFacts (withRoutines (withFile (withChannel s c x) i f) r)
+  unfolding withFile withChannel withRoutines
+  replaced-facts r right = record {
     pool = F .pool;
     files = at-place (s .files) i f closedFile (R .place) (λ j g. g .opened ≡ true → Sound (s .m) (s .w) g) (λ o. R .sound) (λ j ne. F .files j);
     blank = at-place (s .files) i f closedFile (R .place) (λ j g. g .opened ≡ false → isBlank g ≡ true) (λ o. true-not-false (R .opened) o) (λ j ne. F .blank j);
@@ -162,6 +165,7 @@ module _ (s : State) (c i : ℕ) (x : Channel) (f : File) (F : SoundFacts s) (R 
     channels = at-place (s .channels) c x noChannel (R .line) (λ n y. ChannelFacts (s .m) (s .frozen) y) (R .facts) (λ n ne. F .channels n);
     served = served-now;
     free = ap₂ (freeAfter (s .free)) refl (getD-set-same (s .files) i f closedFile (R .place)) ∙ mask-now;
+    routines = right;
   }
 
 -- ---- the same buffers and the same unit
@@ -201,13 +205,14 @@ line-of s F i o = place-inside (s .channels) noChannel (λ (y : Channel). declar
 pub place-of : (s : State) (i : ℕ) → fileAt s i .opened ≡ true → i < length (s .files)
 place-of s i o = place-inside (s .files) closedFile (λ (f : File). f .opened) refl i o
 
--- an open file and its channel: what ask and report do
+-- an open file, its channel and the routines: what ask and report do
 module _ (s : State) (i : ℕ) (x : Channel) (f : File) (F : SoundFacts s) (o : fileAt s i .opened ≡ true) (S : SameHoldings f (fileAt s i)) where
   pub both-kept : Sound (s .m) (s .w) f → fileReady (requested (turnAt x (fileAt s i .unit))) f ≡ true → ChannelFacts (s .m) (s .frozen) x
       → declaredAt x (fileAt s i .unit) ≡ true
       → ((u : ℕ) → u ≢ fileAt s i .unit → (requested (turnAt x u) ≡ requested (turnAt (channelAt s (fileAt s i .channel)) u)) × (declaredAt x u ≡ declaredAt (channelAt s (fileAt s i .channel)) u))
-      → SoundFacts (withFile (withChannel s (fileAt s i .channel) x) i f)
-  both-kept sound ready facts known others =
+      → (r : Routines) → RoutinesFacts (declaredIn (set (s .channels) (fileAt s i .channel) x)) (requestIn (set (s .channels) (fileAt s i .channel) x)) (s .frozen) r
+      → SoundFacts (withRoutines (withFile (withChannel s (fileAt s i .channel) x) i f) r)
+  both-kept sound ready facts known others r right =
       replaced-facts s (fileAt s i .channel) i x f F
       (record {
         place = place-of s i o;
@@ -222,18 +227,28 @@ module _ (s : State) (i : ℕ) (x : Channel) (f : File) (F : SoundFacts s) (o : 
         ready = ap (λ (u : ℕ). fileReady (requested (turnAt x u)) f) (S .unit) ∙ ready;
         facts = facts;
         others = λ u ne. others u (λ e. ne (e ∙ sym (S .unit)));
-      })
+      }) r right
 
 same-channel : (s : State) (c : ℕ) → withChannel s c (channelAt s c) ≡ s
 unfolding withChannel
-same-channel s c = ap (λ (ks : List Channel). record { m = s .m; w = s .w; frozen = s .frozen; channels = ks; files = s .files; free = s .free }) (set-getD (s .channels) c noChannel)
+same-channel s c = ap (λ (ks : List Channel). record { m = s .m; w = s .w; frozen = s .frozen; channels = ks; files = s .files; free = s .free; routines = s .routines }) (set-getD (s .channels) c noChannel)
+
+-- the channels as they are, and the routines
+same-routines : (s : State) (c : ℕ) → SoundFacts s
+    → RoutinesFacts (declaredIn (set (s .channels) c (channelAt s c))) (requestIn (set (s .channels) c (channelAt s c))) (s .frozen) (s .routines)
+same-routines s c F = subst (λ (cs : List Channel). RoutinesFacts (declaredIn cs) (requestIn cs) (s .frozen) (s .routines)) (sym (set-getD (s .channels) c noChannel)) (F .routines)
+
+own-routines : (s : State) (i : ℕ) (f : File) → withRoutines (withFile s i f) (s .routines) ≡ withFile s i f
+unfolding withRoutines withFile
+own-routines s i f = refl
 
 -- an open file alone
 pub file-kept : (s : State) (i : ℕ) (f : File) → SoundFacts s → fileAt s i .opened ≡ true → SameHoldings f (fileAt s i) → Sound (s .m) (s .w) f
     → fileReady (requestOf (s .channels) (fileAt s i)) f ≡ true → SoundFacts (withFile s i f)
 file-kept s i f F o S sound ready =
-    subst (λ (t : State). SoundFacts (withFile t i f)) (same-channel s (fileAt s i .channel))
-    (both-kept s i (channelAt s (fileAt s i .channel)) f F o S sound ready (F .channels (fileAt s i .channel)) (F .declared i o) (λ u ne. (refl, refl)))
+    subst SoundFacts (own-routines s i f)
+    (subst (λ (t : State). SoundFacts (withRoutines (withFile t i f) (s .routines))) (same-channel s (fileAt s i .channel))
+    (both-kept s i (channelAt s (fileAt s i .channel)) f F o S sound ready (F .channels (fileAt s i .channel)) (F .declared i o) (λ u ne. (refl, refl)) (s .routines) (same-routines s (fileAt s i .channel) F)))
 
 -- ---- open
 
@@ -261,7 +276,8 @@ pub open-kept : (s : State) (i : ℕ) (f : File) → SoundFacts s → i < length
     → takenCount f ≡ 0 → declaredAt (channelOf (s .channels) f) (f .unit) ≡ true → Unbound s f → SoundFacts (withFile s i f)
 unfolding fileReady
 open-kept s i f F place shut o sound none known U =
-    subst (λ (t : State). SoundFacts (withFile t i f)) (same-channel s (f .channel))
+    subst SoundFacts (own-routines s i f)
+    (subst (λ (t : State). SoundFacts (withRoutines (withFile t i f) (s .routines))) (same-channel s (f .channel))
     (replaced-facts s (f .channel) i (channelOf (s .channels) f) f F
     (record {
       place = place;
@@ -276,7 +292,7 @@ open-kept s i f F place shut o sound none known U =
       ready = idle (requestOf (s .channels) f) (isNone (requestOf (s .channels) f)) refl quiet;
       facts = F .channels (f .channel);
       others = λ u ne. (refl, refl);
-    }))
+    }) (s .routines) (same-routines s (f .channel) F)))
   where
     quiet : isNone (requestOf (s .channels) f) ≡ false → ⊥
     quiet n = let p = F .served (f .channel) (f .unit) n in true-not-false (p .bound) (U .unit (p .place))
@@ -304,6 +320,7 @@ close-kept s i F o quiet = record {
   served = λ c u n. still c u n (F .served c u n);
   free = ap₂ (λ (k : ℕ) (g : File). freeAfter k (fileAt s i) g) (F .free) (getD-set-same (s .files) i closedFile closedFile place)
       ∙ closed-mask (s .m) (s .files) i place o inside alone;
+  routines = F .routines;
 }
   where
     place : i < length (s .files)

@@ -13,4 +13,5 @@ pub mod ChannelCalls
 pub mod Facts
 pub mod Buffers
 pub mod Kept
+pub mod RoutinesKept
 pub mod Wholes

@@ -1,4 +1,4 @@
--- Calls that concern all channels: the state before the first fresh start, a fresh start, freeze and thaw. Assumes nothing.
+-- Calls that concern all channels, and a return: the state before the first fresh start, a fresh start, freeze and thaw. Assumes nothing.
 use mathlib.Core.Path.{_≡_, refl, sym, ap, subst, _∙_}
 use mathlib.Core.Logic.{_≢_}
 use mathlib.Core.Bool.{Bool, true, false, _&&_, _||_}
@@ -23,22 +23,30 @@ use Rattle.pool.proofs.FreeMasks.{all-free, none-free}
 use Rattle.state_sound.specs.Files.{isBlank}
 use Rattle.state.specs.declared.State.{State}
 use Rattle.state.specs.Places.{channelCount, noChannel, beforeStart, fileAt, channelIn, channelAt}
+use Rattle.state.specs.Stores.{withRoutines}
+use Rattle.routines.specs.declared.Routines.{Routines}
+use Rattle.routines.specs.Posts.{noRoutines}
+use Rattle.routines.specs.Schedule.{noneRuns}
+use Rattle.routines.specs.Changes.{lookedIn, gaveBackIn}
+use Rattle.routines.proofs.Laws.Facts.{RoutinesFacts, ready-alike, routines-frozen, routines-looked, routines-back, routines-none}
+use Rattle.routines_sound.specs.Beside.{declaredIn, requestIn}
 use Rattle.state_sound.specs.Requests.{requested, isNone}
 use Rattle.state_sound.specs.Soundness.{sound}
 use Rattle.state_sound.specs.Judged.{fileReady}
 use Rattle.state.proofs.Lookups.{any-default}
 use Rattle.state_sound.proofs.Everywhere.{by-place}
 use Rattle.state_sound.proofs.Apart.{apart-closed}
-use Rattle.state_sound.proofs.ChannelFacts.{ChannelFacts, idle-facts, fresh-idle, fresh-stands, no-idle, no-facts}
+use Rattle.state_sound.proofs.ChannelFacts.{ChannelFacts, request-alike, idle-facts, fresh-idle, fresh-stands, no-idle, no-facts}
 use Rattle.state_sound.proofs.ChannelCalls.{freeze-facts, thaw-facts, thaw-alike}
 use Rattle.state_sound.proofs.Facts.{SoundFacts, facts-sound}
 
 -- ---- no file open, and nothing requested
 
 pub blank-facts : (s : State) → poolSound (s .m) (s .w) ≡ true → ((i : ℕ) → fileAt s i ≡ closedFile) → ((c : ℕ) → ChannelFacts (s .m) (s .frozen) (channelAt s c))
-    → ((c u : ℕ) → turnAt (channelAt s c) u ≡ Idle) → s .free ≡ freeMask (s .m) (s .files) → SoundFacts s
+    → ((c u : ℕ) → turnAt (channelAt s c) u ≡ Idle) → s .free ≡ freeMask (s .m) (s .files)
+    → RoutinesFacts (declaredIn (s .channels)) (requestIn (s .channels)) (s .frozen) (s .routines) → SoundFacts s
 unfolding isBlank
-blank-facts s pool shut channels quiet mask = record {
+blank-facts s pool shut channels quiet mask none = record {
   pool = pool;
   files = λ i o. true-not-false o (ap (λ (f : File). f .opened) (shut i));
   blank = λ i o. rw (shut i);
@@ -48,6 +56,7 @@ blank-facts s pool shut channels quiet mask = record {
   channels = channels;
   served = λ c u n. true-not-false (ap (λ (t : Turn). isNone (requested t)) (quiet c u)) n;
   free = mask;
+  routines = none;
 }
 
 closed-files : (n i : ℕ) → getD (replicate n closedFile) i closedFile ≡ closedFile
@@ -64,13 +73,14 @@ before-start-sound =
     (blank-facts beforeStart refl (closed-files fileCount)
     (λ c. subst (ChannelFacts 0 false) (sym (no-channels channelCount c)) (no-facts 0 false))
     (λ c u. ap (λ (x : Channel). turnAt x u) (no-channels channelCount c) ∙ no-idle u)
-    (none-free fileCount))
+    (none-free fileCount)
+    (routines-none _ _ false))
 
 -- ---- a fresh start: any pool, any declared units
 
 -- "A fresh start closes everything, drops all requests, thaws and resets the scans."
 abbrev pub freshState : ℕ → ℕ → List ℕ → ℕ → State
-freshState m w masks n = record { m = m; w = w; frozen = false; channels = map freshOf masks; files = replicate n closedFile; free = allFree m }
+freshState m w masks n = record { m = m; w = w; frozen = false; channels = map freshOf masks; files = replicate n closedFile; free = allFree m; routines = noRoutines }
 
 fresh-mark : (mask : ℕ) (k : Bool) → markAs k (freshOf mask) < size (freshOf mask)
 unfolding freshOf freshWith bitsFrom
@@ -91,12 +101,13 @@ fresh-sound m w masks n pool some =
     (blank-facts (freshState m w masks n) pool (closed-files n)
     (λ c. subst (ChannelFacts m false) (sym (List·getD-map freshOf masks c 0)) (idle-facts m false (freshOf (getD masks c 0)) (fresh-mark (getD masks c 0)) (fresh-quiet (getD masks c 0)) (fresh-start (getD masks c 0)) (λ u e. some)))
     (λ c u. ap (λ (x : Channel). turnAt x u) (List·getD-map freshOf masks c 0) ∙ fresh-quiet (getD masks c 0) u)
-    (all-free m n))
+    (all-free m n)
+    (routines-none _ _ false))
 
 -- ---- freeze and thaw
 
 abbrev pub frozenState : State → State
-frozenState s = record { m = s .m; w = s .w; frozen = true; channels = s .channels; files = s .files; free = s .free }
+frozenState s = record { m = s .m; w = s .w; frozen = true; channels = s .channels; files = s .files; free = s .free; routines = s .routines }
 
 pub freeze-kept : (s : State) → SoundFacts s → SoundFacts (frozenState s)
 freeze-kept s F = record {
@@ -109,10 +120,11 @@ freeze-kept s F = record {
   channels = λ c. freeze-facts (s .m) (s .frozen) (channelAt s c) (F .channels c);
   served = F .served;
   free = F .free;
+  routines = routines-frozen _ _ (s .frozen) (s .routines) (F .routines);
 }
 
 abbrev pub thawedState : State → State
-thawedState s = record { m = s .m; w = s .w; frozen = false; channels = map thawOf (s .channels); files = s .files; free = s .free }
+thawedState s = record { m = s .m; w = s .w; frozen = false; channels = map thawOf (s .channels); files = s .files; free = s .free; routines = lookedIn (s .routines) false }
 
 module _ (s : State) where
   -- a channel of the thawed state: thawed, or none
@@ -142,4 +154,26 @@ module _ (s : State) where
     channels = λ c. thawed-at (λ x y. ChannelFacts (s .m) (s .frozen) x → ChannelFacts (s .m) false y) (λ x. thaw-facts (s .m) (s .frozen) x) (λ f. no-facts (s .m) false) c (F .channels c);
     served = λ c u n. F .served c u (ap isNone (sym (alike c u .0)) ∙ n);
     free = F .free;
+    routines = routines-looked _ _ (s .routines) (ready-alike (declaredIn (s .channels)) (requestIn (s .channels)) _ _ (λ c u. alike c u .1) (s .routines) (λ c u. request-alike _ (channelAt s c) u (alike c u .0)) (F .routines .ready)) false;
   }
+
+-- ---- other routines alone
+
+pub routines-kept : (s : State) (r : Routines) → SoundFacts s → RoutinesFacts (declaredIn (s .channels)) (requestIn (s .channels)) (s .frozen) r → SoundFacts (withRoutines s r)
+unfolding withRoutines
+routines-kept s r F right = record {
+  pool = F .pool;
+  files = F .files;
+  blank = F .blank;
+  apart = F .apart;
+  declared = F .declared;
+  ready = F .ready;
+  channels = F .channels;
+  served = F .served;
+  free = F .free;
+  routines = right;
+}
+
+-- a return of the routine that runs
+pub back-kept : (s : State) → SoundFacts s → noneRuns (s .routines .programs) ≡ false → SoundFacts (withRoutines s (gaveBackIn (s .routines) (s .frozen) .routines))
+back-kept s F n = routines-kept s _ F (routines-back _ _ (s .routines) (F .routines .ready) (s .frozen) n)

@@ -1,5 +1,5 @@
 -- The same paragraph in the order in which the code walks: the pool, the files, each file with its unit, each channel with its units, the
--- free mask.
+-- free mask, the routines.
 -- A theorem says that this is `sound`. Assumes nothing.
 use Prim.Native.Nat.{ℕ}
 use mathlib.Core.Bool.{Bool, true, not, _&&_, _||_}
@@ -21,6 +21,7 @@ use Rattle.pool.specs.Masks.{freeMask}
 use Rattle.pool.specs.Serving.{serves}
 use Rattle.state_sound.specs.Files.{takenCount, filesSound}
 use Rattle.state.specs.declared.State.{State}
+use Rattle.routines_sound.specs.Beside.{routinesBeside}
 use Rattle.state_sound.specs.Requests.{requested, isNone, isRead, isWrite, fitsOutput}
 use Rattle.state_sound.specs.Soundness.{channelOf, requestOf, positionRight, marksRight, worksRight, inLimit}
 
@@ -60,4 +61,5 @@ judgedState s =
     && (filesSound (s .m) (s .w) (s .files)
     && (allOf (fileFits (s .channels)) (s .files)
     && (allFrom (channelRight (s .m) (s .frozen) (s .files)) 0 (s .channels)
-    && eqb (s .free) (freeMask (s .m) (s .files)))))
+    && (eqb (s .free) (freeMask (s .m) (s .files))
+    && routinesBeside (s .channels) (s .frozen) (s .routines)))))

@@ -1,5 +1,5 @@
--- "A state passed back by the caller is sound if ..": that paragraph of document 01, a conjunct for each clause, in its order, and the mask
--- of the free buffers. Assumes nothing.
+-- "A state passed back by the caller is sound if ..": that paragraph of document 01, a conjunct for each clause, in its order, the mask of
+-- the free buffers, and the special routines. Assumes nothing.
 use Prim.Native.Nat.{ℕ}
 use mathlib.Core.Bool.{Bool, true, not, cond, _&&_, _||_}
 use mathlib.Core.List.{List}
@@ -24,6 +24,7 @@ use Rattle.pool.specs.Serving.{serves}
 use Rattle.state_sound.specs.Files.{inRange, hasBuffers, takenCount, fullRight, partRight, placeRight, restIsZero, isBlank, shareBuffer, shareUnit}
 use Rattle.state.specs.declared.State.{State}
 use Rattle.state.specs.Places.{channelIn}
+use Rattle.routines_sound.specs.Beside.{routinesBeside}
 use Rattle.state_sound.specs.Requests.{requested, isNone, isRead, isWrite, fitsOutput, isWaiting}
 
 -- ---- what the clauses speak of
@@ -183,7 +184,12 @@ attemptsInLimit s = allOf channelInLimit (s .channels)
 unfoldable pub freeMaskRight : State → Bool
 freeMaskRight s = eqb (s .free) (freeMask (s .m) (s .files))
 
--- ---- the paragraph, and the mask
+-- ---- special routines (document 02, M-110): what runs, the push-down list, what requests name and what waits, beside the channels
+
+unfoldable pub routinesRight : State → Bool
+routinesRight s = routinesBeside (s .channels) (s .frozen) (s .routines)
+
+-- ---- the paragraph, the mask, and the routines
 
 unfoldable pub sound : State → Bool
 sound s =
@@ -198,4 +204,5 @@ sound s =
     && (partBuffersRight s
     && (placesRight s
     && (attemptsInLimit s
-    && freeMaskRight s))))))))))
+    && (freeMaskRight s
+    && routinesRight s)))))))))))

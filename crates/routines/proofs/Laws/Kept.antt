@@ -6,7 +6,7 @@ use Prim.Native.Nat.{ℕ, zero, suc, _+_, _-_, _≤_, _<_}
 use native.Mathlib.Nat.{le-refl}
 use native.Mathlib.Numerals.{add-one}
 use native.Mathlib.Omega.{arith}
-use borrow.Author.Tests.{ltb-true, ltb-false, leb-true, leb-false, le-leb, lt-leb, lt-ltb, eqb-true, eqb-false}
+use borrow.Author.Tests.{ltb-true, ltb-false, leb-true, leb-false, le-leb, lt-leb, lt-ltb, eqb-true, eqb-false, eq-eqb}
 use lib.Dec.{ltb, leb, eqb}
 use lib.ListN.{length, getD, set, drop, length-set}
 use lib.Seq.{getD-set-same, lt-length-set, drop-cons, drop-set-lt}
@@ -24,6 +24,7 @@ use Rattle.routines.proofs.Laws.Schedule.{by-look, enters-above, enters
 -- ---- the clauses, as facts
 
 pub record Clauses (p : Programs) : Type 0 where
+  pub long : length (p .pushed) ≡ depth
   pub few : p .count ≤ depth
   pub own : programRight (p .running) ≡ true
   pub all : allOf programRight (p .pushed) ≡ true
@@ -33,11 +34,13 @@ pub record Clauses (p : Programs) : Type 0 where
 pub clauses : (p : Programs) → programsRight p ≡ true → Clauses p
 unfolding programsRight
 clauses p e =
-    let a = and-right (leb (p .count) depth) _ e in
+    let h = and-right (eqb (length (p .pushed)) depth) _ e in
+    let a = and-right (leb (p .count) depth) _ h in
     let b = and-right (programRight (p .running)) _ a in
     let d = and-right (allOf programRight (p .pushed)) _ b in
     record {
-      few = leb-true (p .count) depth (and-left (leb (p .count) depth) _ e);
+      long = eqb-true (length (p .pushed)) depth (and-left (eqb (length (p .pushed)) depth) _ e);
+      few = leb-true (p .count) depth (and-left (leb (p .count) depth) _ h);
       own = and-left (programRight (p .running)) _ a;
       all = and-left (allOf programRight (p .pushed)) _ b;
       none = and-left (allOf isMain (drop (p .count) (p .pushed))) _ d;
@@ -47,10 +50,11 @@ clauses p e =
 pub from-clauses : (p : Programs) → Clauses p → programsRight p ≡ true
 unfolding programsRight
 from-clauses p c =
-    and-both (leb (p .count) depth) _ (le-leb _ _ (c .few))
+    and-both (eqb (length (p .pushed)) depth) _ (eq-eqb _ _ (c .long))
+    (and-both (leb (p .count) depth) _ (le-leb _ _ (c .few))
     (and-both (programRight (p .running)) _ (c .own)
     (and-both (allOf programRight (p .pushed)) _ (c .all)
-    (and-both (allOf isMain (drop (p .count) (p .pushed))) _ (c .none) (c .falls))))
+    (and-both (allOf isMain (drop (p .count) (p .pushed))) _ (c .none) (c .falls)))))
 
 -- ---- small steps
 
@@ -72,17 +76,21 @@ ranked x low high = and-both (leb (x .rank) topRank) _ (le-leb _ _ low) (or-firs
 
 -- ---- a look
 
-module _ (p : Programs) (long : length (p .pushed) ≡ depth) (right : programsRight p ≡ true) where
+module _ (p : Programs) (right : programsRight p ≡ true) where
+  pub list-long : length (p .pushed) ≡ depth
+  list-long = clauses p right .long
+
   -- a program that is entered above what runs
   interrupted-right : (best : Program) → best .rank ≤ topRank → p .running .rank < best .rank → p .count < depth → programsRight (interruptedBy p best) ≡ true
   unfolding interruptedBy descends
   interrupted-right best b above room =
       let c = clauses p right in
-      let in-list : p .count < length (p .pushed) = omega (arith, long) in
+      let in-list : p .count < length (p .pushed) = omega (arith, c .long) in
       let past : allOf isMain (drop (p .count + 1) (p .pushed)) ≡ true = and-right (isMain (getD (p .pushed) (p .count) mainProgram)) _ (sym (all-step isMain (p .pushed) mainProgram (p .count) in-list) ∙ c .none) in
       let same : drop (p .count + 1) (set (p .pushed) (p .count) (p .running)) ≡ drop (p .count + 1) (p .pushed) = drop-set-lt (p .count + 1) (p .pushed) (p .count) (p .running) (omega arith) in
       from-clauses (interruptedBy p best)
       (record {
+        long = length-set (p .pushed) (p .count) (p .running) ∙ c .long;
         few = omega arith;
         own = ranked best b (omega arith);
         all = all-set programRight (p .pushed) (p .count) (p .running) (c .all) (c .own);
@@ -112,7 +120,7 @@ module _ (p : Programs) (long : length (p .pushed) ≡ depth) (right : programsR
     last-falls = falling (p .running) _ _ (rw (under-last (p .pushed) (p .count) (routine-over n)) at (clauses p right .falls))
 
     in-list : p .count - 1 < length (p .pushed)
-    in-list = let c = clauses p right in let o = routine-over n in omega (arith, long)
+    in-list = let c = clauses p right in let o = routine-over n in omega (arith, c .long)
 
     last-right : programRight (lastPushed p) ≡ true
     last-right = all-at programRight mainProgram (p .pushed) (clauses p right .all) (p .count - 1) in-list
@@ -123,6 +131,7 @@ module _ (p : Programs) (long : length (p .pushed) ≡ depth) (right : programsR
         let c = clauses p right in
         from-clauses (replacedBy p best)
         (record {
+          long = c .long;
           few = c .few;
           own = ranked best b (omega arith);
           all = c .all;
@@ -142,6 +151,7 @@ module _ (p : Programs) (long : length (p .pushed) ≡ depth) (right : programsR
         drop-cons (set (p .pushed) (p .count - 1) mainProgram) (p .count - 1) mainProgram (lt-length-set (p .pushed) (p .count - 1) mainProgram in-list) ∙ rw (cleared, at, rest) in
         from-clauses (resumedOf p)
         (record {
+          long = length-set (p .pushed) (p .count - 1) mainProgram ∙ c .long;
           few = omega arith;
           own = last-right;
           all = all-set programRight (p .pushed) (p .count - 1) mainProgram (c .all) refl;

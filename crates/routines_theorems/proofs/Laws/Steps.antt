@@ -107,7 +107,7 @@ looked-sound : (m : Machine) → Ready m → Sound (after (scheduled looks m) m)
 unfolding after
 looked-sound m r = record {
   places = look-long (m .programs) (m .frozen) (highest (m .waits)) ∙ r .places;
-  programs = look-right (m .programs) (r .places) (r .programs) (m .frozen) (highest (m .waits)) (high m r);
+  programs = look-right (m .programs) (r .programs) (m .frozen) (highest (m .waits)) (high m r);
   dues = cleared-dues (scheduled looks m) (m .waits) (r .dues);
   settled = look-settled (m .programs) (m .frozen) (highest (m .waits)) _ (lower (scheduled looks m) (m .waits));
 }
@@ -116,7 +116,7 @@ returned-sound : (m : Machine) → noneRuns (m .programs) ≡ false → Ready m 
 unfolding after
 returned-sound m n r = record {
   places = back-long (m .programs) (m .frozen) (highest (m .waits)) ∙ r .places;
-  programs = back-right (m .programs) (r .places) (r .programs) n (m .frozen) (highest (m .waits)) (high m r);
+  programs = back-right (m .programs) (r .programs) n (m .frozen) (highest (m .waits)) (high m r);
   dues = cleared-dues (scheduled returns m) (m .waits) (r .dues);
   settled = back-settled (m .programs) (m .frozen) (highest (m .waits)) _ (lower (scheduled returns m) (m .waits));
 }

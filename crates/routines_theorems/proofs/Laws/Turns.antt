@@ -36,7 +36,7 @@ module _ (p : Programs) (long : length (p .pushed) ≡ depth) (ys : List Program
   back-goes right n frozen best =
       by-back p frozen best (λ r. Goes returns r)
       (λ e. λ q. q)
-      (λ e. λ q. same-list (list-resumed p (routine-over p long right n)) (resumes q))
+      (λ e. λ q. same-list (list-resumed p (routine-over p right n)) (resumes q))
 
 module _ (m : Machine) (s : Sound m) (ys : List Program) (ts : List Turn) where
   abbrev Turned : Event → Act → Machine → Type 0

@@ -1,4 +1,4 @@
--- `state_image::images::state_at` meets its contract. Its own numbers, the channels and the files follow one another; the free mask is made from the files. Assumes nothing.
+-- `state_image::images::state_at` meets its contract. Its own numbers, the channels, the files and the routines follow one another; the free mask is made from the files. Assumes nothing.
 use borrow.Author.Needs.{needs}
 use Rattle.state_image.proofs.images.state_at.Statement.{statement}
 use Rattle.state_image.proofs.images.state_at.Tie as tie
@@ -24,6 +24,24 @@ add-files-at-2 c = search needs
 files-at-requires : tie.Need-files-at-requires
 files-at-requires c κs = search needs
 
+mul-routines-at : tie.Need-mul-routines-at
+mul-routines-at c = search needs
+
+add-routines-at : tie.Need-add-routines-at
+add-routines-at c = search needs
+
+mul-routines-at-2 : tie.Need-mul-routines-at-2
+mul-routines-at-2 c = search needs
+
+add-routines-at-2 : tie.Need-add-routines-at-2
+add-routines-at-2 c = search needs
+
+add-routines-at-3 : tie.Need-add-routines-at-3
+add-routines-at-3 c = search needs
+
+routines-at-requires : tie.Need-routines-at-requires
+routines-at-requires c κs = search needs
+
 element-copy-out-free-mask : tie.Need-element-copy-out-free-mask
 element-copy-out-free-mask c = search needs
 
@@ -34,7 +52,7 @@ state-with-requires : tie.Need-state-with-requires
 state-with-requires c κs = search needs
 
 returns : tie.Need-returns
-returns c = rw (c .state-with .ensures, c .before .free-mask .ensures, c .before .before .before .files-at .ensures, c .before .before .before .before .channels-at .ensures, c .before .before .before .before .before .row-at .ensures)
+returns c = rw (c .state-with .ensures, c .before .free-mask .ensures, c .before .before .before .routines-at .ensures, c .before .before .before .before .files-at .ensures, c .before .before .before .before .before .channels-at .ensures, c .before .before .before .before .before .before .row-at .ensures)
 
 pub state-at-spec : {M : Type 1} → statement M
 state-at-spec =
@@ -47,6 +65,12 @@ state-at-spec =
     mul-files-at-2
     add-files-at-2
     files-at-requires
+    mul-routines-at
+    add-routines-at
+    mul-routines-at-2
+    add-routines-at-2
+    add-routines-at-3
+    routines-at-requires
     element-copy-out-free-mask
     free-mask-requires
     state-with-requires

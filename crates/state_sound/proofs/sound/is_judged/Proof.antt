@@ -1,4 +1,4 @@
--- `state_sound::is_judged` meets its contract, from the contracts of `pool_sound`, `files_sound`, `files_fit`, `channels_right` and `free_mask`. Assumes nothing.
+-- `state_sound::is_judged` meets its contract, from the contracts of `pool_sound`, `files_sound`, `files_fit`, `channels_right`, `free_mask` and `routines_right`. Assumes nothing.
 use Rattle.state_sound.specs.Judged.{judgedState}
 use borrow.Author.Needs.{needs}
 use Rattle.state_sound.proofs.sound.is_judged.Statement.{statement}
@@ -19,9 +19,12 @@ channels-right-requires c κs = search needs
 free-mask-requires : tie.Need-free-mask-requires
 free-mask-requires c κs = search needs
 
+routines-right-requires : tie.Need-routines-right-requires
+routines-right-requires c κs = search needs
+
 returns : tie.Need-returns
 unfolding judgedState
-returns c = simp (c .before .before .before .before .before .pool-sound .ensures, c .before .before .before .before .files-sound .ensures, c .before .before .before .files-fit .ensures, c .before .before .channels-right .ensures, c .before .free-mask .ensures)
+returns c = simp (c .before .before .before .before .before .before .pool-sound .ensures, c .before .before .before .before .before .files-sound .ensures, c .before .before .before .before .files-fit .ensures, c .before .before .before .channels-right .ensures, c .before .before .free-mask .ensures, c .before .routines-right .ensures)
 
 pub is-judged-spec : {M : Type 1} → statement M
 is-judged-spec =
@@ -32,4 +35,5 @@ is-judged-spec =
     files-fit-requires
     channels-right-requires
     free-mask-requires
+    routines-right-requires
     returns)
