@@ -47,37 +47,55 @@ need_kit() {
     exit 1
 }
 
-# Proves and builds the program $1 if it was never built, or if a file of the crates is newer. Ends the command with status 1 if that fails.
-build_program() {
+# Proves the crate $1 and builds it by `rt $2` as the file $3, if that was never built, or if a file of the crates is newer. Ends the command with status 1 if
+# that fails; $4 says what it is.
+build() {
     need_kit
-    program=$here/target/bin/$1
-    if [ -x "$program" ] && [ -z "$(find "$here/crates" "$here/crates.txt" -newer "$program" -print 2>/dev/null | head -n 1)" ]; then
+    if [ -f "$3" ] && [ -z "$(find "$here/crates" "$here/crates.txt" -newer "$3" -print 2>/dev/null | head -n 1)" ]; then
         return
     fi
     kept=$(mktemp) || exit 1
     say "proving and building $1 first; this takes some minutes"
-    { (cd "$here" && rt check "$1") 2>&1 </dev/null; echo "$?" >"$kept.status"; } | progress "$kept" "$(crates_below "$1" | wc -l)"
+    { (cd "$here" && rt "$2" "$1") 2>&1 </dev/null; echo "$?" >"$kept.status"; } | progress "$kept" "$(crates_below "$1" | wc -l)"
     built=$(cat "$kept.status")
     [ "$built" -eq 0 ] || tail -n 20 "$kept" >&2
     rm -f "$kept" "$kept.status"
     if [ "$built" -ne 0 ]; then
-        say "the program $1 could not be proved and built"
+        say "the $4 $1 could not be proved and built"
         exit 1
     fi
-    touch "$program"
+    touch "$3"
 }
 
-# Runs the program $1, which build_program built, with the arguments that follow; on Arm under the kit's emulator. A program has no status of its
-# own: what it says on standard error is a failure, status 1.
-run_program() {
-    program=$here/target/bin/$1
-    shift
+build_program() {
+    build "$1" check "$here/target/bin/$1" program
+}
+
+build_library() {
+    build "$1" staticlib "$here/target/staticlib/lib$1.a" library
+}
+
+# Finds the kit: its compiler and C library, $tools, and its emulator, which it has on Arm alone.
+find_tools() {
     kit=$(dirname "$(dirname "$(rt doc)")")
     tools=$kit/on/$(uname -m)/toolchain
     emulator=$tools/bin/qemu-x86_64
     [ -x "$emulator" ] || emulator=
+}
+
+# Runs a program that the kit linked, with the arguments that follow; on Arm under the kit's emulator.
+run_linked() {
+    find_tools
+    $emulator "$tools/lib/ld-linux-x86-64.so.2" --library-path "$tools/lib" "$@"
+}
+
+# Runs the program $1, which build_program built, with the arguments that follow. A program has no status of its own: what it says on standard error is a
+# failure, status 1.
+run_program() {
+    program=$here/target/bin/$1
+    shift
     said=$(mktemp) || exit 1
-    $emulator "$tools/lib/ld-linux-x86-64.so.2" --library-path "$tools/lib" "$program" "$@" 2>"$said"
+    run_linked "$program" "$@" 2>"$said"
     status=$?
     if [ -s "$said" ]; then
         cat "$said" >&2
@@ -85,6 +103,25 @@ run_program() {
     fi
     rm -f "$said"
     return "$status"
+}
+
+# Compiles the C file $1 by the kit's compiler, with the words that follow it, as the object $2. The kit has no C headers: those of tools/c stand for them.
+compile_c() {
+    find_tools
+    from=$1
+    to=$2
+    shift 2
+    "$tools/bin/clang" --target=x86_64-unknown-linux-gnu -O2 -fPIE -nostdinc -isystem "$here/tools/c" -I "$here/include" "$@" -c "$from" -o "$to"
+}
+
+# Links objects and libraries, from the second argument on, as the program $1, by the kit's linker and C library. Its words are shown if it fails.
+link_c() {
+    find_tools
+    to=$1
+    shift
+    linked=$("$kit/on/$(uname -m)/bin/rattle-link" --target x86_64-unknown-linux-gnu --toolchain "$tools" -o "$to" "$@" 2>&1) && return
+    echo "$linked" >&2
+    return 1
 }
 
 # Says in words what each frame of the session $1 asks, and what its answer in the file $2 says; with the number of a frame as $3, of that frame alone,

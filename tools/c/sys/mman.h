@@ -1,0 +1,14 @@
+/* Pages of memory, as the C library has them on x86-64 Linux. */
+#ifndef KIT_SYS_MMAN_H
+#define KIT_SYS_MMAN_H
+#include <stddef.h>
+#define PROT_NONE 0
+#define PROT_READ 1
+#define PROT_WRITE 2
+#define MAP_PRIVATE 2
+#define MAP_ANONYMOUS 32
+#define MAP_FAILED ((void *)-1)
+void *mmap(void *, size_t, int, int, int, long);
+int mprotect(void *, size_t, int);
+int munmap(void *, size_t);
+#endif
