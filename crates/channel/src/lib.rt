@@ -7,11 +7,14 @@ pub use units::accepts;
 pub use units::fresh;
 pub use units::has_request;
 pub use units::is_declared;
+pub use units::is_idle;
 pub use units::operation_of;
 pub use units::position_of;
 pub use units::turn_of;
+pub use units::unit_of;
 pub use units::with_turn;
 pub use units::with_unit;
+pub use units::worked_for;
 
 // How many units a channel has.
 pub const UNITS: usize = 10;

@@ -6,7 +6,7 @@ use crate::UNITS;
 use crate::Unit;
 use crate::Work;
 ghost use mathlib.Core.Path.{_≡_};
-ghost use Rattle.channel.specs.Units.{atStart, idleUnit, freshOf, isIdle, declaredAt, turnAt, positionAt, withUnit, withTurn, hasRequest, acceptsAt, workOf, operationAt};
+ghost use Rattle.channel.specs.Units.{atStart, idleUnit, freshOf, isIdle, unitAt, declaredAt, turnAt, positionAt, withUnit, withTurn, hasRequest, acceptsAt, workOf, operationAt};
 
 // The position at a fresh start: nothing was passed or met.
 fn at_start() -> Position
@@ -72,6 +72,17 @@ pub fn turn_of(c: Channel, unit: usize) -> Turn
     x.turn
 }
 
+// The unit of that number, an undeclared one past the last.
+pub fn unit_of(c: Channel, unit: usize) -> Unit
+    ensures { λ r. ⌜ r ≡ unitAt c unit ⌝ }
+{
+    if UNITS <= unit {
+        return idle_unit(false);
+    }
+    let x = c.units[unit];
+    x
+}
+
 // Where the unit's reel stands.
 pub fn position_of(c: Channel, unit: usize) -> Position
     ensures { λ r. ⌜ r ≡ positionAt c unit ⌝ }
@@ -83,7 +94,8 @@ pub fn position_of(c: Channel, unit: usize) -> Position
     x.position
 }
 
-fn is_idle(t: Turn) -> bool
+// Whether there is no request.
+pub fn is_idle(t: Turn) -> bool
     ensures { λ r. ⌜ r ≡ isIdle t ⌝ }
 {
     match t {
@@ -111,7 +123,8 @@ pub fn accepts(c: Channel, unit: usize) -> bool
     known & is_idle(t)
 }
 
-fn work(t: Turn) -> Work
+// The operation that is worked for, if one is.
+pub fn worked_for(t: Turn) -> Work
     ensures { λ r. ⌜ r ≡ workOf t ⌝ }
 {
     match t {
@@ -130,7 +143,7 @@ pub fn operation_of(c: Channel, unit: usize) -> Work
     ensures { λ r. ⌜ r ≡ operationAt c unit ⌝ }
 {
     let t = turn_of(c, unit);
-    work(t)
+    worked_for(t)
 }
 
 // The channel with another turn and another position at the unit.

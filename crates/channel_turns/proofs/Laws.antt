@@ -1,3 +1,4 @@
 pub mod Scans
 pub mod Starts
-pub mod Turns
+pub mod Masks
+pub mod Desks

@@ -1,29 +1,33 @@
-// Which unit comes first: the one that is worked for, the next with a priority request, the next with an ordinary one.
+// How a unit stands to the scans, and the scans of a channel's desk: which unit comes first of those that are worked for, that wait with a priority request
+// and that wait with an ordinary one.
+use crate::Desk;
 use crate::LAST;
 use area::Found;
-use channel::Channel;
 use channel::Turn;
 use channel::UNITS;
 ghost use mathlib.Core.Path.{_≡_};
+ghost use Prim.Native.Nat.{_<_};
+ghost use Rattle.area.specs.Lists.{numberOr};
 ghost use Rattle.channel.specs.Units.{unitCount};
-ghost use Rattle.channel_turns.specs.Scans.{waitingAs, standingOf, nextUnit, beginOf, scanFrom, workingIn, priorityIn, ordinaryIn, nextTurn, unitNumber};
+ghost use Rattle.channel_turns.specs.Scans.{waitingAs, standingOf, nextUnit, beginOf, unitNumber};
+ghost use Rattle.channel_turns.specs.Desks.{scanOf, workOn, urgedOn, nextOn};
 
 // How a unit stands to the scans.
-const ORDINARY: u8 = 1;
+pub const ORDINARY: u8 = 1;
 
-const PRIORITY: u8 = 2;
+pub const PRIORITY: u8 = 2;
 
-const WORKING: u8 = 3;
+pub const WORKING: u8 = 3;
 
 const NO_UNIT: u8 = 255;
 
-fn waiting_as(priority: bool) -> u8
+pub fn waiting_as(priority: bool) -> u8
     ensures { λ r. ⌜ r ≡ waitingAs priority ⌝ }
 {
     if priority { PRIORITY } else { ORDINARY }
 }
 
-fn standing(t: Turn) -> u8
+pub fn standing(t: Turn) -> u8
     ensures { λ r. ⌜ r ≡ standingOf t ⌝ }
 {
     match t {
@@ -49,19 +53,20 @@ fn begin(mark: u8) -> usize
     if at < UNITS { at } else { 0 }
 }
 
-// The first unit that stands so, of all of them from a mark on, wrapped after the last.
-fn scan(c: Channel, want: u8, mark: u8) -> Found
-    ensures { λ r. ⌜ r ≡ scanFrom c want mark ⌝ }
+// The first unit whose bit is set, of all of them from a mark on, wrapped after the last.
+fn scan(mask: u16, mark: u8) -> Found
+    ensures { λ r. ⌜ (r ≡ scanOf unitCount mask mark) × (numberOr r 0 < unitCount) ⌝ }
 {
+    if mask == 0 {
+        return Found::Nothing;
+    }
     let mut at = begin(mark);
     let mut left: usize = UNITS;
     let found = loop {
         if left == 0 {
             break Found::Nothing;
         }
-        let u = c.units[at];
-        let t = u.turn;
-        if standing(t) == want {
+        if (mask >> at) % 2 == 1 {
             break Found::At(at);
         }
         at = next_unit(at);
@@ -71,41 +76,35 @@ fn scan(c: Channel, want: u8, mark: u8) -> Found
 }
 
 // The unit that the channel works for.
-pub fn working_unit(c: Channel) -> Found
-    ensures { λ r. ⌜ r ≡ workingIn c ⌝ }
+pub fn work_on(d: Desk) -> Found
+    ensures { λ r. ⌜ (r ≡ workOn unitCount d) × (numberOr r 0 < unitCount) ⌝ }
 {
-    scan(c, WORKING, 0)
+    scan(d.working, 0)
 }
 
 // The first unit, from the channel's mark for them on, whose priority request waits.
-pub fn first_priority(c: Channel) -> Found
-    ensures { λ r. ⌜ r ≡ priorityIn c ⌝ }
+pub fn urged_on(d: Desk) -> Found
+    ensures { λ r. ⌜ (r ≡ urgedOn unitCount d) × (numberOr r 0 < unitCount) ⌝ }
 {
-    scan(c, PRIORITY, c.urgent)
+    scan(d.priority, d.urgent)
 }
 
-// The first unit, from the channel's mark for them on, whose ordinary request waits.
-fn first_ordinary(c: Channel) -> Found
-    ensures { λ r. ⌜ r ≡ ordinaryIn c ⌝ }
+// Whose turn it is on an idle channel: the first with a priority request, else the first, from the channel's mark for them on, with an ordinary one.
+pub fn next_on(d: Desk) -> Found
+    ensures { λ r. ⌜ (r ≡ nextOn unitCount d) × (numberOr r 0 < unitCount) ⌝ }
 {
-    scan(c, ORDINARY, c.mark)
-}
-
-// Whose turn it is on an idle channel.
-pub fn next_turn(c: Channel) -> Found
-    ensures { λ r. ⌜ r ≡ nextTurn c ⌝ }
-{
-    match first_priority(c) {
+    match urged_on(d) {
         Found::At(u) => Found::At(u),
-        Found::Nothing => first_ordinary(c),
+        Found::Nothing => scan(d.ordinary, d.mark),
     }
 }
 
-// The number of the unit that the channel works for, 255 for none.
-pub fn working_number(c: Channel) -> u8
-    ensures { λ r. ⌜ r ≡ unitNumber (workingIn c) ⌝ }
+// The number of the unit that was found, 255 for none.
+pub fn number_of(x: Found) -> u8
+    requires { ⌜ numberOr x 0 < unitCount ⌝ }
+    ensures { λ r. ⌜ r ≡ unitNumber x ⌝ }
 {
-    match working_unit(c) {
+    match x {
         Found::At(u) => u as u8,
         Found::Nothing => NO_UNIT,
     }

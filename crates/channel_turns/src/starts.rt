@@ -1,18 +1,21 @@
-// Starts: a channel that is idle and not frozen works for the request whose turn it is; a thaw, and an ask.
+// Starts: a channel that is idle and not frozen works for the request whose turn it is; a thaw, an ask, and the channel after a call's small change.
 use crate::Asked;
-use crate::scans::next_turn;
-use crate::scans::working_unit;
+use crate::Move;
+use crate::desks::desk_of;
+use crate::moves::ask_move;
+use crate::moves::start_on;
 use area::Found;
-use area::is_found;
 use channel::Channel;
 use channel::Op;
-use channel::Request;
 use channel::Turn;
 use channel::accepts;
 use channel::turn_of;
+use channel::unit_of;
 use channel::with_turn;
+use channel::with_unit;
 ghost use mathlib.Core.Path.{_≡_};
-ghost use Rattle.channel_turns.specs.Starts.{begunTurn, begunAt, startOf, thawOf, askOf};
+ghost use Rattle.channel_turns.specs.Starts.{begunTurn, begunAt, thawOf, askOf};
+ghost use Rattle.channel_turns.specs.Desks.{movedTo};
 
 fn begun_turn(t: Turn) -> Turn
     ensures { λ r. ⌜ r ≡ begunTurn t ⌝ }
@@ -39,46 +42,37 @@ fn begun(c: Channel, found: Found) -> Channel
     }
 }
 
-// A channel that is idle and not frozen works for the request whose turn it is, if any waits.
-pub fn start(c: Channel, frozen: bool) -> Channel
-    ensures { λ r. ⌜ r ≡ startOf c frozen ⌝ }
-{
-    let busy = is_found(working_unit(c));
-    if frozen | busy {
-        return c;
-    }
-    let turn = next_turn(c);
-    begun(c, turn)
-}
-
 // What a thaw does to a channel.
 pub fn thaw(c: Channel) -> Channel
     ensures { λ r. ⌜ r ≡ thawOf c ⌝ }
 {
-    start(c, false)
+    let d = desk_of(c);
+    let s = start_on(d, false);
+    let unit = s.unit;
+    begun(c, unit)
+}
+
+// The channel after what a call makes of its unit.
+pub fn moved_to(c: Channel, unit: usize, m: Move) -> Channel
+    ensures { λ r. ⌜ r ≡ movedTo c unit m ⌝ }
+{
+    let turn = m.turn;
+    let position = m.position;
+    let starts = m.starts;
+    let mut d = with_unit(c, unit, turn, position);
+    d.mark = m.mark;
+    d.urgent = m.urgent;
+    begun(d, starts)
 }
 
 // A request of the unit, accepted if it is declared and has none.
 pub fn ask(c: Channel, unit: usize, op: Op, priority: bool, frozen: bool) -> Asked
     ensures { λ r. ⌜ r ≡ askOf c unit op priority frozen ⌝ }
 {
-    if accepts(c, unit) {
-        let q = Request {
-            op,
-            priority,
-            attempts: 1,
-            incomplete: 0,
-            noise: 0,
-        };
-        let d = with_turn(c, unit, Turn::Waiting(q));
-        let e = start(d, frozen);
-        return Asked {
-            accepted: true,
-            channel: e,
-        };
-    }
-    Asked {
-        accepted: false,
-        channel: c,
-    }
+    let accepted = accepts(c, unit);
+    let x = unit_of(c, unit);
+    let d = desk_of(c);
+    let m = ask_move(x, unit, d, op, priority, frozen);
+    let channel = moved_to(c, unit, m);
+    Asked { accepted, channel }
 }

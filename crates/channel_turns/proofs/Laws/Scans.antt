@@ -1,18 +1,18 @@
 -- Laws of `nextUnit` and `beginOf`, over the number of units. Assumes nothing.
-use mathlib.Core.Path.{_≡_, ap, sym, _∙_}
+use mathlib.Core.Path.{_≡_}
 use mathlib.Core.Bool.{cond}
 use Prim.Native.Nat.{ℕ, _+_, _≤_, _<_}
 use native.Mathlib.Omega.{arith}
 use lib.Dec.{ltb}
 use borrow.Author.Tests.{lt-ltb, le-ltb, ltb-true}
 use Rattle.area.proofs.Walks.{by-test}
-use Rattle.area.specs.Lists.{firstAlong, along}
+use Rattle.area.specs.Lists.{along}
 use Rattle.area.proofs.Firsts.{first-finds}
 use Rattle.area.proofs.Scans.{along-keeps}
 use Rattle.area.specs.declared.Found.the-variants.{At}
 use Rattle.channel.specs.declared.Channel.{Channel}
 use Rattle.channel.specs.Units.{size}
-use Rattle.channel_turns.specs.Scans.{nextUnit, beginOf, stands, scanFrom, working, workingIn}
+use Rattle.channel_turns.specs.Scans.{nextUnit, beginOf, stands, scanFrom}
 
 pub next-up : (n u : ℕ) → u + 1 < n → nextUnit n u ≡ u + 1
 next-up n u h = rw (lt-ltb (u + 1) n h)
@@ -32,12 +32,6 @@ begin-zero n m h = rw (le-ltb m n h)
 pub begin-below : (n m : ℕ) → 0 < n → beginOf n m < n
 begin-below n m h = by-test (λ b. cond b m 0 < n) (ltb m n) (λ e. ltb-true m n e) (λ e. h)
 
--- a scan's first round: n units, from where it begins
-pub scan-of : (c : Channel) (want mark n : ℕ) → size c ≡ n → (at : ℕ) → at ≡ beginOf n mark → scanFrom c want mark ≡ firstAlong (nextUnit n) (stands c want) n at
-unfolding scanFrom
-scan-of c want mark n long at e =
-    ap (λ (k : ℕ). firstAlong (nextUnit k) (stands c want) k (beginOf k mark)) long ∙ ap (firstAlong (nextUnit n) (stands c want) n) (sym e)
-
 -- what a scan finds is a unit
 pub scan-below : (c : Channel) (want mark u : ℕ) → 0 < size c → scanFrom c want mark ≡ At u → u < size c
 unfolding scanFrom
@@ -47,7 +41,3 @@ scan-below c want mark u some e =
     let within : along (nextUnit n) (first .steps) (beginOf n mark) < n =
     along-keeps (λ v. v < n) (nextUnit n) (λ v h. next-below n v some) (first .steps) (beginOf n mark) (begin-below n mark some) in
     omega (arith, first .reached)
-
-pub working-below : (c : Channel) (u : ℕ) → 0 < size c → workingIn c ≡ At u → u < size c
-unfolding workingIn
-working-below c u some e = scan-below c working 0 u some e

@@ -24,7 +24,3 @@ module _ (c : Channel) (u : ℕ) (op : Op) (priority frozen taken : Bool) (known
   pub ask-taken : taken ≡ true → askOf c u op priority frozen ≡ record { accepted = true; channel = startOf (withTurn c u (Waiting (newRequest op priority))) frozen }
   unfolding askOf
   ask-taken h = rw (← known, h)
-
-  pub ask-refused : taken ≡ false → askOf c u op priority frozen ≡ record { accepted = false; channel = c }
-  unfolding askOf
-  ask-refused h = rw (← known, h)

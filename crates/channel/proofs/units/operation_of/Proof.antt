@@ -8,12 +8,12 @@ use Rattle.channel.proofs.units.operation_of.Tie as tie
 turn-of-requires : tie.Need-turn-of-requires
 turn-of-requires c κs = search needs
 
-work-requires : tie.Need-work-requires
-work-requires c κs = search needs
+worked-for-requires : tie.Need-worked-for-requires
+worked-for-requires c κs = search needs
 
 returns : tie.Need-returns
 unfolding operationAt
-returns c = rw (c .work .ensures, c .before .turn-of .ensures)
+returns c = rw (c .worked-for .ensures, c .before .turn-of .ensures)
 
 pub operation-of-spec : {M : Type 1} → statement M
-operation-of-spec = tie.close (tie.spec turn-of-requires work-requires returns)
+operation-of-spec = tie.close (tie.spec turn-of-requires worked-for-requires returns)

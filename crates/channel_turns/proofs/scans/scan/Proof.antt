@@ -1,46 +1,41 @@
--- `scan` meets its contract: what is left of the scan gives the answer of the whole.
--- Assumes nothing.
-use borrow.Author.Needs.{needs}
+-- `scan` meets its contract: what is left of the scan gives the answer of the whole. Assumes nothing.
 use mathlib.Core.Path.{_≡_, sym, _∙_, ap}
-use mathlib.Core.Bool.{true, false}
 use Prim.Native.Nat.{ℕ, _≤_, _<_, _-_}
 use native.Mathlib.Omega.{arith}
-use lib.Dec.{eqb}
-use lib.ListN.{length-map}
+use borrow.Author.Needs.{needs}
 use borrow.Author.Tests.{eq-eqb, ne-eqb}
 use Rattle.area.specs.Lists.{firstAlong}
+use Rattle.area.specs.Masks.{bitAt}
 use Rattle.area.proofs.Firsts.{first-stop, first-go, first-none}
 use Rattle.channel.specs.Units.{unitCount}
-use Rattle.channel_turns.specs.Scans.{nextUnit, stands, scanFrom}
-use Rattle.channel_turns.proofs.Laws.Scans.{next-below, begin-below, scan-of}
+use Rattle.channel_turns.specs.Scans.{nextUnit}
+use Rattle.channel_turns.specs.Desks.{scanOf}
+use Rattle.channel_turns.proofs.Laws.Scans.{next-below, begin-below}
+use Rattle.channel_turns.proofs.Laws.Masks.{scan-none, scan-starts}
 use Rattle.channel_turns.proofs.scans.scan.Statement.{statement}
 use Rattle.channel_turns.proofs.scans.scan.Tie as tie
 
 abbrev Inv-loop : tie.InvT-loop
-Inv-loop want mark c at₀ left₀ at left =
-    (at < unitCount) × (left ≤ unitCount) × (scanFrom c want mark ≡ firstAlong (nextUnit unitCount) (stands c want) left at)
+Inv-loop mask mark at₀ left₀ at left =
+    (at < unitCount) × (left ≤ unitCount) × (scanOf unitCount mask mark ≡ firstAlong (nextUnit unitCount) (bitAt mask) left at)
 
 abbrev μ-loop : tie.MeasureT-loop
-μ-loop want mark c at₀ left₀ at left = left
+μ-loop mask mark at₀ left₀ at left = left
+
+returns : tie.Need-returns Inv-loop μ-loop
+returns c = (sym (ap (λ (m : ℕ). scanOf unitCount m (c .before .args .mark)) (c .if1 .taken) ∙ scan-none unitCount (c .before .args .mark)), omega arith)
 
 begin-requires : tie.Need-begin-requires Inv-loop μ-loop
 begin-requires c κs = search needs
 
 loop-holds : tie.Need-loop-holds Inv-loop μ-loop
-loop-holds c = let long = sym (length-map (c .before .args .t1 .units) _) ∙ c .before .good .0 .1 .1 .0 .1 .0 .1 in (
-  omega (arith, c .begin .ensures, begin-below unitCount (c .before .args .mark) (omega arith)),
-  omega arith,
-  scan-of _ _ _ unitCount long _ (c .begin .ensures),
-)
+loop-holds c = (omega (arith, c .begin .ensures, begin-below unitCount (c .before .before .args .mark) (omega arith)), omega arith, scan-starts unitCount (c .before .before .args .mask) (c .before .before .args .mark) _ (c .begin .ensures))
 
-mul-u : tie.Need-mul-u Inv-loop μ-loop
-mul-u c = omega arith
+cast-if3 : tie.Need-cast-if3 Inv-loop μ-loop
+cast-if3 c = search needs
 
-element-copy-out-u : tie.Need-element-copy-out-u Inv-loop μ-loop
-element-copy-out-u c = omega arith
-
-standing-requires : tie.Need-standing-requires Inv-loop μ-loop
-standing-requires c κs = search needs
+shr-if3 : tie.Need-shr-if3 Inv-loop μ-loop
+shr-if3 c = omega arith
 
 next-unit-requires : tie.Need-next-unit-requires Inv-loop μ-loop
 next-unit-requires c κs = search needs
@@ -52,23 +47,13 @@ loop-less : tie.Need-loop-less Inv-loop μ-loop
 loop-less c = omega arith
 
 loop-again : tie.Need-loop-again Inv-loop μ-loop
-loop-again c =
-    let t : stands (c .before .before .before .before .before .before .before .args .t1) (c .before .before .before .before .before .before .before .args .want) (c .before .before .before .before .before .loop .at) ≡ false =
-    ap (λ (n : ℕ). eqb n (c .before .before .before .before .before .before .before .args .want)) (sym (c .before .before .standing .ensures)) ∙ ne-eqb _ _ (c .before .if2 .left) in (
-      omega (arith, c .next-unit .ensures, next-below unitCount (c .before .before .before .before .before .loop .at) (omega arith)),
-      omega arith,
-      c .before .before .before .before .before .loop .inv .2 ∙ first-go (nextUnit unitCount) (stands (c .before .before .before .before .before .before .before .args .t1) (c .before .before .before .before .before .before .before .args .want)) (c .before .before .before .before .before .loop .left) (c .before .before .before .before .before .loop .at) (omega arith) t
-          ∙ ap (firstAlong (nextUnit unitCount) (stands (c .before .before .before .before .before .before .before .args .t1) (c .before .before .before .before .before .before .before .args .want)) (c .before .before .before .before .before .loop .left - 1)) (sym (c .next-unit .ensures)),
-    )
-
-returns : tie.Need-returns Inv-loop μ-loop
-returns c = sym (c .before .loop .inv .2 ∙ ap (λ (n : ℕ). firstAlong (nextUnit unitCount) (stands (c .before .before .before .args .t1) (c .before .before .before .args .want)) n (c .before .loop .at)) (c .if1 .taken) ∙ first-none _ _ _)
+loop-again c = (omega (arith, c .next-unit .ensures, next-below unitCount (c .before .before .before .loop .at) (omega arith)), omega arith, c .before .before .before .loop .inv .2 ∙ first-go (nextUnit unitCount) (bitAt (c .before .before .before .before .before .before .args .mask)) (c .before .before .before .loop .left) (c .before .before .before .loop .at) (omega arith) (ne-eqb _ _ (c .before .if3 .left)) ∙ ap (firstAlong (nextUnit unitCount) (bitAt (c .before .before .before .before .before .before .args .mask)) (c .before .before .before .loop .left - 1)) (sym (c .next-unit .ensures)))
 
 returns-2 : tie.Need-returns-2 Inv-loop μ-loop
-returns-2 c =
-    let t : stands (c .before .before .before .before .before .before .args .t1) (c .before .before .before .before .before .before .args .want) (c .before .before .before .before .loop .at) ≡ true =
-    ap (λ (n : ℕ). eqb n (c .before .before .before .before .before .before .args .want)) (sym (c .before .standing .ensures)) ∙ eq-eqb _ _ (c .if2 .taken) in
-    sym (c .before .before .before .before .loop .inv .2 ∙ first-stop (nextUnit unitCount) (stands (c .before .before .before .before .before .before .args .t1) (c .before .before .before .before .before .before .args .want)) (c .before .before .before .before .loop .left) (c .before .before .before .before .loop .at) (omega arith) t)
+returns-2 c = (sym (c .before .loop .inv .2 ∙ ap (λ (n : ℕ). firstAlong (nextUnit unitCount) (bitAt (c .before .before .before .before .args .mask)) n (c .before .loop .at)) (c .if2 .taken) ∙ first-none _ _ _), omega arith)
+
+returns-3 : tie.Need-returns-3 Inv-loop μ-loop
+returns-3 c = (sym (c .before .before .loop .inv .2 ∙ first-stop (nextUnit unitCount) (bitAt (c .before .before .before .before .before .args .mask)) (c .before .before .loop .left) (c .before .before .loop .at) (omega arith) (eq-eqb _ _ (c .if3 .taken))), c .before .before .loop .inv .0)
 
 pub scan-spec : {M : Type 1} → statement M
 scan-spec =
@@ -76,14 +61,14 @@ scan-spec =
     (tie.spec
     Inv-loop
     μ-loop
+    returns
     begin-requires
     loop-holds
-    mul-u
-    element-copy-out-u
-    standing-requires
+    cast-if3
+    shr-if3
     next-unit-requires
     sub-left
     loop-less
     loop-again
-    returns
-    returns-2)
+    returns-2
+    returns-3)

@@ -1,10 +1,9 @@
--- `channel_turns::ask` meets its contract: the two cases of the definition.
--- Assumes nothing.
-use mathlib.Core.Path.{sym, ap, _∙_}
-use mathlib.Core.Bool.{true}
-use Rattle.channel.specs.declared.Channel.{Channel}
-use Rattle.channel_turns.specs.Starts.{startOf}
-use Rattle.channel_turns.proofs.Laws.Starts.{ask-taken, ask-refused}
+-- `channel_turns::ask` meets its contract: an ask of a channel is the small change of its unit. Assumes nothing.
+use mathlib.Core.Path.{sym, _∙_}
+use native.Mathlib.Omega.{arith}
+use lib.ListN.{length-map}
+use Rattle.channel.specs.Units.{unitCount}
+use Rattle.channel_turns.proofs.Laws.Desks.{n-asks}
 use borrow.Author.Needs.{needs}
 use Rattle.channel_turns.proofs.starts.ask.Statement.{statement}
 use Rattle.channel_turns.proofs.starts.ask.Tie as tie
@@ -12,20 +11,28 @@ use Rattle.channel_turns.proofs.starts.ask.Tie as tie
 accepts-requires : tie.Need-accepts-requires
 accepts-requires c κs = search needs
 
-with-turn-requires : tie.Need-with-turn-requires
-with-turn-requires c κs = search needs
+unit-of-requires : tie.Need-unit-of-requires
+unit-of-requires c κs = search needs
 
-start-requires : tie.Need-start-requires
-start-requires c κs = search needs
+desk-of-requires : tie.Need-desk-of-requires
+desk-of-requires c κs = search needs
+
+ask-move-requires : tie.Need-ask-move-requires
+ask-move-requires c κs = search needs
+
+moved-to-requires : tie.Need-moved-to-requires
+moved-to-requires c κs = search needs
 
 returns : tie.Need-returns
-returns c =
-    ap (λ (d : Channel). record { accepted = true; channel = d }) (c .start .ensures ∙ ap (λ (d : Channel). startOf d (c .before .before .before .before .args .frozen)) (c .before .with-turn .ensures))
-    ∙ sym (ask-taken _ _ _ _ _ _ (c .before .before .before .accepts .ensures) (c .before .before .if1 .taken))
-
-returns-2 : tie.Need-returns-2
-returns-2 c = sym (ask-refused _ _ _ _ _ _ (c .before .accepts .ensures) (c .if1 .left))
+returns c = let long = sym (length-map (c .before .before .before .before .before .args .c .units) _) ∙ c .before .before .before .before .before .good .0 .1 .1 .0 .1 .0 .1 in rw (c .moved-to .ensures, c .before .ask-move .ensures, c .before .before .desk-of .ensures, c .before .before .before .unit-of .ensures, c .before .before .before .before .accepts .ensures) (n-asks (c .before .before .before .before .before .args .c) unitCount long (omega arith) (omega arith) _ _ _ _)
 
 pub ask-spec : {M : Type 1} → statement M
 ask-spec =
-    tie.close (tie.spec accepts-requires with-turn-requires start-requires returns returns-2)
+    tie.close
+    (tie.spec
+    accepts-requires
+    unit-of-requires
+    desk-of-requires
+    ask-move-requires
+    moved-to-requires
+    returns)

@@ -1,5 +1,4 @@
--- `channel_turns::report` meets its contract: its definition, of what its two callees ensure.
--- Assumes nothing.
+-- `channel_turns::report` meets its contract: its definition, of what its callees ensure. Assumes nothing.
 use Rattle.channel_turns.specs.Turns.{reportOf}
 use borrow.Author.Needs.{needs}
 use Rattle.channel_turns.proofs.turns.report.Statement.{statement}
