@@ -29,7 +29,7 @@ use Rattle.pack_start.specs.declared.Masks.{Masks}
 use Rattle.call_request.specs.Ask.{isPriority}
 use Rattle.pack.specs.Calls.{Call, fresh, opening, close, ask, report, get, skip, return, got, answerOf}
 use Rattle.pack.specs.Histories.{Lent, answerTo, after, count, freshStart, declaredOn}
-use Rattle.pack.specs.Histories.{isRepeat}
+use Rattle.pack.specs.Histories.{isRepeat, isAnswer}
 use Rattle.pack.specs.Books.{Book, Opened, toldResult, blankBook, bookedAt, bookAfter, openedAfter}
 use Rattle.pack.proofs.Kept.{Good, good-before, start-judged, good-start, history-kept}
 use Rattle.demands_ledger.specs.Ledgers.{Item, Choice, Ledger, blankLedger, toldDelivery, isOn, noted, stateAfter, areaAfter, ledgerAfter}
@@ -53,7 +53,7 @@ use Rattle.demands.proofs.Blocks.{ledger-writes, ledger-closed, ledger-
 use Rattle.demands.proofs.Results.{reported-results, refused-forbids, reel-stands}
 use Rattle.demands.proofs.Marks.{asked-marks}
 use Rattle.demands.proofs.Turns.{call-turns, report-continues, ask-tells, report-tells, ask-single, report-idle}
-use Rattle.demands.specs.Routines.{Roster, blankRoster, rosteredAt, rosterAfter, makesDue, Schedules, Returns, GivesBack, turnsAfter, countDue, Once}
+use Rattle.demands.specs.Routines.{Roster, blankRoster, rosteredAt, rosterAfter, Schedules, Returns, GivesBack, turnsAfter, countDue, Once}
 use Rattle.demands.proofs.Rosters.{Noted, noted-start, noted-before, noted-after}
 use Rattle.demands.proofs.Scheduling.{ask-held, ask-free, at-schedules, at-back, call-returns}
 use Rattle.demands.proofs.Entering.{reversed, entered-once}
@@ -103,6 +103,22 @@ demand2-routines-before calls x =
 pub demand2-returns-before : (calls : List Lent) (area : List ℕ) → Returns (after beforeStart calls) area
 demand2-returns-before calls area =
     call-returns (after beforeStart calls) area (history-kept beforeStart calls good-before) _ (noted-after beforeStart blankRoster calls good-before noted-before)
+
+pub demand2-returned-before : (calls : List Lent) (area : List ℕ) → answerOf (after beforeStart calls) area return .refusal ≡ 0
+    → GivesBack (answerOf (after beforeStart calls) area return) (rosterAfter beforeStart blankRoster calls)
+    (rosteredAt (after beforeStart calls) (record { call = return; area = area }) (rosterAfter beforeStart blankRoster calls))
+demand2-returned-before calls area =
+    at-back (after beforeStart calls) area (history-kept beforeStart calls good-before) _ (noted-after beforeStart blankRoster calls good-before noted-before)
+
+pub demand2-once-before : (calls : List Lent) (c u outcome len : ℕ) (words area : List ℕ) (d : routines.Due) → isDue d ≡ true → rosterAfter beforeStart blankRoster calls .names c u ≡ d
+    → answerOf (after beforeStart calls) area (report c u outcome len words) .refusal ≡ 0
+    → isAnswer (answerOf (after beforeStart calls) area (report c u outcome len words) .added) ≡ true
+    → (later : List Lent) → count freshStart (answerOf (after beforeStart calls) area (report c u outcome len words) .state) later ≡ 0
+    → countDue c u (answerOf (after beforeStart calls) area (report c u outcome len words) .state)
+    (rosteredAt (after beforeStart calls) (record { call = report c u outcome len words; area = area }) (rosterAfter beforeStart blankRoster calls)) later ≡ 0
+    → Once c u d (after beforeStart calls) (rosterAfter beforeStart blankRoster calls) (record { call = report c u outcome len words; area = area }) later
+demand2-once-before calls c u outcome len words area d =
+    entered-once (after beforeStart calls) _ (history-kept beforeStart calls good-before) (noted-after beforeStart blankRoster calls good-before noted-before) c u outcome len words area d
 
 pub demand2-reversed-before : (calls : List Lent) → Reversed [] (turnsAfter beforeStart calls) (rosterAfter beforeStart blankRoster calls .list)
 demand2-reversed-before calls = reversed beforeStart blankRoster calls good-before noted-before
@@ -190,7 +206,7 @@ module _ (s₀ : State) (area₀ : List ℕ) (m w : ℕ) (masks : Masks) (starte
   -- "A due routine is entered once.": of a report that answers a request which names the routine d, after any calls, and any calls after it
   pub demand2-once : (calls : List Lent) (c u outcome len : ℕ) (words area : List ℕ) (d : routines.Due) → isDue d ≡ true → rosterThen calls .names c u ≡ d
       → answerOf (after start calls) area (report c u outcome len words) .refusal ≡ 0
-      → makesDue (rosterThen calls) c u (answerOf (after start calls) area (report c u outcome len words)) ≡ true
+      → isAnswer (answerOf (after start calls) area (report c u outcome len words) .added) ≡ true
       → (later : List Lent) → count freshStart (answerOf (after start calls) area (report c u outcome len words) .state) later ≡ 0
       → countDue c u (answerOf (after start calls) area (report c u outcome len words) .state) (rosterWith calls (record { call = report c u outcome len words; area = area })) later ≡ 0
       → Once c u d (after start calls) (rosterThen calls) (record { call = report c u outcome len words; area = area }) later

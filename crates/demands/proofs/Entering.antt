@@ -9,14 +9,14 @@ use native.Mathlib.Omega.{arith}
 use borrow.Author.Tests.{eqb-true, eq-eqb, ne-eqb, lt-ltb}
 use lib.Dec.{eqb}
 use Rattle.area.specs.Lists.{oneIf}
-use Rattle.area.proofs.Walks.{by-test, true-not-false, and-left, and-right}
+use Rattle.area.proofs.Walks.{by-test, true-not-false, and-left, and-right, and-both}
 use Rattle.routines.specs.declared.Due.{Due}
 use Rattle.routines.specs.declared.Program.{Program}
 use Rattle.routines.specs.Ranks.{nothingDue, isDue, waitingAt}
 use Rattle.routines_theorems.specs.History.{isProgram, Turn, Reversed, done, interrupts, resumes, drops}
 use Rattle.state.specs.declared.State.{State}
 use Rattle.pack.specs.Calls.{Call, fresh, opening, close, ask, report, get, put, seal, skip, freeze, thaw, return, running, Answer, answerOf}
-use Rattle.pack.specs.Histories.{Lent, answerTo, isAccepted, ofFresh, count, freshStart}
+use Rattle.pack.specs.Histories.{Lent, answerTo, isAccepted, isAnswer, ofFresh, count, freshStart}
 use Rattle.pack.proofs.Kept.{Good, call-kept}
 use Rattle.demands.specs.Entries.{First}
 use Rattle.demands.specs.Routines.{runsIn, toldEntry, another, enteredBy, Roster, withDue, withLook, withReturn, makesDue, readied, rostered, rosteredAt, rosterAfter, turnOfLook, turnOfReturn, turnsBy, turnsAt, turnsAfter, makesDueAt, countDue, isOne, entersIt, Once}
@@ -284,9 +284,12 @@ module _ (c u : ℕ) (d : Due) (due : isDue d ≡ true) where
 -- ---- from the call that makes it due on
 
 module _ (s : State) (r : Roster) (g : Good s) (N : Noted s r) (c u outcome len : ℕ) (words area : List ℕ) (d : Due) (due : isDue d ≡ true) (named : r .names c u ≡ d)
-    (z : answerOf s area (report c u outcome len words) .refusal ≡ 0) (makes : makesDue r c u (answerOf s area (report c u outcome len words)) ≡ true) where
+    (z : answerOf s area (report c u outcome len words) .refusal ≡ 0) (answers : isAnswer (answerOf s area (report c u outcome len words) .added) ≡ true) where
   abbrev made : Lent
   made = record { call = report c u outcome len words; area = area }
+
+  makes : makesDue r c u (answerOf s area (report c u outcome len words)) ≡ true
+  makes = and-both (isAnswer (answerOf s area (report c u outcome len words) .added)) _ answers (ap isDue named ∙ due)
 
   -- it is what may be entered at its unit
   now-due : readied s (report c u outcome len words) (answerOf s area (report c u outcome len words)) r .waits c u ≡ d
