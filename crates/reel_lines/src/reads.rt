@@ -140,6 +140,8 @@ fn given(run: Run, a: AnyAnswer, area: &[u64], out: &mut [u8], o: Options) -> Ru
             delivery,
             working,
         } => run,
+        Adds::Returned { entered, program } => run,
+        Adds::Runs(program) => run,
     }
 }
 
@@ -161,6 +163,8 @@ fn is_last(a: AnyAnswer) -> bool {
             delivery,
             working,
         } => true,
+        Adds::Returned { entered, program } => true,
+        Adds::Runs(program) => true,
     }
 }
 
