@@ -64,10 +64,10 @@ function isFrame(s,    n, kind) {
     kind = byte(s, 0)
     if (kind == 0) return n == 14
     if (kind == 1) return n == 9
-    if (kind == 3) return n == 4
+    if (kind == 3) return n == 4 || n == 6
     if (kind == 4) return n >= 4 && (n - headOf(n)) % 5 == 0 && (headOf(n) == 4 || byte(s, 3) == 1)
     if (kind == 6) return n >= 2 && (n - 2) % 5 == 0
-    if (kind == 9 || kind == 10) return n == 1
+    if (kind >= 9 && kind <= 12) return n == 1
     return kind <= 8 && n == 2
 }
 
@@ -78,13 +78,13 @@ function frameText(s,    kind, n) {
     if (kind == 0) return "fresh start: " many(byte(s, 1), "buffer", "buffers") " of " many(size(s, 2), "word", "words") "; " declared(s)
     if (kind == 1) return "open file " byte(s, 1) " on channel " byte(s, 2) ", unit " byte(s, 3) ": " flagsText(byte(s, 4)) "; blocks of " many(size(s, 5), "word", "words") ", records of " size(s, 7)
     if (kind == 2) return "close file " byte(s, 1)
-    if (kind == 3) return "ask of file " byte(s, 1) ": " named(byte(s, 2), "read|write|mark", "operation") ", " named(byte(s, 3), "ordinary|priority", "priority")
+    if (kind == 3) return "ask of file " byte(s, 1) ": " named(byte(s, 2), "read|write|mark", "operation") ", " named(byte(s, 3), "ordinary|priority", "priority") (n > 4 ? ", naming routine " byte(s, 4) " with priority " byte(s, 5) : "")
     if (kind == 4) return "report of channel " byte(s, 1) ", unit " byte(s, 2) ": " named(byte(s, 3), "good|redundancy|incomplete word|file mark|end of medium", "outcome") (headOf(n) > 4 ? ", a length of " many(size(s, 4), "word", "words") : "") (n > headOf(n) ? ", with " wordsFrom(s, headOf(n)) : "")
     if (kind == 5) return "get from file " byte(s, 1)
     if (kind == 6) return "put to file " byte(s, 1) ": " wordsFrom(s, 2)
     if (kind == 7) return "seal file " byte(s, 1)
     if (kind == 8) return "skip a block of file " byte(s, 1)
-    return kind == 9 ? "freeze" : "thaw"
+    return named(kind - 9, "freeze|thaw|return of the routine that runs|what runs", "kind")
 }
 
 # ---- answers
@@ -105,17 +105,21 @@ function refusal(n, frame) {
     if (n == 5) return "the file is not open"
     if (n == 6) return "wrong direction: read, get, skip on an output file; write, mark, put, seal on an input file"
     if (n == 7) return "fewer free buffers than the one or two asked for"
-    if (n == 8) return "the file's unit has an unanswered request"
+    if (n == 8) return "the file's unit has an unanswered request" (byte(frame, 0) == 3 ? ", or a routine waits there" : "")
     if (n == 9) return noBuffer(frame)
     if (n == 10) return "a file mark has been read since the open"
     if (n == 11) return "the channel is not working for that unit"
     if (n == 12) return "the outcome is not allowed for the operation"
     if (n == 13) return "a size does not fit"
     if (n == 15) return "an output buffer is part-filled or full"
+    if (n == 18) return "no routine runs"
     return "no refusal of the table"
 }
 
 function worksFor(u) { return u == 255 ? "the channel works for nobody now" : "the channel works for unit " u }
+
+# The program that runs, three bytes from `at` on: channel, unit and number of a routine, 255 each for the main program.
+function runsText(s, at) { return byte(s, at) == 255 && byte(s, at + 1) == 255 ? "the main program runs" : "routine " byte(s, at + 2) " of channel " byte(s, at) ", unit " byte(s, at + 1) " runs" }
 
 function errorText(e) { return e == 0 ? "no check error" : named(e, "|a sequence error|a check sum error|a sequence and a check sum error|a permanent redundancy||||||a permanent incomplete word", "check error") }
 
@@ -146,6 +150,8 @@ function answerText(frame, s,    n, kind, result, found) {
         if (n != 2) return ""
         return byte(s, 1) == 1 ? "nothing yet" : byte(s, 1) == 2 ? "end" : ""
     }
+    if (kind == 11) return n == 5 && byte(s, 1) < 2 ? (byte(s, 1) ? "a waiting routine is entered; " : "the interrupted program resumes; ") runsText(s, 2) : ""
+    if (kind == 12) return n == 4 ? runsText(s, 1) : ""
     return n == 1 ? "done" : ""
 }
 

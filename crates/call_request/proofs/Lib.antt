@@ -1,2 +1,3 @@
 pub mod AskFound
 pub mod Found
+pub mod NamedLaws

@@ -13,6 +13,8 @@ use Rattle.channel_turns.specs.Starts.{askOf}
 use Rattle.file.specs.declared.File.{File}
 use Rattle.file_input.specs.Delivers.{hasEmpty, hasFull, tookBuffer}
 use Rattle.file_output.specs.Sends.{hasUnsent}
+use Rattle.routines.specs.declared.Naming.{Naming}
+use Rattle.routines.specs.Posts.{namingWrong}
 use Rattle.call_request.specs.declared.AskChange.{AskChange}
 
 -- "03 file operation(0 read, 1 write, 2 mark) priority(0/1)"
@@ -31,18 +33,19 @@ opOf op = cond (isReading op) Read (cond (isWriting op) Write Mark)
 abbrev pub isPriority : ℕ → Bool
 isPriority priority = eqb priority 1
 
--- ---- its rows of the table, for the file f on the channel c; `wrong` is what row 1 says of the state and of the file's number
+-- ---- its rows of the table, for the file f on the channel c, with the routine that it names; `wrong` is what row 1 says of the state and of the file's
+-- number, and `waits` whether a routine waits at the file's unit
 
-abbrev pub askRows : Bool → File → Channel → ℕ → ℕ → Rows
-askRows wrong f c op priority =
-    -- "an argument is outside its range .. a state passed back is unsound"
-    (1, wrong || (ltb 2 op || ltb 1 priority)) ∷
+abbrev pub askRows : Bool → File → Channel → ℕ → ℕ → Naming → Bool → Rows
+askRows wrong f c op priority naming waits =
+    -- "an argument is outside its range .. a state passed back is unsound"; "a priority 0 to 4" of a routine (document 02, M-110)
+    (1, wrong || (ltb 2 op || (ltb 1 priority || namingWrong naming))) ∷
     -- "file not open"
     (5, not (f .opened)) ∷
     -- "wrong direction: read .. on an output file; write, mark .. on an input file"
     (6, (isReading op && f .output) || ((isWriting op || isMarking op) && not (f .output))) ∷
-    -- "ask ..: the file's unit has an unanswered request"
-    (8, hasRequest c (f .unit)) ∷
+    -- "ask ..: the file's unit has an unanswered request"; "A unit whose routine waits refuses a new ask with 8"
+    (8, hasRequest c (f .unit) || waits) ∷
     -- "ask read: no empty buffer. Ask write ..: no full buffer."
     (9, (isReading op && not (hasEmpty f)) || (isWriting op && not (hasFull f))) ∷
     -- "ask read: a file mark has been read since the open"
@@ -51,8 +54,8 @@ askRows wrong f c op priority =
     (15, isMarking op && hasUnsent f) ∷
     []
 
-unfoldable pub askRefusal : Bool → File → Channel → ℕ → ℕ → ℕ
-askRefusal wrong f c op priority = lowest (askRows wrong f c op priority)
+unfoldable pub askRefusal : Bool → File → Channel → ℕ → ℕ → Naming → Bool → ℕ
+askRefusal wrong f c op priority naming waits = lowest (askRows wrong f c op priority naming waits)
 
 -- ---- its effect
 
@@ -65,9 +68,9 @@ unfoldable pub askedChannel : File → Channel → ℕ → ℕ → Bool → Chan
 askedChannel f c op priority frozen = askOf c (f .unit) (opOf op) (isPriority priority) frozen .channel
 
 -- "ask adds the channel's working unit, FF for none"
-unfoldable pub askOn : Bool → File → Channel → ℕ → ℕ → Bool → AskChange
-askOn wrong f c op priority frozen =
-    let refusal = askRefusal wrong f c op priority in
+unfoldable pub askOn : Bool → File → Channel → ℕ → ℕ → Naming → Bool → Bool → AskChange
+askOn wrong f c op priority naming waits frozen =
+    let refusal = askRefusal wrong f c op priority naming waits in
     let after = askedChannel f c op priority frozen in
     cond (eqb refusal 0)
     (record { refusal = 0; working = unitNumber (workingIn after); file = askedFile op f; channel = after })

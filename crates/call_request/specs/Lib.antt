@@ -1,3 +1,4 @@
 pub mod Ask
 pub mod Effects
+pub mod Named
 pub mod Report

@@ -10,6 +10,8 @@ use file_input::has_empty;
 use file_input::has_full;
 use file_input::took_buffer;
 use file_output::has_unsent;
+use routines::Naming;
+use routines::naming_wrong;
 ghost use mathlib.Core.Path.{_≡_};
 ghost use Rattle.call_request.specs.Ask.{opOf, askRefusal, askedFile, askedChannel, askOn};
 
@@ -32,20 +34,30 @@ fn op_of(op: u8) -> Op
     Op::Mark
 }
 
-// The refusal of an ask, 0 for none. `wrong` is what the caller found of row 1.
-fn ask_refusal(wrong: bool, f: File, c: Channel, op: u8, priority: u8) -> u8
-    ensures { λ r. ⌜ r ≡ askRefusal wrong f c op priority ⌝ }
+// The refusal of an ask, 0 for none. `wrong` is what the caller found of row 1, `waits` whether a routine waits at the file's unit.
+fn ask_refusal(
+    wrong: bool,
+    f: File,
+    c: Channel,
+    op: u8,
+    priority: u8,
+    naming: Naming,
+    waits: bool,
+) -> u8
+    ensures { λ r. ⌜ r ≡ askRefusal wrong f c op priority naming waits ⌝ }
 {
-    let c8 = has_request(c, f.unit as usize);
+    let busy = has_request(c, f.unit as usize);
     let empty = has_empty(f);
     let full = has_full(f);
     let unsent = has_unsent(f);
+    let off = naming_wrong(naming);
     let read = op == READ;
     let write = op == WRITE;
     let mark = op == MARK;
-    let c1 = wrong | ((MARK < op) | (1 < priority));
+    let c1 = wrong | ((MARK < op) | ((1 < priority) | off));
     let c5 = !f.opened;
     let c6 = (read & f.output) | ((write | mark) & !f.output);
+    let c8 = busy | waits;
     let c9 = (read & !empty) | (write & !full);
     let c10 = read & f.marked;
     let c15 = mark & unsent;
@@ -79,11 +91,21 @@ fn asked_channel(f: File, c: Channel, op: u8, priority: u8, frozen: bool) -> Cha
     a.channel
 }
 
-// An ask of the file f, which is open on the channel c. `wrong` says that its number or the state that it comes from is refused 1.
-pub fn ask_on(wrong: bool, f: File, c: Channel, op: u8, priority: u8, frozen: bool) -> AskChange
-    ensures { λ r. ⌜ r ≡ askOn wrong f c op priority frozen ⌝ }
+// An ask of the file f, which is open on the channel c, and the routine that it names. `wrong` says that its number or the state that it comes from is
+// refused 1, `waits` that a routine waits at the file's unit.
+pub fn ask_on(
+    wrong: bool,
+    f: File,
+    c: Channel,
+    op: u8,
+    priority: u8,
+    naming: Naming,
+    waits: bool,
+    frozen: bool,
+) -> AskChange
+    ensures { λ r. ⌜ r ≡ askOn wrong f c op priority naming waits frozen ⌝ }
 {
-    let refusal = ask_refusal(wrong, f, c, op, priority);
+    let refusal = ask_refusal(wrong, f, c, op, priority, naming, waits);
     if refusal != 0 {
         return AskChange {
             refusal,

@@ -1,13 +1,17 @@
 // Ask and report on the one file and the one channel that they concern: their rows of the refusal table, the words that a report brings or hands
-// out, and what changes. It knows nothing of states.
+// out, and what changes, the routines too. It knows nothing of states.
 mod asks;
 mod blocks;
 mod effects;
+mod named;
 mod reports;
 
 pub use asks::ask_on;
 use channel::Channel;
 use file::File;
+pub use named::answers_request;
+pub use named::asked_routines;
+pub use named::reported_routines;
 pub use reports::report_on;
 use word::Checked;
 

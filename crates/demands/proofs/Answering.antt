@@ -24,6 +24,7 @@ use Rattle.channel_theorems.specs.Lifted.{runIn, countIn, KeptWithinIn, KeptIn,
 use Rattle.channel_theorems.proofs.Laws.Sums.{sum, sum-le, count-sum}
 use Rattle.channel_theorems.proofs.Theorems.Turning.{held}
 use Rattle.channel_theorems.proofs.Theorems.Bookings.{urgentHeld, found-busy}
+use Rattle.routines.specs.declared.Naming.{Naming}
 use Rattle.state.specs.declared.State.{State}
 use Rattle.state.specs.Places.{fileAt, channelAt}
 use Rattle.pack_start.specs.declared.Masks.{Masks}
@@ -137,39 +138,39 @@ module _ (s₀ : State) (area₀ : List ℕ) (m w : ℕ) (masks : Masks) (starte
     unfolding answerOf
     start-is = fresh-accepted s₀ _ m w masks started
 
-    module _ (noSecond : count freshStart start before ≡ 0) (file op priority : ℕ) (area : List ℕ) where
-      seen-ask : (k : Bool) → isPriority priority ≡ k → answerOf s area (ask file op priority) .refusal ≡ 0
-          → seen (fileAt s file .channel) s area (ask file op priority)
+    module _ (noSecond : count freshStart start before ≡ 0) (file op priority : ℕ) (naming : Naming) (area : List ℕ) where
+      seen-ask : (k : Bool) → isPriority priority ≡ k → answerOf s area (ask file op priority naming) .refusal ≡ 0
+          → seen (fileAt s file .channel) s area (ask file op priority naming)
           ≡ some (record { event = history.ask (fileAt s file .unit) (opOf op) k; answer = accepted })
       seen-ask k kind asked =
-          rw (eq-eqb (answerOf s area (ask file op priority) .refusal) 0 asked, eq-eqb (fileAt s file .channel) (fileAt s file .channel) refl, kind)
+          rw (eq-eqb (answerOf s area (ask file op priority naming) .refusal) 0 asked, eq-eqb (fileAt s file .channel) (fileAt s file .channel) refl, kind)
 
-      pub answered : isPriority priority ≡ false → answerOf s area (ask file op priority) .refusal ≡ 0 → (later : List Lent)
-          → count freshStart (answerOf s area (ask file op priority) .state) later ≡ 0
+      pub answered : isPriority priority ≡ false → answerOf s area (ask file op priority naming) .refusal ≡ 0 → (later : List Lent)
+          → count freshStart (answerOf s area (ask file op priority naming) .state) later ≡ 0
           → Answers (declaredOn start (fileAt s file .channel)) (fileAt s file .channel) (fileAt s file .unit)
-          (bookAfter (fileAt s file .channel) start blankBook before) (answerOf s area (ask file op priority) .state) later
+          (bookAfter (fileAt s file .channel) start blankBook before) (answerOf s area (ask file op priority naming) .state) later
       unfolding Kept
       answered ordinary asked later noLater =
           let g = good-start s₀ area₀ m w masks started in
           let c = fileAt s file .channel in
           let u = fileAt s file .unit in
-          let x : Lent = record { call = ask file op priority; area = area } in
-          ordinary-words (declaredOn start c) c u s (answerOf s area (ask file op priority) .state) (bookAfter c start blankBook before) later
-          (call-kept s area (history-kept start before g) (ask file op priority))
+          let x : Lent = record { call = ask file op priority naming; area = area } in
+          ordinary-words (declaredOn start c) c u s (answerOf s area (ask file op priority naming) .state) (bookAfter c start blankBook before) later
+          (call-kept s area (history-kept start before g) (ask file op priority naming))
           (shows-after c start blankBook before g (shows-start c s₀ area₀ m w masks started)) noLater
           (from-start c m w masks u (opOf op) false x before (λ U t d. KeptIn (packAround c) U u t d later)
           (λ g₁. turns-kept c m w masks g₁ before u (opOf op) x later) start start-is g noSecond (seen-ask false ordinary asked))
 
-      pub urgent-answered : isPriority priority ≡ true → answerOf s area (ask file op priority) .refusal ≡ 0 → (later : List Lent)
-          → count freshStart (answerOf s area (ask file op priority) .state) later ≡ 0
+      pub urgent-answered : isPriority priority ≡ true → answerOf s area (ask file op priority naming) .refusal ≡ 0 → (later : List Lent)
+          → count freshStart (answerOf s area (ask file op priority naming) .state) later ≡ 0
           → AnswersUrgent (declaredOn start (fileAt s file .channel)) (fileAt s file .channel) (fileAt s file .unit)
-          (answerOf s area (ask file op priority) .state) later
+          (answerOf s area (ask file op priority naming) .state) later
       unfolding Kept
       urgent-answered urgent asked later noLater =
           let g = good-start s₀ area₀ m w masks started in
           let c = fileAt s file .channel in
           let u = fileAt s file .unit in
-          let x : Lent = record { call = ask file op priority; area = area } in
-          in-words _ c u (answerOf s area (ask file op priority) .state) later (call-kept s area (history-kept start before g) (ask file op priority)) noLater
+          let x : Lent = record { call = ask file op priority naming; area = area } in
+          in-words _ c u (answerOf s area (ask file op priority naming) .state) later (call-kept s area (history-kept start before g) (ask file op priority naming)) noLater
           (from-start c m w masks u (opOf op) true x before (λ U t d. KeptUrgentIn (packAround c) U u d later)
           (λ g₁. urgent-kept c m w masks g₁ before u (opOf op) x later) start start-is g noSecond (seen-ask true urgent asked))

@@ -1,6 +1,6 @@
 -- The demands, each proved by one citation. Assumes nothing.
 use mathlib.Core.Path.{_≡_}
-use mathlib.Core.Logic.{_≢_}
+use mathlib.Core.Logic.{_≢_, _⊎_}
 use mathlib.Core.Bool.{Bool, true, false}
 use mathlib.Core.Option.{Option, none}
 use mathlib.Core.List.{List, []}
@@ -17,15 +17,19 @@ use Rattle.file_input.specs.declared.Got.{Got}
 use Rattle.file_input.specs.Gets.{gotNumber, gotFound}
 use Rattle.pool.specs.Serving.{serves}
 use Rattle.pool.specs.Free.{fileCount}
+use Rattle.routines.specs.declared.Due as routines
+use Rattle.routines.specs.declared.Naming.{Naming}
+use Rattle.routines.specs.Ranks.{isDue}
+use Rattle.routines_theorems.specs.History.{Reversed}
 use Rattle.state.specs.declared.State.{State}
 use Rattle.channel.specs.Units.{positionAt}
 use Rattle.state.specs.Places.{beforeStart, fileAt, channelAt}
 use Rattle.state_sound.specs.Soundness.{sound}
 use Rattle.pack_start.specs.declared.Masks.{Masks}
 use Rattle.call_request.specs.Ask.{isPriority}
-use Rattle.pack.specs.Calls.{Call, fresh, opening, close, ask, report, get, skip, got, answerOf}
+use Rattle.pack.specs.Calls.{Call, fresh, opening, close, ask, report, get, skip, return, got, answerOf}
 use Rattle.pack.specs.Histories.{Lent, answerTo, after, count, freshStart, declaredOn}
-use Rattle.pack.specs.Histories.{isRepeat}
+use Rattle.pack.specs.Histories.{isRepeat, isAnswer}
 use Rattle.pack.specs.Books.{Book, Opened, toldResult, blankBook, bookedAt, bookAfter, openedAfter}
 use Rattle.pack.proofs.Kept.{Good, good-before, start-judged, good-start, history-kept}
 use Rattle.demands_ledger.specs.Ledgers.{Item, Choice, Ledger, blankLedger, toldDelivery, isOn, noted, stateAfter, areaAfter, ledgerAfter}
@@ -48,8 +52,12 @@ use Rattle.demands.proofs.Finding.{finds-one}
 use Rattle.demands.proofs.Blocks.{ledger-writes, ledger-closed, ledger-reads, ledger-judged, ledger-found}
 use Rattle.demands.proofs.Results.{reported-results, refused-forbids, reel-stands}
 use Rattle.demands.proofs.Marks.{asked-marks}
-use Rattle.demands.proofs.Turns.{call-turns, report-continues, ask-tells, report-tells, ask-single, report-idle, ask-holding}
-use Rattle.demands.specs.Orders.{Requests, On, EitherOrder}
+use Rattle.demands.proofs.Turns.{call-turns, report-continues, ask-tells, report-tells, ask-single, report-idle}
+use Rattle.demands.specs.Routines.{Roster, blankRoster, rosteredAt, rosterAfter, Schedules, Returns, GivesBack, turnsAfter, countDue, Once}
+use Rattle.demands.proofs.Rosters.{Noted, noted-start, noted-before, noted-after}
+use Rattle.demands.proofs.Scheduling.{ask-held, ask-free, at-schedules, at-back, call-returns}
+use Rattle.demands.proofs.Entering.{reversed, entered-once}
+use Rattle.demands.specs.Orders.{Requests, On, AnswersNaming, EitherOrder}
 use Rattle.demands.proofs.Orders.{either-order}
 use Rattle.demands.proofs.Answering.{answered, urgent-answered}
 use Rattle.demands.proofs.Records.{gives-one, ledger-got, ledger-skipped}
@@ -85,14 +93,45 @@ demand2-one-found = finds-one
 pub demand2-before : (calls : List Lent) → Holds (after beforeStart calls)
 demand2-before calls = good-holds (after beforeStart calls) (history-kept beforeStart calls good-before)
 
+-- special routines, from before the first fresh start too: what runs after any calls and one call more, and what that call enters
+pub demand2-routines-before : (calls : List Lent) (x : Lent) → answerTo (after beforeStart calls) x .refusal ≡ 0
+    → Schedules (after beforeStart calls) (x .call) (answerTo (after beforeStart calls) x) (rosterAfter beforeStart blankRoster calls)
+    (rosteredAt (after beforeStart calls) x (rosterAfter beforeStart blankRoster calls))
+demand2-routines-before calls x =
+    at-schedules (after beforeStart calls) (x .area) (history-kept beforeStart calls good-before) _ (noted-after beforeStart blankRoster calls good-before noted-before) (x .call)
+
+pub demand2-returns-before : (calls : List Lent) (area : List ℕ) → Returns (after beforeStart calls) area
+demand2-returns-before calls area =
+    call-returns (after beforeStart calls) area (history-kept beforeStart calls good-before) _ (noted-after beforeStart blankRoster calls good-before noted-before)
+
+pub demand2-returned-before : (calls : List Lent) (area : List ℕ) → answerOf (after beforeStart calls) area return .refusal ≡ 0
+    → GivesBack (answerOf (after beforeStart calls) area return) (rosterAfter beforeStart blankRoster calls)
+    (rosteredAt (after beforeStart calls) (record { call = return; area = area }) (rosterAfter beforeStart blankRoster calls))
+demand2-returned-before calls area =
+    at-back (after beforeStart calls) area (history-kept beforeStart calls good-before) _ (noted-after beforeStart blankRoster calls good-before noted-before)
+
+pub demand2-once-before : (calls : List Lent) (c u outcome len : ℕ) (words area : List ℕ) (d : routines.Due) → isDue d ≡ true → rosterAfter beforeStart blankRoster calls .names c u ≡ d
+    → answerOf (after beforeStart calls) area (report c u outcome len words) .refusal ≡ 0
+    → isAnswer (answerOf (after beforeStart calls) area (report c u outcome len words) .added) ≡ true
+    → (later : List Lent) → count freshStart (answerOf (after beforeStart calls) area (report c u outcome len words) .state) later ≡ 0
+    → countDue c u (answerOf (after beforeStart calls) area (report c u outcome len words) .state)
+    (rosteredAt (after beforeStart calls) (record { call = report c u outcome len words; area = area }) (rosterAfter beforeStart blankRoster calls)) later ≡ 0
+    → Once c u d (after beforeStart calls) (rosterAfter beforeStart blankRoster calls) (record { call = report c u outcome len words; area = area }) later
+demand2-once-before calls c u outcome len words area d =
+    entered-once (after beforeStart calls) _ (history-kept beforeStart calls good-before) (noted-after beforeStart blankRoster calls good-before noted-before) c u outcome len words area d
+
+pub demand2-reversed-before : (calls : List Lent) → Reversed [] (turnsAfter beforeStart calls) (rosterAfter beforeStart blankRoster calls .list)
+demand2-reversed-before calls = reversed beforeStart blankRoster calls good-before noted-before
+
 -- "a state passed back is unsound": a fresh start is refused such a state as every call is
 pub demand1-start : (s : State) (area : List ℕ) (m w : ℕ) (masks : Masks) → answerOf s area (fresh m w masks) .refusal ≡ 0 → sound s ≡ true
 demand1-start = start-judged
 
 -- M-112: "an ask or a report on one channel and one on another give the same answers and the same state, area and all, in either order,
--- refused ones too": of every state of sixteen files, sound or not, and every area
+-- refused ones too. Opens, closes and requests that name a special routine are no part of this.": of every state of sixteen files, sound or not, and every
+-- area; not both may answer requests that name a routine
 pub demand3-order : (s : State) (area : List ℕ) (x y : Call) → length (s .files) ≡ fileCount → Requests x → Requests y
-    → ((c : ℕ) → On s c x → On s c y → ⊥) → EitherOrder s area x y
+    → ((c : ℕ) → On s c x → On s c y → ⊥) → (AnswersNaming s area x → AnswersNaming s area y → ⊥) → EitherOrder s area x y
 demand3-order = either-order
 
 -- From here on: a fresh start that is accepted; then any calls, each given the state that the last one left.
@@ -136,6 +175,43 @@ module _ (s₀ : State) (area₀ : List ℕ) (m w : ℕ) (masks : Masks) (starte
   shows : (calls : List Lent) (c : ℕ) → Shows (stationAt c (after start calls)) (bookThen calls c)
   shows calls c = shows-after c start blankBook calls (good-start s₀ area₀ m w masks started) (shows-start c s₀ area₀ m w masks started)
 
+  -- "Special routines by priority" (M-110). The roster after any calls, and with one call more:
+  abbrev pub rosterThen : List Lent → Roster
+  rosterThen calls = rosterAfter start blankRoster calls
+
+  abbrev pub rosterWith : List Lent → Lent → Roster
+  rosterWith calls x = rosteredAt (after start calls) x (rosterThen calls)
+
+  listed : (calls : List Lent) → Noted (after start calls) (rosterThen calls)
+  listed calls = noted-after start blankRoster calls (good-start s₀ area₀ m w masks started) (noted-start s₀ area₀ m w masks started)
+
+  -- what runs after a call x that is accepted, and what it enters
+  pub demand2-routines : (calls : List Lent) (x : Lent) → answerTo (after start calls) x .refusal ≡ 0
+      → Schedules (after start calls) (x .call) (answerTo (after start calls) x) (rosterThen calls) (rosterWith calls x)
+  demand2-routines calls x = at-schedules (after start calls) (x .area) (good calls) (rosterThen calls) (listed calls) (x .call)
+
+  -- "Returns are the operator's, refused 18 with none running."
+  pub demand2-returns : (calls : List Lent) (area : List ℕ) → Returns (after start calls) area
+  demand2-returns calls area = call-returns (after start calls) area (good calls) (rosterThen calls) (listed calls)
+
+  -- "On a return, the highest waiting routine is entered if it is above the program last pushed, otherwise that program resumes."
+  pub demand2-returned : (calls : List Lent) (area : List ℕ) → answerOf (after start calls) area return .refusal ≡ 0
+      → GivesBack (answerOf (after start calls) area return) (rosterThen calls) (rosterWith calls (record { call = return; area = area }))
+  demand2-returned calls area = at-back (after start calls) area (good calls) (rosterThen calls) (listed calls)
+
+  -- programs resume in the reverse order of their interruption: those that have not resumed are the list
+  pub demand2-reversed : (calls : List Lent) → Reversed [] (turnsAfter start calls) (rosterThen calls .list)
+  demand2-reversed calls = reversed start blankRoster calls (good-start s₀ area₀ m w masks started) (noted-start s₀ area₀ m w masks started)
+
+  -- "A due routine is entered once.": of a report that answers a request which names the routine d, after any calls, and any calls after it
+  pub demand2-once : (calls : List Lent) (c u outcome len : ℕ) (words area : List ℕ) (d : routines.Due) → isDue d ≡ true → rosterThen calls .names c u ≡ d
+      → answerOf (after start calls) area (report c u outcome len words) .refusal ≡ 0
+      → isAnswer (answerOf (after start calls) area (report c u outcome len words) .added) ≡ true
+      → (later : List Lent) → count freshStart (answerOf (after start calls) area (report c u outcome len words) .state) later ≡ 0
+      → countDue c u (answerOf (after start calls) area (report c u outcome len words) .state) (rosterWith calls (record { call = report c u outcome len words; area = area })) later ≡ 0
+      → Once c u d (after start calls) (rosterThen calls) (record { call = report c u outcome len words; area = area }) later
+  demand2-once calls c u outcome len words area d = entered-once (after start calls) (rosterThen calls) (good calls) (listed calls) c u outcome len words area d
+
   -- the result of an accepted report is the table's
   pub demand2-results : (calls : List Lent) (area : List ℕ) (channel unit outcome len : ℕ) (words : List ℕ)
       → answerOf (after start calls) area (report channel unit outcome len words) .refusal ≡ 0
@@ -177,25 +253,31 @@ module _ (s₀ : State) (area₀ : List ℕ) (m w : ℕ) (masks : Masks) (starte
       report-continues (after start calls) area (good calls) channel unit outcome len words (bookThen calls channel) (shows calls channel)
 
   -- "A unit holds one unanswered request at most; requests are not stacked.": where an ask is accepted, its unit has none
-  pub demand2-single : (calls : List Lent) (area : List ℕ) (file op priority : ℕ) → answerOf (after start calls) area (ask file op priority) .refusal ≡ 0
+  pub demand2-single : (calls : List Lent) (area : List ℕ) (file op priority : ℕ) (naming : Naming) → answerOf (after start calls) area (ask file op priority naming) .refusal ≡ 0
       → bookThen calls (fileAt (after start calls) file .channel) .requests (fileAt (after start calls) file .unit) ≡ none
-  demand2-single calls area file op priority =
-      ask-single (after start calls) area file op priority (bookThen calls (fileAt (after start calls) file .channel))
+  demand2-single calls area file op priority naming =
+      ask-single (after start calls) area file op priority naming (bookThen calls (fileAt (after start calls) file .channel))
       (shows calls (fileAt (after start calls) file .channel))
 
-  -- and it is refused 8 only if its unit has one
-  pub demand2-holding : (calls : List Lent) (area : List ℕ) (file op priority : ℕ) → answerOf (after start calls) area (ask file op priority) .refusal ≡ 8
-      → isPending (bookThen calls (fileAt (after start calls) file .channel) .requests (fileAt (after start calls) file .unit)) ≡ true
-  demand2-holding calls area file op priority =
-      ask-holding (after start calls) area file op priority (bookThen calls (fileAt (after start calls) file .channel))
+  -- and it is refused 8 only if its unit has one, or its routine waits: "A unit whose routine waits refuses a new ask with 8." (M-110)
+  pub demand2-holding : (calls : List Lent) (area : List ℕ) (file op priority : ℕ) (naming : Naming) → answerOf (after start calls) area (ask file op priority naming) .refusal ≡ 8
+      → (isPending (bookThen calls (fileAt (after start calls) file .channel) .requests (fileAt (after start calls) file .unit)) ≡ true)
+      ⊎ (isDue (rosterThen calls .waits (fileAt (after start calls) file .channel) (fileAt (after start calls) file .unit)) ≡ true)
+  demand2-holding calls area file op priority naming =
+      ask-held (after start calls) area (good calls) (rosterThen calls) (listed calls) file op priority naming (bookThen calls (fileAt (after start calls) file .channel))
       (shows calls (fileAt (after start calls) file .channel))
+
+  -- where an ask is accepted no routine waits at its unit
+  pub demand2-waiting : (calls : List Lent) (area : List ℕ) (file op priority : ℕ) (naming : Naming) → answerOf (after start calls) area (ask file op priority naming) .refusal ≡ 0
+      → isDue (rosterThen calls .waits (fileAt (after start calls) file .channel) (fileAt (after start calls) file .unit)) ≡ false
+  demand2-waiting calls area file op priority naming = ask-free (after start calls) area (good calls) (rosterThen calls) (listed calls) file op priority naming
 
   -- and the answers tell who works: "ask adds the channel's working unit, FF for none. Report adds .. working unit"
-  pub demand2-asked : (calls : List Lent) (area : List ℕ) (file op priority : ℕ) → answerOf (after start calls) area (ask file op priority) .refusal ≡ 0
-      → Tells (answerOf (after start calls) area (ask file op priority) .state) (fileAt (after start calls) file .channel)
-      (toldWorking (answerOf (after start calls) area (ask file op priority) .added))
-  demand2-asked calls area file op priority =
-      ask-tells (after start calls) area (good calls) file op priority (bookThen calls (fileAt (after start calls) file .channel))
+  pub demand2-asked : (calls : List Lent) (area : List ℕ) (file op priority : ℕ) (naming : Naming) → answerOf (after start calls) area (ask file op priority naming) .refusal ≡ 0
+      → Tells (answerOf (after start calls) area (ask file op priority naming) .state) (fileAt (after start calls) file .channel)
+      (toldWorking (answerOf (after start calls) area (ask file op priority naming) .added))
+  demand2-asked calls area file op priority naming =
+      ask-tells (after start calls) area (good calls) file op priority naming (bookThen calls (fileAt (after start calls) file .channel))
       (shows calls (fileAt (after start calls) file .channel))
 
   pub demand2-reported : (calls : List Lent) (area : List ℕ) (channel unit outcome len : ℕ) (words : List ℕ)
@@ -206,10 +288,10 @@ module _ (s₀ : State) (area₀ : List ℕ) (m w : ℕ) (masks : Masks) (starte
       report-tells (after start calls) area (good calls) channel unit outcome len words (bookThen calls channel) (shows calls channel)
 
   -- an ask read is refused 10 exactly if a file mark has been read since the open, and no lower number is given
-  pub demand2-marks : (calls : List Lent) (area : List ℕ) (file op priority : ℕ)
-      → Marks (after start calls) area file op priority (openThen calls file)
-  demand2-marks calls area file op priority =
-      asked-marks (after start calls) area file op priority (openThen calls file)
+  pub demand2-marks : (calls : List Lent) (area : List ℕ) (file op priority : ℕ) (naming : Naming)
+      → Marks (after start calls) area file op priority naming (openThen calls file)
+  demand2-marks calls area file op priority naming =
+      asked-marks (after start calls) area file op priority naming (openThen calls file)
       (known-after file start none calls (good-start s₀ area₀ m w masks started) (known-start file s₀ area₀ m w masks started))
 
   -- "While only the pack writes the lent area": each call is given the area too that the last one left. The ledger of file i:
@@ -294,18 +376,18 @@ module _ (s₀ : State) (area₀ : List ℕ) (m w : ℕ) (masks : Masks) (starte
   -- reports have been accepted on that channel since, P counting that channel's priority requests unanswered at its acceptance or
   -- accepted until its answer."
   pub demand3 : (before : List Lent) → count freshStart start before ≡ 0
-      → (file op priority : ℕ) (area : List ℕ) → isPriority priority ≡ false → answerOf (after start before) area (ask file op priority) .refusal ≡ 0
-      → (later : List Lent) → count freshStart (answerOf (after start before) area (ask file op priority) .state) later ≡ 0
+      → (file op priority : ℕ) (naming : Naming) (area : List ℕ) → isPriority priority ≡ false → answerOf (after start before) area (ask file op priority naming) .refusal ≡ 0
+      → (later : List Lent) → count freshStart (answerOf (after start before) area (ask file op priority naming) .state) later ≡ 0
       → Answers (declaredOn start (fileAt (after start before) file .channel)) (fileAt (after start before) file .channel)
       (fileAt (after start before) file .unit) (bookAfter (fileAt (after start before) file .channel) start blankBook before)
-      (answerOf (after start before) area (ask file op priority) .state) later
+      (answerOf (after start before) area (ask file op priority naming) .state) later
   demand3 = answered s₀ area₀ m w masks started
 
   -- M-112: "With that and demand 3's premises, an accepted priority request is answered by the time 201 × U + 1 reports have been accepted on
   -- its channel"; and answered at most once, its channel working or frozen until then
   pub demand3-urgent : (before : List Lent) → count freshStart start before ≡ 0
-      → (file op priority : ℕ) (area : List ℕ) → isPriority priority ≡ true → answerOf (after start before) area (ask file op priority) .refusal ≡ 0
-      → (later : List Lent) → count freshStart (answerOf (after start before) area (ask file op priority) .state) later ≡ 0
+      → (file op priority : ℕ) (naming : Naming) (area : List ℕ) → isPriority priority ≡ true → answerOf (after start before) area (ask file op priority naming) .refusal ≡ 0
+      → (later : List Lent) → count freshStart (answerOf (after start before) area (ask file op priority naming) .state) later ≡ 0
       → AnswersUrgent (declaredOn start (fileAt (after start before) file .channel)) (fileAt (after start before) file .channel)
-      (fileAt (after start before) file .unit) (answerOf (after start before) area (ask file op priority) .state) later
+      (fileAt (after start before) file .unit) (answerOf (after start before) area (ask file op priority naming) .state) later
   demand3-urgent = urgent-answered s₀ area₀ m w masks started

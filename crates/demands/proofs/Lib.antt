@@ -7,9 +7,16 @@ pub mod Rows
 pub mod Results
 pub mod Marks
 pub mod Turns
+pub mod Looks
+pub mod Beside
 pub mod Orders
+pub mod Listed
+pub mod Rosters
+pub mod Scheduling
+pub mod Entering
 pub mod Records
 pub mod Written
 pub mod Demands
 pub mod Examples
 pub mod Witness
+pub mod Interrupts

@@ -11,10 +11,11 @@ use Rattle.area.specs.Refusals.{lowest}
 use Rattle.area.proofs.Walks.{true-not-false, and-left, and-right, and-both}
 use Rattle.channel.specs.declared.Channel.{Channel}
 use Rattle.file.specs.declared.File.{File}
+use Rattle.routines.specs.declared.Naming.{Naming}
 use Rattle.state.specs.declared.State.{State}
 use Rattle.state.specs.Places.{fileAt, channelAt}
 use Rattle.call_request.specs.Ask.{isReading, askRows, askRefusal}
-use Rattle.pack_request.specs.Calls.{askWrong}
+use Rattle.pack_request.specs.Calls.{askWrong, askWaits}
 use Rattle.pack_request.proofs.Ready.{not-false}
 use Rattle.pack_request.proofs.AskTheorems.{ask-ready, ask-exactly}
 use Rattle.pack.specs.Calls.{ask, answerOf}
@@ -25,18 +26,18 @@ use Rattle.demands.proofs.Rows.{row-past, row-given, none-gives, not-gi
 
 -- ---- an ask
 
-module _ (s : State) (area : List ℕ) (file op priority : ℕ) where
+module _ (s : State) (area : List ℕ) (file op priority : ℕ) (naming : Naming) where
   abbrev f : File
   f = fileAt s file
 
   abbrev c : Channel
   c = channelAt s (f .channel)
 
-  number : answerOf s area (ask file op priority) .refusal ≡ lowest (askRows (askWrong s file) f c op priority)
+  number : answerOf s area (ask file op priority naming) .refusal ≡ lowest (askRows (askWrong s file) f c op priority naming (askWaits s file))
   unfolding answerOf
-  number = ask-exactly s file op priority .number
+  number = ask-exactly s file op priority naming .number
 
-  ten-only : answerOf s area (ask file op priority) .refusal ≡ 10 → (op ≡ 0) × (f .opened ≡ true) × (f .marked ≡ true)
+  ten-only : answerOf s area (ask file op priority naming) .refusal ≡ 10 → (op ≡ 0) × (f .opened ≡ true) × (f .marked ≡ true)
   ten-only e =
       let a = row-past 10 1 _ _ (λ q. omega arith) (sym number ∙ e) in
       let b = row-past 10 5 (not (f .opened)) _ (λ q. omega arith) (a .1) in
@@ -47,18 +48,18 @@ module _ (s : State) (area : List ℕ) (file op priority : ℕ) where
       (eqb-true op 0 (and-left (isReading op) _ k), not-false (f .opened) (b .0), and-right (isReading op) _ k)
 
   ten-refuses : op ≡ 0 → f .marked ≡ true
-      → (answerOf s area (ask file op priority) .refusal ≢ 0) × (answerOf s area (ask file op priority) .refusal ≤ 10)
+      → (answerOf s area (ask file op priority naming) .refusal ≢ 0) × (answerOf s area (ask file op priority naming) .refusal ≤ 10)
   unfolding askRefusal
   ten-refuses r m =
       let row : (isReading op && f .marked) ≡ true = and-both (isReading op) _ (eq-eqb op 0 r) m in
-      let most : lowest (askRows (askWrong s file) f c op priority) ≤ 10 =
+      let most : lowest (askRows (askWrong s file) f c op priority naming (askWaits s file)) ≤ 10 =
       row-most 1 10 _ _ (omega arith) (row-most 5 10 _ _ (omega arith) (row-most 6 10 _ _ (omega arith) (row-most 8 10 _ _ (omega arith)
       (row-most 9 10 _ _ (omega arith) (row-here 10 10 (isReading op && f .marked) _ (omega arith) row))))) in (
-        λ z. true-not-false row (ask-ready (askWrong s file) f c op priority (sym number ∙ z) .unmarked),
+        λ z. true-not-false row (ask-ready (askWrong s file) f c op priority naming (askWaits s file) (sym number ∙ z) .unmarked),
         omega (arith, number, most),
       )
 
-  pub asked-marks : (o : Option Opened) → Known f o → Marks s area file op priority o
+  pub asked-marks : (o : Option Opened) → Known f o → Marks s area file op priority naming o
   asked-marks none K = record {
     bound = λ x e. absurd (let z : _≡_ {A = ℕ} 0 1 = cc in omega arith);
     shut = λ e. K;

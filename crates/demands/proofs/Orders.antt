@@ -41,9 +41,17 @@ use Rattle.file_output.specs.Sends.{sendStart, sendWords, afterWrite}
 use Rattle.pool.specs.Free.{fileCount, heldBy}
 use Rattle.pool.specs.Masks.{freeMask}
 use Rattle.pool.specs.Serving.{serves, servingFile}
+use Rattle.routines.specs.declared.Naming.{Naming}
+use Rattle.routines.specs.declared.Post.{Post}
+use Rattle.routines.specs.declared.Routines.{Routines}
+use Rattle.routines.specs.Ranks.{isDue}
+use Rattle.routines.specs.Waits.{highest}
+use Rattle.routines.specs.Right.{isSettled}
+use Rattle.routines.specs.Posts.{noNaming, namingWrong, dueOf, postAt, waitsOf, waitsIn}
+use Rattle.routines.proofs.Laws.Table.{due-at}
 use Rattle.state.specs.declared.State.{State}
 use Rattle.state.specs.Places.{fileAt, channelAt, noChannel}
-use Rattle.state.specs.Stores.{withFile, withChannel}
+use Rattle.state.specs.Stores.{withFile, withChannel, withRoutines}
 use Rattle.state.proofs.Lookups.{file-beyond}
 use Rattle.state_sound.specs.Requests.{requested, isNone, isWrite}
 use Rattle.state_sound.specs.Soundness.{sound}
@@ -60,19 +68,22 @@ use Rattle.call_request.specs.Effects.{isDelivery}
 use Rattle.call_request.specs.Ask.{askRefusal, askedFile, askOn}
 use Rattle.call_request.specs.Report.{effectAt, shownBlock, reportRefusal, reportedFile, reportedArea, reportOn, reportOnArea}
 use Rattle.pack_request.specs.Changes.{changedState}
-use Rattle.pack_request.specs.Calls.{askWrong, askChange, askBy, fileOf, reportWrong, reportBy, reportByArea}
+use Rattle.call_request.specs.Named.{askedRoutines, reportedRoutines}
+use Rattle.pack_request.specs.Calls.{askWrong, askWaits, askChange, askBy, fileOf, reportWrong, reportBy, reportByArea}
 use Rattle.pack_request.proofs.Changed.{Frame, changed-taken}
 use Rattle.pack_request.proofs.Ready.{ready-facts}
-use Rattle.pack_request.proofs.AskTheorems.{ask-was-sound, ask-ready, ask-exactly, ask-frame, ask-file}
-use Rattle.pack_request.proofs.ReportTheorems.{report-was-sound, serving, report-exactly, report-frame, report-books-own, report-file}
+use Rattle.pack_request.proofs.AskTheorems.{ask-was-sound, ask-ready, ask-exactly, ask-frame, ask-file, ask-routines}
+use Rattle.pack_request.proofs.ReportTheorems.{report-was-sound, serving, report-exactly, report-frame, report-books-own, report-file, report-routines}
 use Rattle.pack_request.proofs.ReportWords.{isSending, sends-exactly, report-delivers}
 use Rattle.pack_record.specs.Only.{Only}
 use Rattle.pack_record.proofs.Written.{only-wider, pasted-only}
-use Rattle.pack.specs.Calls.{addsNothing, numberAlone, Call, fresh, opening, close, ask, report, get, put, seal, skip, freeze, thaw, Added, working, reported, Answer, told, answerOf}
+use Rattle.pack.specs.Calls.{addsNothing, numberAlone, Call, fresh, opening, close, ask, report, get, put, seal, skip, freeze, thaw, return, running, Added, working, reported, Answer, told, answerOf}
+use Rattle.pack.specs.Histories.{isAnswer}
 use Rattle.pack.proofs.Kept.{Good, call-kept}
 use Rattle.pack.proofs.Refused.{call-alone}
 use Rattle.demands_ledger.proofs.Frames.{others-same}
-use Rattle.demands.specs.Orders.{Requests, asking, reporting, On, asks, reports, Says, says, afterwards, EitherOrder}
+use Rattle.demands.specs.Orders.{Requests, asking, reporting, On, asks, reports, AnswersNaming, answersNaming, Says, says, afterwards, EitherOrder}
+use Rattle.demands.proofs.Beside.{asked-other, asks-comm, reported-other, ask-report-comm, reports-comm}
 
 -- ---- words pasted at two places apart
 
@@ -149,7 +160,8 @@ module _ (at bt : ℕ) (ys zs xs : List ℕ) (apart : (at + length ys ≤ bt) �
         each : (n : ℕ) → getD (pastedIn at ys (pastedIn bt zs xs)) n 0 ≡ getD (pastedIn bt zs (pastedIn at ys xs)) n 0
         each n = go n (decLt n at) (decLt n (at + length ys)) (decLt n bt) (decLt n (bt + length zs))
 
--- ---- an ask or a report as what it does: its answer, the file and the channel that it replaces, and the words that it delivers
+-- ---- an ask or a report as what it does: its answer, the file and the channel that it replaces, the words that it delivers, and what it makes of the
+-- routines
 
 record Act : Type 0 where
   refusal : ℕ
@@ -163,9 +175,10 @@ record Act : Type 0 where
   delivers : Bool
   at : ℕ
   words : List ℕ
+  routines : Routines → Routines
 
 abbrev stateBy : Act → State → State
-stateBy A s = changedState s (A .file) (A .channel) (A .refusal) (A .newFile) (A .newChannel)
+stateBy A s = changedState s (A .file) (A .channel) (A .refusal) (A .newFile) (A .newChannel) (A .routines (s .routines))
 
 abbrev areaBy : Act → List ℕ → List ℕ
 areaBy A area = cond (eqb (A .refusal) 0) (cond (A .delivers) (pastedIn (A .at) (A .words) area) area) area
@@ -179,10 +192,10 @@ answerBy A s area = record {
   area = areaBy A area;
 }
 
--- of what is known of the state: whether it is wrong, the file f of that number, and the channel
-askAct : Bool → ℕ → File → Channel → ℕ → ℕ → Bool → Act
-askAct wrong file f c op priority frozen =
-    let x = askOn wrong f c op priority frozen in
+-- of what is known of the state: whether it is wrong, the file f of that number, the channel, and whether a routine waits at the file's unit
+askAct : Bool → ℕ → File → Channel → ℕ → ℕ → Naming → Bool → Bool → Act
+askAct wrong file f c op priority naming waits frozen =
+    let x = askOn wrong f c op priority naming waits frozen in
     record {
       refusal = x .refusal;
       added = working (x .working);
@@ -195,6 +208,7 @@ askAct wrong file f c op priority frozen =
       delivers = false;
       at = 0;
       words = [];
+      routines = λ r. askedRoutines r (f .channel) (f .unit) naming;
     }
 
 reportAct : Bool → ℕ → File → ℕ → Channel → ℕ → ℕ → ℕ → ℕ → Bool → List ℕ → List ℕ → Act
@@ -212,23 +226,26 @@ reportAct wrong file f channel c u outcome len w frozen area words =
       delivers = isDelivery (effectAt c u outcome len (length words));
       at = startAt f w (takenSide f);
       words = words;
+      routines = λ r. reportedRoutines r frozen channel u (x .result);
     }
 
 abbrev actOf : State → List ℕ → Call → Act
-actOf s area (ask file op priority) =
-    askAct (askWrong s file) file (fileAt s file) (channelAt s (fileAt s file .channel)) op priority (s .frozen)
+actOf s area (ask file op priority naming) =
+    askAct (askWrong s file) file (fileAt s file) (channelAt s (fileAt s file .channel)) op priority naming (askWaits s file) (s .frozen)
 actOf s area (report channel unit outcome len words) =
     reportAct (reportWrong s (length area) channel) (fileOf s channel unit) (fileAt s (fileOf s channel unit)) channel (channelAt s channel) unit outcome len (s .w)
     (s .frozen) area words
-actOf s area (fresh m w masks) = askAct true 0 closedFile noChannel 0 0 false
-actOf s area (opening file channel unit flags size rlen) = askAct true 0 closedFile noChannel 0 0 false
-actOf s area (close file) = askAct true 0 closedFile noChannel 0 0 false
-actOf s area (get file) = askAct true 0 closedFile noChannel 0 0 false
-actOf s area (put file words) = askAct true 0 closedFile noChannel 0 0 false
-actOf s area (seal file) = askAct true 0 closedFile noChannel 0 0 false
-actOf s area (skip file) = askAct true 0 closedFile noChannel 0 0 false
-actOf s area freeze = askAct true 0 closedFile noChannel 0 0 false
-actOf s area thaw = askAct true 0 closedFile noChannel 0 0 false
+actOf s area (fresh m w masks) = askAct true 0 closedFile noChannel 0 0 noNaming false false
+actOf s area (opening file channel unit flags size rlen) = askAct true 0 closedFile noChannel 0 0 noNaming false false
+actOf s area (close file) = askAct true 0 closedFile noChannel 0 0 noNaming false false
+actOf s area (get file) = askAct true 0 closedFile noChannel 0 0 noNaming false false
+actOf s area (put file words) = askAct true 0 closedFile noChannel 0 0 noNaming false false
+actOf s area (seal file) = askAct true 0 closedFile noChannel 0 0 noNaming false false
+actOf s area (skip file) = askAct true 0 closedFile noChannel 0 0 noNaming false false
+actOf s area freeze = askAct true 0 closedFile noChannel 0 0 noNaming false false
+actOf s area thaw = askAct true 0 closedFile noChannel 0 0 noNaming false false
+actOf s area return = askAct true 0 closedFile noChannel 0 0 noNaming false false
+actOf s area running = askAct true 0 closedFile noChannel 0 0 noNaming false false
 
 cond-same : {A : Type 0} (b : Bool) (x : A) → cond b x x ≡ x
 cond-same true x = refl
@@ -256,7 +273,7 @@ area-is wrong f c u outcome len w frozen area words = go (ℕ-discrete (reportRe
 
 answer-by : (s : State) (area : List ℕ) (x : Call) → Requests x → answerOf s area x ≡ answerBy (actOf s area x) s area
 unfolding answerOf askBy reportBy reportByArea askAct reportAct
-answer-by s area (ask file op priority) asking = rw (cond-same (eqb (askChange s file op priority .refusal) 0) area)
+answer-by s area (ask file op priority naming) asking = rw (cond-same (eqb (askChange s file op priority naming .refusal) 0) area)
 answer-by s area (report channel unit outcome len words) reporting =
     ap (told (reportBy s area channel unit outcome len words))
     (area-is (reportWrong s (length area) channel) (fileAt s (fileOf s channel unit)) (channelAt s channel) unit outcome len (s .w) (s .frozen) area words)
@@ -275,6 +292,11 @@ record Did (s : State) (area : List ℕ) (i c : ℕ) (t : State) (zs : List ℕ)
   same : fileAt t i .channel ≡ c
   good : Good t
   lies : Lies s i area zs
+  posts : (k v : ℕ) → k ≢ c → postAt (t .routines) k v ≡ postAt (s .routines) k v
+
+-- nothing is left to enter
+settled : (s : State) → Good s → isSettled (s .routines .programs) (s .frozen) (highest (waitsOf (s .routines))) ≡ true
+settled s g = sound-facts s (g .right) .routines .settled
 
 asked-channel : (op : ℕ) (f : File) → askedFile op f .channel ≡ f .channel
 unfolding askedFile
@@ -293,16 +315,19 @@ reported-channel Sends f n found = event-alike f send .channel
 reported-channel Keeps f n found = refl
 
 module _ (s : State) (area : List ℕ) (g : Good s) where
-  ask-did : (file op priority : ℕ) → answerOf s area (ask file op priority) .refusal ≡ 0
-      → Did s area file (fileAt s file .channel) (answerOf s area (ask file op priority) .state) (answerOf s area (ask file op priority) .area)
+  ask-did : (file op priority : ℕ) (naming : Naming) → answerOf s area (ask file op priority naming) .refusal ≡ 0
+      → Did s area file (fileAt s file .channel) (answerOf s area (ask file op priority naming) .state) (answerOf s area (ask file op priority naming) .area)
   unfolding answerOf askRefusal
-  ask-did file op priority z = record {
-    isOpen = ask-ready (askWrong s file) (fileAt s file) (channelAt s (fileAt s file .channel)) op priority (sym (ask-exactly s file op priority .number) ∙ z) .isOpen;
+  ask-did file op priority naming z = record {
+    isOpen = ask-ready (askWrong s file) (fileAt s file) (channelAt s (fileAt s file .channel)) op priority naming (askWaits s file) (sym (ask-exactly s file op priority naming .number) ∙ z) .isOpen;
     bound = refl;
-    frame = ask-frame s file op priority;
-    same = ap (λ (f : File). f .channel) (ask-file s file op priority z) ∙ asked-channel op (fileAt s file);
-    good = call-kept s area g (ask file op priority);
+    frame = ask-frame s file op priority naming;
+    same = ap (λ (f : File). f .channel) (ask-file s file op priority naming z) ∙ asked-channel op (fileAt s file);
+    good = call-kept s area g (ask file op priority naming);
     lies = kept;
+    posts = λ k v ne.
+        ap (λ (r : Routines). postAt r k v) (ask-routines s file op priority naming z)
+        ∙ asked-other (s .routines) (fileAt s file .channel) (fileAt s file .unit) (dueOf naming) k v ne;
   }
 
   module _ (channel unit outcome len : ℕ) (words : List ℕ) (z : answerOf s area (report channel unit outcome len words) .refusal ≡ 0) where
@@ -346,12 +371,15 @@ module _ (s : State) (area : List ℕ) (g : Good s) where
           ∙ eqb-true (f .channel) channel (and-left (eqb (f .channel) channel) _ (and-right (f .opened) _ served));
       good = call-kept s area g x;
       lies = effect-lies (isDelivery (effectAt (channelAt s channel) unit outcome len (length words))) refl;
+      posts = λ k v ne.
+          ap (λ (r : Routines). postAt r k v) (report-routines s area channel unit outcome len words z)
+          ∙ reported-other (s .routines) (s .frozen) channel unit _ (settled s g) k v ne;
     }
 
   did : (x : Call) → Requests x → answerOf s area x .refusal ≡ 0
       → Did s area (actOf s area x .file) (actOf s area x .channel) (answerOf s area x .state) (answerOf s area x .area)
   unfolding askAct reportAct
-  did (ask file op priority) asking z = ask-did file op priority z
+  did (ask file op priority naming) asking z = ask-did file op priority naming z
   did (report channel unit outcome len words) reporting z = report-did channel unit outcome len words z
 
 -- ---- what another call goes by
@@ -397,11 +425,16 @@ module _ (s : State) (area : List ℕ) (g : Good s) (i c : ℕ) (t : State) (zs 
   other : (k : ℕ) → fileAt s k .channel ≢ c → k ≢ i
   other k ne e = ne (ap (λ (n : ℕ). fileAt s n .channel) e ∙ D .bound)
 
-  ask-same : (file op priority : ℕ) → fileAt s file .channel ≢ c → actOf t zs (ask file op priority) ≡ actOf s area (ask file op priority)
-  ask-same file op priority ne =
+  ask-same : (file op priority : ℕ) (naming : Naming) → fileAt s file .channel ≢ c → actOf t zs (ask file op priority naming) ≡ actOf s area (ask file op priority naming)
+  ask-same file op priority naming ne =
       let f = D .frame .files file (other file ne) in
       let k = D .frame .channels (fileAt s file .channel) ne in
+      let c₁ = fileAt s file .channel in
+      let u₁ = fileAt s file .unit in
+      let waits : waitsIn (t .routines) c₁ u₁ ≡ waitsIn (s .routines) c₁ u₁ =
+      ap isDue (due-at (t .routines) c₁ u₁ ∙ ap (λ (x : Post). x .due) (D .posts c₁ u₁ ne) ∙ sym (due-at (s .routines) c₁ u₁)) in
       rw (right-same, f, k, D .frame .frozen)
+      (ap (λ (b : Bool). askAct (askWrong s file) file (fileAt s file) (channelAt s (fileAt s file .channel)) op priority naming b (s .frozen)) waits)
 
   module _ (n u : ℕ) (ne : n ≢ c) where
     off : (f : File) → f .channel ≡ c → serves n u f ≡ false
@@ -495,10 +528,10 @@ module _ (s : State) (area : List ℕ) (g : Good s) (i c : ℕ) (t : State) (zs 
 -- ---- the answer to another call
 
 -- an ask of a file that is not open is refused, whatever its channel is
-closed-number : (s : State) (area : List ℕ) (file op priority : ℕ) → fileAt s file .opened ≡ false
-    → answerOf s area (ask file op priority) .refusal ≡ cond (askWrong s file || (ltb 2 op || ltb 1 priority)) 1 5
+closed-number : (s : State) (area : List ℕ) (file op priority : ℕ) (naming : Naming) → fileAt s file .opened ≡ false
+    → answerOf s area (ask file op priority naming) .refusal ≡ cond (askWrong s file || (ltb 2 op || (ltb 1 priority || namingWrong naming))) 1 5
 unfolding answerOf lowest
-closed-number s area file op priority o = ask-exactly s file op priority .number ∙ rw o
+closed-number s area file op priority naming o = ask-exactly s file op priority naming .number ∙ rw o
 
 one-or-five : (b : Bool) → _≢_ {A = ℕ} (cond b 1 5) 0
 one-or-five true e = omega arith
@@ -532,30 +565,30 @@ shows-alike wrong k f n c u outcome len w frozen xs zs words e = go (ℕ-discret
 module _ (s : State) (area : List ℕ) (g : Good s) (i c : ℕ) (t : State) (zs : List ℕ) (D : Did s area i c t zs) where
   -- a call that is on a channel, and not on that one
   data Elsewhere : Call → Type 0 where
-    asked : (file op priority : ℕ) → fileAt s file .opened ≡ true → fileAt s file .channel ≢ c → Elsewhere (ask file op priority)
-    closed : (file op priority : ℕ) → fileAt s file .opened ≡ false → Elsewhere (ask file op priority)
+    asked : (file op priority : ℕ) (naming : Naming) → fileAt s file .opened ≡ true → fileAt s file .channel ≢ c → Elsewhere (ask file op priority naming)
+    closed : (file op priority : ℕ) (naming : Naming) → fileAt s file .opened ≡ false → Elsewhere (ask file op priority naming)
     heard : (channel unit outcome len : ℕ) (words : List ℕ) → channel ≢ c → Elsewhere (report channel unit outcome len words)
 
   elsewhere : (y : Call) → Requests y → (On s c y → ⊥) → Elsewhere y
-  elsewhere (ask file op priority) asking apart = go (fileAt s file .opened) refl
+  elsewhere (ask file op priority naming) asking apart = go (fileAt s file .opened) refl
     where
-      go : (b : Bool) → fileAt s file .opened ≡ b → Elsewhere (ask file op priority)
-      go true o = asked file op priority o (λ e. apart (asks o e))
-      go false o = closed file op priority o
+      go : (b : Bool) → fileAt s file .opened ≡ b → Elsewhere (ask file op priority naming)
+      go true o = asked file op priority naming o (λ e. apart (asks o e))
+      go false o = closed file op priority naming o
   elsewhere (report channel unit outcome len words) reporting apart = heard channel unit outcome len words (λ e. apart (reports e))
 
   says-same : (y : Call) → Elsewhere y → says (answerOf t zs y) ≡ says (answerOf s area y)
   unfolding askAct
-  says-same y (asked file op priority o ne) =
-      let same = ask-same s area g i c t zs D file op priority ne in
+  says-same y (asked file op priority naming o ne) =
+      let same = ask-same s area g i c t zs D file op priority naming ne in
       ap says (answer-by t zs y asking) ∙ ap (λ (A : Act). record { refusal = A .refusal; added = A .added; shows = [] }) same ∙ sym (ap says (answer-by s area y asking))
-  says-same y (closed file op priority o) =
+  says-same y (closed file op priority naming o) =
       let still : fileAt t file .opened ≡ false = ap (λ (f : File). f .opened) (D .frame .files file (λ e. true-not-false (D .isOpen) (ap (λ (n : ℕ). fileAt s n .opened) (sym e) ∙ o))) ∙ o in
       let number : answerOf t zs y .refusal ≡ answerOf s area y .refusal =
-      closed-number t zs file op priority still
-      ∙ ap (λ (b : Bool). cond ((not b || leb fileCount file) || (ltb 2 op || ltb 1 priority)) 1 5) (right-same s area g i c t zs D)
-      ∙ sym (closed-number s area file op priority o) in
-      let refused : answerOf s area y .refusal ≢ 0 = λ e. one-or-five (askWrong s file || (ltb 2 op || ltb 1 priority)) (sym (closed-number s area file op priority o) ∙ e) in
+      closed-number t zs file op priority naming still
+      ∙ ap (λ (b : Bool). cond ((not b || leb fileCount file) || (ltb 2 op || (ltb 1 priority || namingWrong naming))) 1 5) (right-same s area g i c t zs D)
+      ∙ sym (closed-number s area file op priority naming o) in
+      let refused : answerOf s area y .refusal ≢ 0 = λ e. one-or-five (askWrong s file || (ltb 2 op || (ltb 1 priority || namingWrong naming))) (sym (closed-number s area file op priority naming o) ∙ e) in
       refused-says t zs y (λ e. refused (sym number ∙ e))
       ∙ ap (λ (n : ℕ). record { refusal = n; added = addsNothing y; shows = [] }) number
       ∙ sym (refused-says s area y refused)
@@ -570,30 +603,37 @@ module _ (s : State) (area : List ℕ) (g : Good s) (i c : ℕ) (t : State) (zs 
 
   -- an accepted one does after it what it does before it
   act-same : (y : Call) → Elsewhere y → answerOf s area y .refusal ≡ 0 → actOf t zs y ≡ actOf s area y
-  act-same y (asked file op priority o ne) z = ask-same s area g i c t zs D file op priority ne
-  act-same y (closed file op priority o) z = absurd (one-or-five (askWrong s file || (ltb 2 op || ltb 1 priority)) (sym (closed-number s area file op priority o) ∙ z))
+  act-same y (asked file op priority naming o ne) z = ask-same s area g i c t zs D file op priority naming ne
+  act-same y (closed file op priority naming o) z = absurd (one-or-five (askWrong s file || (ltb 2 op || (ltb 1 priority || namingWrong naming))) (sym (closed-number s area file op priority naming o) ∙ z))
   act-same y (heard channel unit outcome len words ne) z = report-same s area g i c t zs D channel unit ne outcome len words
 
 -- ---- both accepted
 
-state-alike : (m w : ℕ) (frozen : Bool) (cs ds : List Channel) (fs gs : List File) (a b : ℕ) → cs ≡ ds → fs ≡ gs → a ≡ b
-    → _≡_ {A = State} (record { m = m; w = w; frozen = frozen; channels = cs; files = fs; free = a }) (record { m = m; w = w; frozen = frozen; channels = ds; files = gs; free = b })
-state-alike m w frozen cs ds fs gs a b p q r = rw (p, q, r)
+state-alike : (m w : ℕ) (frozen : Bool) (cs ds : List Channel) (fs gs : List File) (a b : ℕ) (q r : Routines) → cs ≡ ds → fs ≡ gs → a ≡ b → q ≡ r
+    → _≡_ {A = State} (record { m = m; w = w; frozen = frozen; channels = cs; files = fs; free = a; routines = q })
+    (record { m = m; w = w; frozen = frozen; channels = ds; files = gs; free = b; routines = r })
+state-alike m w frozen cs ds fs gs a b q r h k l n = rw (h, k, l, n)
+
+-- what an accepted one makes of a state
+abbrev madeBy : Act → State → State
+madeBy A s = withRoutines (withFile (withChannel s (A .channel) (A .newChannel)) (A .file) (A .newFile)) (A .routines (s .routines))
 
 -- two files and two channels replaced: the free mask of a sound state follows from its files
-module _ (s : State) (i j c d : ℕ) (e f : File) (x y : Channel) where
+module _ (s : State) (A B : Act) where
   abbrev one : State
-  one = withFile (withChannel (withFile (withChannel s c x) i e) d y) j f
+  one = madeBy B (madeBy A s)
 
   abbrev two : State
-  two = withFile (withChannel (withFile (withChannel s d y) j f) c x) i e
+  two = madeBy A (madeBy B s)
 
-  states-comm : i ≢ j → c ≢ d → sound one ≡ true → sound two ≡ true → one ≡ two
-  unfolding withFile withChannel
-  states-comm ne nd p q =
-      let files : set (set (s .files) i e) j f ≡ set (set (s .files) j f) i e = set-comm (s .files) i j e f ne in
-      state-alike (s .m) (s .w) (s .frozen) _ _ _ _ _ _ (set-comm (s .channels) c d x y nd) files
-      (sound-facts one p .free ∙ ap (freeMask (s .m)) files ∙ sym (sound-facts two q .free))
+  states-comm : A .file ≢ B .file → A .channel ≢ B .channel → B .routines (A .routines (s .routines)) ≡ A .routines (B .routines (s .routines))
+      → sound one ≡ true → sound two ≡ true → one ≡ two
+  unfolding withFile withChannel withRoutines
+  states-comm ne nd both p q =
+      let files : set (set (s .files) (A .file) (A .newFile)) (B .file) (B .newFile) ≡ set (set (s .files) (B .file) (B .newFile)) (A .file) (A .newFile) =
+      set-comm (s .files) (A .file) (B .file) (A .newFile) (B .newFile) ne in
+      state-alike (s .m) (s .w) (s .frozen) _ _ _ _ _ _ _ _ (set-comm (s .channels) (A .channel) (B .channel) (A .newChannel) (B .newChannel) nd) files
+      (sound-facts one p .free ∙ ap (freeMask (s .m)) files ∙ sym (sound-facts two q .free)) both
 
 area-taken : (A : Act) (xs : List ℕ) → A .refusal ≡ 0 → areaBy A xs ≡ cond (A .delivers) (pastedIn (A .at) (A .words) xs) xs
 area-taken A xs z = rw (eq-eqb (A .refusal) 0 z)
@@ -608,7 +648,7 @@ record Fits (s : State) (xs : List ℕ) (A : Act) : Type 0 where
 
 fits : (s : State) (area : List ℕ) → Good s → (x : Call) → Requests x → answerOf s area x .refusal ≡ 0 → actOf s area x .delivers ≡ true → Fits s area (actOf s area x)
 unfolding answerOf askAct reportAct reportRefusal
-fits s area g (ask file op priority) asking z d = true-not-false d refl
+fits s area g (ask file op priority naming) asking z d = true-not-false d refl
 fits s area g (report channel unit outcome len words) reporting z d =
     let D = report-delivers s area channel unit outcome len words (g .sixteen) (sym (report-exactly s area channel unit outcome len words .number) ∙ z) d in
     record { buffer = bufferAt (fileAt s (fileOf s channel unit)) (takenSide (fileAt s (fileOf s channel unit))) .number; place = refl; held = D .held; room = D .room; inside = D .inside }
@@ -624,10 +664,29 @@ buffers-apart w a b n k ne l r = go (decLt a b) (decLt b a)
 -- an accepted call is on its channel
 on-channel : (s : State) (area : List ℕ) (g : Good s) (x : Call) → Requests x → answerOf s area x .refusal ≡ 0 → On s (actOf s area x .channel) x
 unfolding askAct reportAct
-on-channel s area g (ask file op priority) asking z = asks (ask-did s area g file op priority z .isOpen) refl
+on-channel s area g (ask file op priority naming) asking z = asks (ask-did s area g file op priority naming z .isOpen) refl
 on-channel s area g (report channel unit outcome len words) reporting z = reports refl
 
+-- what two of them make of the routines: not both answer requests that name one
+routines-comm : (s : State) (area : List ℕ) → Good s → (x y : Call) → Requests x → Requests y → actOf s area x .channel ≢ actOf s area y .channel
+    → (AnswersNaming s area x → AnswersNaming s area y → ⊥) → answerOf s area x .refusal ≡ 0 → answerOf s area y .refusal ≡ 0
+    → actOf s area y .routines (actOf s area x .routines (s .routines)) ≡ actOf s area x .routines (actOf s area y .routines (s .routines))
+unfolding answerOf askAct reportAct reportBy
+routines-comm s area g (ask file op priority naming) (ask j p q n) asking asking ne single zx zy =
+    asks-comm (s .routines) (fileAt s file .channel) (fileAt s file .unit) (dueOf naming) (fileAt s j .channel) (fileAt s j .unit) (dueOf n) ne
+routines-comm s area g (ask file op priority naming) (report channel unit outcome len words) asking reporting ne single zx zy =
+    ask-report-comm (s .routines) (s .frozen) channel unit _ (fileAt s file .channel) (fileAt s file .unit) (dueOf naming) (settled s g) (λ e. ne (sym e))
+routines-comm s area g (report channel unit outcome len words) (ask file op priority naming) reporting asking ne single zx zy =
+    sym (ask-report-comm (s .routines) (s .frozen) channel unit _ (fileAt s file .channel) (fileAt s file .unit) (dueOf naming) (settled s g) ne)
+routines-comm s area g (report channel unit outcome len words) (report k v o n ws) reporting reporting ne single zx zy =
+    reports-comm (s .routines) (s .frozen) channel unit _ k v _ (settled s g) ne
+    (λ p q.
+    let a = isAnswer (answerOf s area (report channel unit outcome len words) .added) in
+    let b = isAnswer (answerOf s area (report k v o n ws) .added) in
+    single (answersNaming zx (and-left a _ p) (and-right a _ p)) (answersNaming zy (and-left b _ q) (and-right b _ q)))
+
 module _ (s : State) (area : List ℕ) (g : Good s) (x y : Call) (rx : Requests x) (ry : Requests y) (apart : (c : ℕ) → On s c x → On s c y → ⊥)
+    (single : AnswersNaming s area x → AnswersNaming s area y → ⊥)
     (zx : answerOf s area x .refusal ≡ 0) (zy : answerOf s area y .refusal ≡ 0) where
   abbrev A : Act
   A = actOf s area x
@@ -677,23 +736,22 @@ module _ (s : State) (area : List ℕ) (g : Good s) (x y : Call) (rx : Requests 
   x-after : answerOf s₂ xs₂ x ≡ answerBy A s₂ xs₂
   x-after = answer-by s₂ xs₂ x rx ∙ ap (λ (C : Act). answerBy C s₂ xs₂) (act-same s area g (B .file) (B .channel) s₂ xs₂ did-y x x-there zx)
 
-  made : (C : Act) (t : State) → C .refusal ≡ 0 → stateBy C t ≡ withFile (withChannel t (C .channel) (C .newChannel)) (C .file) (C .newFile)
-  made C t z = changed-taken t (C .file) (C .channel) (C .refusal) (C .newFile) (C .newChannel) z
+  made : (C : Act) (t : State) → C .refusal ≡ 0 → stateBy C t ≡ madeBy C t
+  made C t z = changed-taken t (C .file) (C .channel) (C .refusal) (C .newFile) (C .newChannel) (C .routines (t .routines)) z
 
-  both : (C E : Act) (t : State) (z : C .refusal ≡ 0) (k : E .refusal ≡ 0)
-      → stateBy E (stateBy C t) ≡ withFile (withChannel (withFile (withChannel t (C .channel) (C .newChannel)) (C .file) (C .newFile)) (E .channel) (E .newChannel)) (E .file) (E .newFile)
-  both C E t z k = made E (stateBy C t) k ∙ ap (λ (u : State). withFile (withChannel u (E .channel) (E .newChannel)) (E .file) (E .newFile)) (made C t z)
+  both : (C E : Act) (t : State) (z : C .refusal ≡ 0) (k : E .refusal ≡ 0) → stateBy E (stateBy C t) ≡ madeBy E (madeBy C t)
+  both C E t z k = made E (stateBy C t) k ∙ ap (madeBy E) (made C t z)
 
-  state-xy : answerOf s₁ xs₁ y .state ≡ one s (A .file) (B .file) (A .channel) (B .channel) (A .newFile) (B .newFile) (A .newChannel) (B .newChannel)
+  state-xy : answerOf s₁ xs₁ y .state ≡ one s A B
   state-xy = ap (λ (a : Answer). a .state) y-after ∙ ap (λ (a : Answer). stateBy B (a .state)) (answer-by s area x rx) ∙ both A B s taken-x taken-y
 
-  state-yx : answerOf s₂ xs₂ x .state ≡ two s (A .file) (B .file) (A .channel) (B .channel) (A .newFile) (B .newFile) (A .newChannel) (B .newChannel)
+  state-yx : answerOf s₂ xs₂ x .state ≡ two s A B
   state-yx = ap (λ (a : Answer). a .state) x-after ∙ ap (λ (a : Answer). stateBy A (a .state)) (answer-by s area y ry) ∙ both B A s taken-y taken-x
 
   states-same : answerOf s₁ xs₁ y .state ≡ answerOf s₂ xs₂ x .state
   states-same =
       state-xy
-      ∙ states-comm s (A .file) (B .file) (A .channel) (B .channel) (A .newFile) (B .newFile) (A .newChannel) (B .newChannel) files-apart channels-apart
+      ∙ states-comm s A B files-apart channels-apart (routines-comm s area g x y rx ry channels-apart single zx zy)
       (sym (ap sound state-xy) ∙ call-kept s₁ xs₁ (did-x .good) y .right) (sym (ap sound state-yx) ∙ call-kept s₂ xs₂ (did-y .good) x .right)
       ∙ sym state-yx
 
@@ -766,19 +824,19 @@ turned s area x y E = record { first = E .second; second = E .first; state = sym
 -- an accepted one was given a sound state
 was-sound : (s : State) (area : List ℕ) (x : Call) → Requests x → length (s .files) ≡ fileCount → answerOf s area x .refusal ≡ 0 → sound s ≡ true
 unfolding answerOf askRefusal reportRefusal
-was-sound s area (ask file op priority) asking n z = ask-was-sound s file op priority (sym (ask-exactly s file op priority .number) ∙ z)
+was-sound s area (ask file op priority naming) asking n z = ask-was-sound s file op priority naming (sym (ask-exactly s file op priority naming .number) ∙ z)
 was-sound s area (report channel unit outcome len words) reporting n z =
     report-was-sound s area channel unit outcome len words n (sym (report-exactly s area channel unit outcome len words .number) ∙ z)
 
 pub either-order : (s : State) (area : List ℕ) (x y : Call) → length (s .files) ≡ fileCount → Requests x → Requests y
-    → ((c : ℕ) → On s c x → On s c y → ⊥) → EitherOrder s area x y
-either-order s area x y n rx ry apart = go (ℕ-discrete (answerOf s area x .refusal) 0) (ℕ-discrete (answerOf s area y .refusal) 0)
+    → ((c : ℕ) → On s c x → On s c y → ⊥) → (AnswersNaming s area x → AnswersNaming s area y → ⊥) → EitherOrder s area x y
+either-order s area x y n rx ry apart single = go (ℕ-discrete (answerOf s area x .refusal) 0) (ℕ-discrete (answerOf s area y .refusal) 0)
   where
     good : (z : Call) → Requests z → answerOf s area z .refusal ≡ 0 → Good s
     good z r e = record { right = was-sound s area z r n e; sixteen = n }
 
     go : Dec (answerOf s area x .refusal ≡ 0) → Dec (answerOf s area y .refusal ≡ 0) → EitherOrder s area x y
-    go (yes p) (yes q) = both-accepted s area (good x rx p) x y rx ry apart p q
+    go (yes p) (yes q) = both-accepted s area (good x rx p) x y rx ry apart single p q
     go (yes p) (no q) = second-refused s area (good x rx p) x y rx ry apart p q
     go (no p) (yes q) = turned s area x y (second-refused s area (good y ry q) y x ry rx (λ c a b. apart c b a) q p)
     go (no p) (no q) = record {

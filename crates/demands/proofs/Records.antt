@@ -42,7 +42,7 @@ use Rattle.pack_record.specs.Gets.{getWords}
 use Rattle.pack_record.proofs.GetTheorems.{get-open, get-input, get-area-long, get-finds}
 use Rattle.pack_record.proofs.SkipTheorems.{skip-open, skip-input, skip-full, skip-drops}
 use Rattle.pack_record.proofs.Written.{part-join}
-use Rattle.pack.specs.Calls.{Added, nothing, working, reported, got, get, skip, answerOf}
+use Rattle.pack.specs.Calls.{Added, nothing, working, reported, got, returned, runs, get, skip, answerOf}
 use Rattle.demands_ledger.specs.Ledgers.{Item, word, wrong, Came, wrongsBy, wrongs, Ledger, pastUsed, firstOf, restOf, withSkip, noted}
 use Rattle.demands_ledger.specs.Blocks.{unreadIn, unreadOf}
 use Rattle.demands_ledger.proofs.Told.{Brought}
@@ -231,12 +231,16 @@ numberIn nothing = 0
 numberIn (working u) = 0
 numberIn (reported result delivery u) = 0
 numberIn (got g) = gotNumber g
+numberIn (returned entered p) = 0
+numberIn (runs p) = 0
 
 abbrev foundBy : Added → Checked
 foundBy nothing = unchecked
 foundBy (working u) = unchecked
 foundBy (reported result delivery u) = unchecked
 foundBy (got g) = gotFound g
+foundBy (returned entered p) = unchecked
+foundBy (runs p) = unchecked
 
 module _ (r : ℕ) (some : 0 < r) (marked : Bool) where
   right-words : (ws : List ℕ) (blocks : List (List Item)) → 0 < length ws → rightOf r marked (map word ws ∷ blocks) ≡ pick r ws

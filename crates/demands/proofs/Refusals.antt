@@ -1,4 +1,4 @@
--- Demand 1 from the tables of the eleven calls. Assumes nothing.
+-- Demand 1 from the tables of the thirteen calls. Assumes nothing.
 use mathlib.Core.Path.{sym, _∙_}
 use mathlib.Core.List.{List}
 use Prim.Native.Nat.{ℕ}

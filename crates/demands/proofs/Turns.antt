@@ -1,7 +1,7 @@
 -- Who works after each accepted call is whose turn it is by the channel's book. Assumes nothing.
 use mathlib.Core.Path.{_≡_, refl, sym, ap, subst, _∙_}
 use mathlib.Core.Logic.{_≢_, _⊎_, inl, inr}
-use mathlib.Core.Bool.{Bool, true, false, not, cond, _&&_}
+use mathlib.Core.Bool.{Bool, true, false, not, cond, _&&_, _||_}
 use mathlib.Core.Option.{Option, none, some}
 use mathlib.Core.List.{List}
 use Prim.Native.Nat.{ℕ, _≤_, _<_}
@@ -9,7 +9,7 @@ use native.Mathlib.Decide.{ℕ-discrete}
 use native.Mathlib.Omega.{arith}
 use lib.Dec.{eqb}
 use borrow.Author.Tests.{eq-eqb, ne-eqb}
-use Rattle.area.proofs.Walks.{true-not-false}
+use Rattle.area.proofs.Walks.{true-not-false, or-either}
 use Rattle.area.proofs.Marks.{cond-true, cond-false}
 use Rattle.channel.specs.declared.Request.{Request}
 use Rattle.channel.specs.declared.Turn.{Turn}
@@ -36,16 +36,17 @@ use Rattle.channel_theorems.proofs.Theorems.Fresh.{units-step}
 use Rattle.channel_theorems.proofs.Theorems.Sound.{OneWorks}
 use Rattle.channel_theorems.proofs.Theorems.Bookings.{held-start, mark-start, repeat-held, Quiet, Busy, urgentHeld, ordinaryHeld, start-urgent, start-ordinary, start-busy, onward-urgent, onward-alone, none-works, found-busy, quiet-or-busy, working-at}
 use Rattle.channel_theorems.proofs.Theorems.Starting.{StartedFrom, ask-starts, end-starts, end-halts, aside-starts, repeat-halts, no-start, ask-busy}
+use Rattle.routines.specs.declared.Naming.{Naming}
 use Rattle.state.specs.declared.State.{State}
 use Rattle.state.specs.Places.{fileAt, channelAt}
 use Rattle.state_sound.proofs.ChannelFacts.{ChannelFacts}
 use Rattle.state_sound.proofs.Facts.{sound-facts}
 use Rattle.call_request.specs.Ask.{opOf, isPriority, askRefusal}
 use Rattle.call_request.specs.Report.{isIdleFor, reportRefusal}
-use Rattle.pack_request.specs.Calls.{askWrong}
+use Rattle.pack_request.specs.Calls.{askWrong, askWaits}
 use Rattle.pack_request.proofs.AskTheorems.{ask-ready, ask-exactly, ask-frame, ask-working}
 use Rattle.pack_request.proofs.ReportTheorems.{Booked, again, ended, report-exactly, view, report-event, report-frame, report-working}
-use Rattle.pack.specs.Calls.{Call, fresh, opening, close, ask, report, get, put, seal, skip, freeze, thaw, answerOf}
+use Rattle.pack.specs.Calls.{Call, fresh, opening, close, ask, report, get, put, seal, skip, freeze, thaw, return, running, answerOf}
 use Rattle.pack.specs.Histories.{isRepeat, isAccepted}
 use Rattle.pack.specs.Books.{toldResult, Pending, Book, isUrgent, isOrdinary, booked, bookedAt}
 use Rattle.pack.proofs.Kept as kept
@@ -189,28 +190,28 @@ module _ (c : ℕ) (s : State) (area : List ℕ) (g : kept.Good s) (b₀ : Book)
   D : (call : Call) → Shows (stationAt c (then call)) (book call)
   D call = call-shows c s area g b₀ S call
 
-  module _ (file op priority : ℕ) (z : answerOf s area (ask file op priority) .refusal ≡ 0) where
+  module _ (file op priority : ℕ) (naming : Naming) (z : answerOf s area (ask file op priority naming) .refusal ≡ 0) where
     asked-as : (t : Bool) → eqb (fileAt s file .channel) c ≡ t
         → Agrees (stationAt c s) (eventIf t (history.ask (fileAt s file .unit) (opOf op) (isPriority priority)) history.accepted)
-        (stationAt c (then (ask file op priority)))
+        (stationAt c (then (ask file op priority naming)))
     asked-as t e =
         subst (λ (x : Bool). Agrees (stationAt c s) (eventIf x (history.ask (fileAt s file .unit) (opOf op) (isPriority priority)) history.accepted)
-        (stationAt c (then (ask file op priority))))
-        (flag t e) (call-agrees c s area g (ask file op priority))
+        (stationAt c (then (ask file op priority naming))))
+        (flag t e) (call-agrees c s area g (ask file op priority naming))
       where
         flag : (x : Bool) → eqb (fileAt s file .channel) c ≡ x
-            → (isAccepted (answerOf s area (ask file op priority)) && eqb (fileAt s file .channel) c) ≡ x
-        flag x q = rw (eq-eqb (answerOf s area (ask file op priority) .refusal) 0 z, q)
+            → (isAccepted (answerOf s area (ask file op priority naming)) && eqb (fileAt s file .channel) c) ≡ x
+        flag x q = rw (eq-eqb (answerOf s area (ask file op priority naming) .refusal) 0 z, q)
 
     ask-took : fileAt s file .channel ≡ c
         → Took (stationAt c s) (history.ask (fileAt s file .unit) (opOf op) (isPriority priority))
-        (stepTo history.accepted (stationAt c (then (ask file op priority))))
+        (stepTo history.accepted (stationAt c (then (ask file op priority naming))))
     ask-took e =
         subst (Took (stationAt c s) (history.ask (fileAt s file .unit) (opOf op) (isPriority priority)))
         (asked-as true (eq-eqb (fileAt s file .channel) c e))
         (took (stationAt c s) (history.ask (fileAt s file .unit) (opOf op) (isPriority priority)))
 
-    ask-elsewhere : fileAt s file .channel ≢ c → stationAt c (then (ask file op priority)) ≡ stationAt c s
+    ask-elsewhere : fileAt s file .channel ≢ c → stationAt c (then (ask file op priority naming)) ≡ stationAt c s
     ask-elsewhere ne = asked-as false (ne-eqb (fileAt s file .channel) c ne)
 
   thaw-is : answerOf s area thaw .refusal ≡ 0 → channelAt (then thaw) c ≡ startOf (channelAt s c) false
@@ -234,11 +235,11 @@ module _ (c : ℕ) (s : State) (area : List ℕ) (g : kept.Good s) (b₀ : Book)
   -- an ask on an idle channel, and a thaw
   started : {call : Call} → Begins c s call → answerOf s area call .refusal ≡ 0 → NoneWorks s c → book call .frozen ≡ false → Starts (book call) (then call) c
   unfolding answerOf
-  started (asks {file} {op} {priority} e) z q f =
-      starts-from (then (ask file op priority)) c (book (ask file op priority)) (D (ask file op priority))
+  started (asks {file} {op} {priority} {naming} e) z q f =
+      starts-from (then (ask file op priority naming)) c (book (ask file op priority naming)) (D (ask file op priority naming))
       (ask-starts (stationAt c s) (fileAt s file .unit) (opOf op) (isPriority priority)
-      (stepTo history.accepted (stationAt c (then (ask file op priority)))) (ask-took file op priority z e) refl q
-      (sym (ask-frame s file op priority .frozen) ∙ D (ask file op priority) .frozen ∙ f))
+      (stepTo history.accepted (stationAt c (then (ask file op priority naming)))) (ask-took file op priority naming z e) refl q
+      (sym (ask-frame s file op priority naming .frozen) ∙ D (ask file op priority naming) .frozen ∙ f))
   started thaws z q f =
       starts-from (then thaw) c (book thaw) (D thaw) (record { quietly = channelAt s c; quiet = q; is = sym (thaw-is z) })
 
@@ -258,8 +259,8 @@ module _ (c : ℕ) (s : State) (area : List ℕ) (g : kept.Good s) (b₀ : Book)
       stopped-by (seen c s area (opening file channel unit flags size rlen)) _ (call-agrees c s area g (opening file channel unit flags size rlen))
       (D (opening file channel unit flags size rlen) .frozen ∙ f)
   stopped (close file) z f = stopped-by (seen c s area (close file)) _ (call-agrees c s area g (close file)) (D (close file) .frozen ∙ f)
-  stopped (ask file op priority) z f =
-      stopped-by (seen c s area (ask file op priority)) _ (call-agrees c s area g (ask file op priority)) (D (ask file op priority) .frozen ∙ f)
+  stopped (ask file op priority naming) z f =
+      stopped-by (seen c s area (ask file op priority naming)) _ (call-agrees c s area g (ask file op priority naming)) (D (ask file op priority naming) .frozen ∙ f)
   stopped (report channel unit outcome len words) z f =
       stopped-by (seen c s area (report channel unit outcome len words)) _ (call-agrees c s area g (report channel unit outcome len words))
       (D (report channel unit outcome len words) .frozen ∙ f)
@@ -269,6 +270,8 @@ module _ (c : ℕ) (s : State) (area : List ℕ) (g : kept.Good s) (b₀ : Book)
   stopped (skip file) z f = stopped-by (seen c s area (skip file)) _ (call-agrees c s area g (skip file)) (D (skip file) .frozen ∙ f)
   stopped freeze z f = stopped-by (seen c s area freeze) _ (call-agrees c s area g freeze) (D freeze .frozen ∙ f)
   stopped thaw z f = stopped-by (seen c s area thaw) _ (call-agrees c s area g thaw) (D thaw .frozen ∙ f)
+  stopped return z f = stopped-by (seen c s area return) _ (call-agrees c s area g return) (D return .frozen ∙ f)
+  stopped running z f = stopped-by (seen c s area running) _ (call-agrees c s area g running) (D running .frozen ∙ f)
 
   -- every other call leaves who works
   same-by : (u : ℕ) {d : Station} → d ≡ stationAt c s → isWorking (turnAt (d .channel) u) ≡ worksFor s c u
@@ -278,14 +281,14 @@ module _ (c : ℕ) (s : State) (area : List ℕ) (g : kept.Good s) (b₀ : Book)
   unchanged (fresh m w masks) z n u = absurd (n afresh)
   unchanged (opening file channel unit flags size rlen) z n u = same-by u (call-agrees c s area g (opening file channel unit flags size rlen))
   unchanged (close file) z n u = same-by u (call-agrees c s area g (close file))
-  unchanged (ask file op priority) z n u = go (ℕ-discrete (fileAt s file .channel) c) (quiet-or-busy (channelAt s c))
+  unchanged (ask file op priority naming) z n u = go (ℕ-discrete (fileAt s file .channel) c) (quiet-or-busy (channelAt s c))
     where
-      go : Dec (fileAt s file .channel ≡ c) → Quiet (channelAt s c) ⊎ Busy (channelAt s c) → worksFor (then (ask file op priority)) c u ≡ worksFor s c u
-      go (no ne) k = same-by u (ask-elsewhere file op priority z ne)
+      go : Dec (fileAt s file .channel ≡ c) → Quiet (channelAt s c) ⊎ Busy (channelAt s c) → worksFor (then (ask file op priority naming)) c u ≡ worksFor s c u
+      go (no ne) k = same-by u (ask-elsewhere file op priority naming z ne)
       go (yes e) (inl q) = absurd (n (begins (asks e) q))
       go (yes e) (inr b) =
           ask-busy (stationAt c s) (fileAt s file .unit) (opOf op) (isPriority priority)
-          (stepTo history.accepted (stationAt c (then (ask file op priority)))) (ask-took file op priority z e) b u
+          (stepTo history.accepted (stationAt c (then (ask file op priority naming)))) (ask-took file op priority naming z e) b u
   unchanged (report channel unit outcome len words) z n u = go (ℕ-discrete channel c)
     where
       go : Dec (channel ≡ c) → worksFor (then (report channel unit outcome len words)) c u ≡ worksFor s c u
@@ -306,6 +309,8 @@ module _ (c : ℕ) (s : State) (area : List ℕ) (g : kept.Good s) (b₀ : Book)
       go : Quiet (channelAt s c) ⊎ Busy (channelAt s c) → worksFor (then thaw) c u ≡ worksFor s c u
       go (inl q) = absurd (n (begins thaws q))
       go (inr b) = ap (λ (d : Channel). isWorking (turnAt d u)) (thaw-is z ∙ start-busy (channelAt s c) false (b .unit) (b .works))
+  unchanged return z n u = same-by u (call-agrees c s area g return)
+  unchanged running z n u = same-by u (call-agrees c s area g running)
 
   pub call-turns : (call : Call) → answerOf s area call .refusal ≡ 0 → Turns c s call (then call) (book call)
   call-turns call z =
@@ -427,23 +432,23 @@ module _ (s : State) (area : List ℕ) (g : kept.Good s) (channel unit outcome l
   report-tells =
       tells t channel b shown (call-kept s area g (report channel unit outcome len words)) _ (report-working s area channel unit outcome len words (g .sixteen) z)
 
-pub ask-tells : (s : State) (area : List ℕ) → kept.Good s → (file op priority : ℕ) (b₀ : Book) → Shows (stationAt (fileAt s file .channel) s) b₀
-    → answerOf s area (ask file op priority) .refusal ≡ 0
-    → Tells (answerOf s area (ask file op priority) .state) (fileAt s file .channel) (toldWorking (answerOf s area (ask file op priority) .added))
+pub ask-tells : (s : State) (area : List ℕ) → kept.Good s → (file op priority : ℕ) (naming : Naming) (b₀ : Book) → Shows (stationAt (fileAt s file .channel) s) b₀
+    → answerOf s area (ask file op priority naming) .refusal ≡ 0
+    → Tells (answerOf s area (ask file op priority naming) .state) (fileAt s file .channel) (toldWorking (answerOf s area (ask file op priority naming) .added))
 unfolding answerOf
-ask-tells s area g file op priority b₀ S z =
-    tells (answerOf s area (ask file op priority) .state) (fileAt s file .channel) _
-    (call-shows (fileAt s file .channel) s area g b₀ S (ask file op priority)) (call-kept s area g (ask file op priority)) _
-    (ask-working s file op priority z)
+ask-tells s area g file op priority naming b₀ S z =
+    tells (answerOf s area (ask file op priority naming) .state) (fileAt s file .channel) _
+    (call-shows (fileAt s file .channel) s area g b₀ S (ask file op priority naming)) (call-kept s area g (ask file op priority naming)) _
+    (ask-working s file op priority naming z)
 
 -- ---- an accepted ask: its unit had no request
 
-pub ask-single : (s : State) (area : List ℕ) (file op priority : ℕ) (b : Book) → Shows (stationAt (fileAt s file .channel) s) b
-    → answerOf s area (ask file op priority) .refusal ≡ 0 → b .requests (fileAt s file .unit) ≡ none
+pub ask-single : (s : State) (area : List ℕ) (file op priority : ℕ) (naming : Naming) (b : Book) → Shows (stationAt (fileAt s file .channel) s) b
+    → answerOf s area (ask file op priority naming) .refusal ≡ 0 → b .requests (fileAt s file .unit) ≡ none
 unfolding answerOf askRefusal hasRequest
-ask-single s area file op priority b S z =
+ask-single s area file op priority naming b S z =
     let f = fileAt s file in
-    let ready = ask-ready (askWrong s file) f (channelAt s (f .channel)) op priority (sym (ask-exactly s file op priority .number) ∙ z) in
+    let ready = ask-ready (askWrong s file) f (channelAt s (f .channel)) op priority naming (askWaits s file) (sym (ask-exactly s file op priority naming .number) ∙ z) in
     go (turnAt (channelAt s (f .channel)) (f .unit)) (b .requests (f .unit)) (S .holds (f .unit)) (ready .quiet)
   where
     go : (t : Turn) (h : Option Pending) → held t ≡ asHeld h → not (isIdle t) ≡ false → h ≡ none
@@ -471,18 +476,19 @@ report-idle s area channel unit outcome len words z =
     go (Displaced r) e = refl
     go (Working r) e = true-not-false e refl
 
-pub ask-holding : (s : State) (area : List ℕ) (file op priority : ℕ) (b : Book) → Shows (stationAt (fileAt s file .channel) s) b
-    → answerOf s area (ask file op priority) .refusal ≡ 8 → isPending (b .requests (fileAt s file .unit)) ≡ true
+pub ask-holding : (s : State) (area : List ℕ) (file op priority : ℕ) (naming : Naming) (b : Book) → Shows (stationAt (fileAt s file .channel) s) b
+    → answerOf s area (ask file op priority naming) .refusal ≡ 8 → (isPending (b .requests (fileAt s file .unit)) ≡ true) ⊎ (askWaits s file ≡ true)
 unfolding answerOf hasRequest
-ask-holding s area file op priority b S z =
+ask-holding s area file op priority naming b S z =
     let f = fileAt s file in
-    let one = row-past 8 1 _ _ (λ q. omega arith) (sym (ask-exactly s file op priority .number) ∙ z) in
+    let one = row-past 8 1 _ _ (λ q. omega arith) (sym (ask-exactly s file op priority naming .number) ∙ z) in
     let five = row-past 8 5 _ _ (λ q. omega arith) (one .1) in
     let six = row-past 8 6 _ _ (λ q. omega arith) (five .1) in
-    go (turnAt (channelAt s (f .channel)) (f .unit)) (b .requests (f .unit)) (S .holds (f .unit))
-    (row-given 8 (not (isIdle (turnAt (channelAt s (f .channel)) (f .unit)))) _
+    or-either (not (isIdle (turnAt (channelAt s (f .channel)) (f .unit)))) (askWaits s file)
+    (row-given 8 (not (isIdle (turnAt (channelAt s (f .channel)) (f .unit))) || askWaits s file) _
     (not-gives 8 9 _ _ (λ q. omega arith) (not-gives 8 10 _ _ (λ q. omega arith) (not-gives 8 15 _ _ (λ q. omega arith) (none-gives 8 (omega arith)))))
     (six .1))
+    (λ e. inl (go (turnAt (channelAt s (f .channel)) (f .unit)) (b .requests (f .unit)) (S .holds (f .unit)) e)) (λ e. inr e)
   where
     go : (t : Turn) (h : Option Pending) → held t ≡ asHeld h → not (isIdle t) ≡ true → isPending h ≡ true
     go t (some p) e q = refl

@@ -16,6 +16,7 @@ use Rattle.channel.specs.declared.Channel.{Channel}
 use Rattle.channel_outcomes.specs.Rules.{good, redundancy, noLength}
 use Rattle.channel.specs.Units.{turnAt}
 use Rattle.channel_turns.specs.Scans.{workingIn}
+use Rattle.routines.specs.Posts.{noNaming}
 use Rattle.state.specs.declared.State.{State}
 use Rattle.state.specs.Places.{beforeStart, channelAt}
 use Rattle.pack.specs.Calls.{Call, fresh, opening, ask, report, put, Added, nothing, working, reported, Answer, answerOf}
@@ -65,10 +66,10 @@ opens file flags = opening file 0 file flags 1 1
 
 -- an ordinary and a priority read of a file
 abbrev pub asks : ℕ → Call
-asks file = ask file 0 0
+asks file = ask file 0 0 noNaming
 
 abbrev pub asksFirst : ℕ → Call
-asksFirst file = ask file 0 1
+asksFirst file = ask file 0 1 noNaming
 
 -- reports of a unit of channel 0: a good read of the word 5, and a redundancy
 abbrev pub reads : ℕ → Call
@@ -128,7 +129,7 @@ table =
     ∷ is (answers (session (starts 1 ∷ opens 0 0 ∷ asks 0 ∷ replicate 101 (fails 0))))
     (answers (quiet ∷ quiet ∷ seen 0 (working 0) (attempt 1 0) ∷ (repeatedFrom 2 100 0 ++ (seen 0 (reported 5 Without 255) nobody ∷ []))))
     -- P8 26 write redundancies repeat, the 27th is permanent
-    ∷ is (answers (session (starts 1 ∷ opens 0 1 ∷ put 0 (5 ∷ []) ∷ ask 0 1 0 ∷ replicate 27 (fails 0))))
+    ∷ is (answers (session (starts 1 ∷ opens 0 1 ∷ put 0 (5 ∷ []) ∷ ask 0 1 0 noNaming ∷ replicate 27 (fails 0))))
     (answers (quiet ∷ quiet ∷ quiet ∷ seen 0 (working 0) (attempt 1 0) ∷ (repeatedFrom 2 26 0 ++ (seen 0 (reported 5 Without 255) nobody ∷ []))))
     -- P9 ordinary 2, 0, 1 asked in that order on an idle fresh channel: 2, 0, 1 run
     ∷ is (answers (session (starts 3 ∷ opens 0 0 ∷ opens 1 0 ∷ opens 2 0 ∷ asks 2 ∷ asks 0 ∷ asks 1 ∷ reads 2 ∷ reads 0 ∷ reads 1 ∷ [])))

@@ -7,3 +7,6 @@ pub mod Turns
 pub mod Orders
 pub mod Examples
 pub mod Witness
+pub mod Entries
+pub mod Routines
+pub mod Interrupts

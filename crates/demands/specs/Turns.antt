@@ -7,10 +7,11 @@ use mathlib.Core.Option.{Option, none, some}
 use mathlib.Core.List.{List}
 use Prim.Native.Nat.{ℕ, _≤_, _<_}
 use Rattle.channel.specs.Units.{turnAt, isWorking}
+use Rattle.routines.specs.declared.Naming.{Naming}
 use Rattle.state.specs.declared.State.{State}
 use Rattle.state.specs.Places.{fileAt, channelAt}
 use Rattle.pack_start.specs.declared.Masks.{Masks}
-use Rattle.pack.specs.Calls.{Call, fresh, ask, report, thaw, Added, nothing, working, reported, got}
+use Rattle.pack.specs.Calls.{Call, fresh, ask, report, thaw, Added, nothing, working, reported, got, returned, runs}
 use Rattle.pack.specs.Histories.{isRepeat}
 use Rattle.pack.specs.Books.{Pending, Book, isUrgent, isOrdinary}
 
@@ -66,7 +67,7 @@ isPending (some p) = true
 
 -- an ask on channel c, and a thaw
 pub data Begins (c : ℕ) (s : State) : Call → Type 0 where
-  asks : {file op priority : ℕ} → fileAt s file .channel ≡ c → Begins c s (ask file op priority)
+  asks : {file op priority : ℕ} {naming : Naming} → fileAt s file .channel ≡ c → Begins c s (ask file op priority naming)
   thaws : Begins c s thaw
 
 -- a report on channel c, an ask on it or a thaw while it works for no unit; and a fresh start
@@ -112,6 +113,8 @@ toldWorking nothing = 0
 toldWorking (working u) = u
 toldWorking (reported result error u) = u
 toldWorking (got g) = 0
+toldWorking (returned entered p) = 0
+toldWorking (runs p) = 0
 
 -- the number that an accepted ask or report on channel c tells, of the state t after it: "FF for none"
 pub record Tells (t : State) (c told : ℕ) : Type 0 where

@@ -7,6 +7,7 @@ use Rattle.call_request.specs.declared.Delivery.the-variants.{Without, With}
 use Rattle.word.specs.declared.Checked.{Checked}
 use Rattle.channel_outcomes.specs.Rules.{good, redundancy, incompleteWord, fileMark, endOfMedium, noLength}
 use Rattle.file_input.specs.declared.Got.the-variants.{Record, Leftover, Error, End, Nothing}
+use Rattle.routines.specs.Posts.{noNaming}
 use Rattle.state.specs.declared.State.{State}
 use Rattle.state.specs.Places.{beforeStart}
 use Rattle.pack.specs.Calls.{Call, fresh, opening, close, ask, report, get, put, seal, skip, freeze, thaw, Added, nothing, working, reported, got, Answer, answerOf}
@@ -55,8 +56,8 @@ steps1 =
     ∷ so (put 1 (6 ∷ [])) done
     ∷ so (put 1 (7 ∷ [])) done
     -- an ordinary write is displaced by a priority read, goes on, and ends well
-    ∷ so (ask 1 1 0) (told 0 (working 1) [])
-    ∷ so (ask 0 0 1) (told 0 (working 1) [])
+    ∷ so (ask 1 1 0 noNaming) (told 0 (working 1) [])
+    ∷ so (ask 0 0 1 noNaming) (told 0 (working 1) [])
     ∷ so (report 0 1 redundancy noLength []) (told 0 (reported 0 Without 0) [])
     ∷ so (report 0 0 good noLength (1 ∷ 2 ∷ 786433 ∷ [])) (told 0 (reported 1 (With (found 0 3 1 3 1)) 1) [])
     ∷ so (report 0 1 good noLength []) (told 0 (reported 1 Without 255) (5 ∷ 1310721 ∷ []))
@@ -67,7 +68,7 @@ unfoldable pub steps2 : List Step
 steps2 =
     so (get 0) (told 0 (got (Record 0 2)) (1 ∷ 2 ∷ []))
     -- a read that a freeze stops, and that ends in the opposite mode with a block in error
-    ∷ so (ask 0 0 0) (told 0 (working 0) [])
+    ∷ so (ask 0 0 0 noNaming) (told 0 (working 0) [])
     ∷ so freeze done
     ∷ so (report 0 0 redundancy noLength []) (told 0 (reported 0 Without 255) [])
     ∷ so thaw done
@@ -75,7 +76,7 @@ steps2 =
     ∷ so (report 0 0 redundancy noLength []) (told 0 (reported 0 Without 0) [])
     ∷ so (report 0 0 good noLength (3 ∷ 0 ∷ [])) (told 0 (reported 2 (With (found 3 3 2 0 0)) 255) [])
     ∷ so (get 0) (told 0 (got (Error (found 3 3 2 0 0))) [])
-    ∷ so (ask 0 0 0) (told 0 (working 0) [])
+    ∷ so (ask 0 0 0 noNaming) (told 0 (working 0) [])
     ∷ so (report 0 0 good noLength (4 ∷ 5 ∷ 2359299 ∷ [])) (told 0 (reported 1 (With (found 0 9 3 9 3)) 255) [])
     ∷ []
 
@@ -86,16 +87,16 @@ steps3 =
     ∷ so (skip 0) done
     ∷ so (skip 0) done
     ∷ so (get 0) (told 0 (got Nothing) [])
-    ∷ so (ask 0 0 0) (told 0 (working 0) [])
+    ∷ so (ask 0 0 0 noNaming) (told 0 (working 0) [])
     ∷ so (report 0 0 fileMark noLength []) (told 0 (reported 3 Without 255) [])
     ∷ so (get 0) (told 0 (got End) [])
-    ∷ so (ask 0 0 0) (told 10 (working 0) [])
+    ∷ so (ask 0 0 0 noNaming) (told 10 (working 0) [])
     -- a write that ends permanently; its block is sent again, to the end of the medium; then a mark
-    ∷ so (ask 1 1 0) (told 0 (working 1) [])
+    ∷ so (ask 1 1 0 noNaming) (told 0 (working 1) [])
     ∷ so (report 0 1 incompleteWord noLength []) (told 0 (reported 6 Without 255) [])
-    ∷ so (ask 1 1 0) (told 0 (working 1) [])
+    ∷ so (ask 1 1 0 noNaming) (told 0 (working 1) [])
     ∷ so (report 0 1 endOfMedium noLength []) (told 0 (reported 4 Without 255) (6 ∷ 7 ∷ 3407874 ∷ []))
-    ∷ so (ask 1 2 0) (told 0 (working 1) [])
+    ∷ so (ask 1 2 0 noNaming) (told 0 (working 1) [])
     ∷ so (report 0 1 good noLength []) (told 0 (reported 1 Without 255) [])
     ∷ so (close 1) done
     ∷ so (close 0) done
@@ -171,7 +172,7 @@ unfoldable pub keptSteps : List Step
 keptSteps =
     so (fresh 4 3 (record { a = 3; b = 0; c = 0; d = 0; e = 0 })) done
     ∷ so (opening 0 0 0 14 2 2) done
-    ∷ so (ask 0 0 0) (told 0 (working 0) [])
+    ∷ so (ask 0 0 0 noNaming) (told 0 (working 0) [])
     ∷ so (report 0 0 incompleteWord noLength (1 ∷ 2 ∷ 786433 ∷ [])) (told 0 (reported 0 Without 0) [])
     ∷ so (report 0 0 incompleteWord noLength (8 ∷ 0 ∷ [])) (told 0 (reported 6 (With (found 3 8 1 0 0)) 255) [])
     ∷ so (get 0) (told 0 (got (Error (found 10 8 1 0 0))) [])

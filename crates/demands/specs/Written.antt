@@ -8,7 +8,7 @@ use Prim.Native.Nat.{ℕ, _+_, _%_}
 use lib.Dec.{eqb}
 use lib.ListN.{length}
 use Rattle.word.specs.CheckWords.{blockNumbers}
-use Rattle.pack.specs.Calls.{Added, nothing, working, reported, got, Answer}
+use Rattle.pack.specs.Calls.{Added, nothing, working, reported, got, returned, runs, Answer}
 use Rattle.demands_ledger.specs.Ledgers.{Choice, Ledger, dataOf}
 use Rattle.demands_ledger.specs.Blocks.{checked, joined, Sized, Divided, Filling}
 
@@ -52,6 +52,8 @@ isDone nothing = false
 isDone (working u) = false
 isDone (reported result error u) = eqb result 1 || eqb result 4
 isDone (got g) = false
+isDone (returned entered p) = false
+isDone (runs p) = false
 
 -- of a write: a block was due,
 pub record Sends (before after : Ledger) (a : Answer) : Type 0 where

@@ -7,14 +7,14 @@ use native.Mathlib.Decide.{ℕ-discrete}
 use borrow.Author.Tests.{eq-eqb, ne-eqb}
 use Rattle.state.specs.declared.State.{State}
 use Rattle.pack_start.specs.declared.Masks.{Masks}
-use Rattle.pack.specs.Calls.{Call, fresh, opening, close, ask, report, get, put, seal, skip, freeze, thaw, Answer, answerOf}
+use Rattle.pack.specs.Calls.{Call, fresh, opening, close, ask, report, get, put, seal, skip, freeze, thaw, return, running, Answer, answerOf}
 use Rattle.pack.specs.Histories.{isAccepted}
 use Rattle.pack.proofs.Refused.{call-alone}
 use Rattle.pack.proofs.Kept.{call-kept, good-start}
 use Rattle.demands_ledger.specs.Ledgers.{Ledger, blankLedger, entered, noted, stateAfter, areaAfter, ledgerAfter}
 use Rattle.demands_ledger.proofs.Frames.{Kept}
 use Rattle.demands_ledger.proofs.Moves.{put-kept, seal-kept, get-kept, skip-kept}
-use Rattle.demands_ledger.proofs.Starts.{fresh-kept, open-kept, close-kept, ask-kept, freeze-kept, thaw-kept}
+use Rattle.demands_ledger.proofs.Starts.{fresh-kept, open-kept, close-kept, ask-kept, freeze-kept, thaw-kept, return-kept, running-kept}
 use Rattle.demands_ledger.proofs.Reported.{report-kept}
 
 module _ (s : State) (area : List ℕ) (ledgers : ℕ → Ledger) (K : Kept s area ledgers) where
@@ -24,7 +24,7 @@ module _ (s : State) (area : List ℕ) (ledgers : ℕ → Ledger) (K : Kept s ar
   accepted-kept (fresh m w masks) z = fresh-kept s area m w masks (call-kept s area (K .good) (fresh m w masks)) z
   accepted-kept (opening file channel unit flags size rlen) z = open-kept s area ledgers K file channel unit flags size rlen z
   accepted-kept (close file) z = close-kept s area ledgers K file z
-  accepted-kept (ask file op priority) z = ask-kept s area ledgers K file op priority z
+  accepted-kept (ask file op priority naming) z = ask-kept s area ledgers K file op priority naming z
   accepted-kept (report channel unit outcome len words) z = report-kept s area ledgers K channel unit outcome len words z
   accepted-kept (get file) z = get-kept s area ledgers K file z
   accepted-kept (put file words) z = put-kept s area ledgers K file words z
@@ -32,6 +32,8 @@ module _ (s : State) (area : List ℕ) (ledgers : ℕ → Ledger) (K : Kept s ar
   accepted-kept (skip file) z = skip-kept s area ledgers K file z
   accepted-kept freeze z = freeze-kept s area ledgers K
   accepted-kept thaw z = thaw-kept s area ledgers K
+  accepted-kept return z = return-kept s area ledgers K
+  accepted-kept running z = running-kept s area ledgers K
 
   -- a refused call enters no ledger and changes nothing
   pub noted-kept : (call : Call)

@@ -30,6 +30,7 @@ use Rattle.file.specs.declared.File.{File}
 use Rattle.file.specs.Sizes.{closedFile}
 use Rattle.pool.specs.Free.{fileCount}
 use Rattle.pool.specs.Serving.{serves, isBound}
+use Rattle.routines.specs.declared.Naming.{Naming}
 use Rattle.state.specs.declared.State.{State}
 use Rattle.state.specs.Places.{fileAt, channelIn, channelAt}
 use Rattle.state_sound.specs.Files.{shareBuffer, shareUnit, apart}
@@ -43,7 +44,7 @@ use Rattle.pack_start.specs.declared.Masks.{Masks}
 use Rattle.pack_open.proofs.OpenTheorems.{open-accepted, open-frame}
 use Rattle.call_request.specs.Ask.{isPriority, opOf}
 use Rattle.pack_request.proofs.AskTheorems.{ask-ready, ask-frame, ask-event}
-use Rattle.pack.specs.Calls.{Call, fresh, opening, close, ask, report, get, put, seal, skip, freeze, thaw, Answer, answerOf}
+use Rattle.pack.specs.Calls.{Call, fresh, opening, close, ask, report, get, put, seal, skip, freeze, thaw, return, running, Answer, answerOf}
 use Rattle.pack.specs.Histories.{isAccepted}
 use Rattle.pack.proofs.Refused.{call-alone}
 use Rattle.pack.proofs.Seen.{stationAt, eventIf, seen, call-agrees}
@@ -186,16 +187,16 @@ module _ (s : State) (area : List ℕ) (ledgers : ℕ → Ledger) (K : Kept s ar
 
   -- ---- ask
 
-  module _ (file op priority : ℕ) (z : answerOf s area (ask file op priority) .refusal ≡ 0) where
+  module _ (file op priority : ℕ) (naming : Naming) (z : answerOf s area (ask file op priority naming) .refusal ≡ 0) where
     abbrev f : File
     f = fileAt s file
 
     abbrev t : State
-    t = answerOf s area (ask file op priority) .state
+    t = answerOf s area (ask file op priority naming) .state
 
-    E : Kept (answerOf s area (ask file op priority) .state) (answerOf s area (ask file op priority) .area)
+    E : Kept (answerOf s area (ask file op priority naming) .state) (answerOf s area (ask file op priority naming) .area)
         (λ i. cond (eqb file i) (withAsk op (ledgers i)) (ledgers i))
-    E = accepted-kept s area ledgers K (ask file op priority) z
+    E = accepted-kept s area ledgers K (ask file op priority naming) z
 
     like : (i : ℕ) → Like (cond (eqb file i) (withAsk op (ledgers i)) (ledgers i)) (ledgers i)
     like i = like-cond (eqb file i) (withAsk op (ledgers i)) (ledgers i) (record { chosen = refl; opened = λ o. o })
@@ -207,16 +208,16 @@ module _ (s : State) (area : List ℕ) (ledgers : ℕ → Ledger) (K : Kept s ar
         let st = station (channelAt s (f .channel)) (s .frozen) in
         let e = history.ask (f .unit) (opOf op) (isPriority priority) in
         ask-request st y o (f .unit) (opOf op) (isPriority priority) (station (channelAt t (f .channel)) (t .frozen))
-        (subst (Took st e) (ask-event s file op priority z) (took st e)) r
+        (subst (Took st e) (ask-event s file op priority naming z) (took st e)) r
 
     ask-here : fileAt t file .opened ≡ true → (o : Op) → requestOf (t .channels) (fileAt t file) ≡ At o → o ≡ opOf op
     ask-here h o r =
-        on-channel (f .unit) o (request-there t (answerOf s area (ask file op priority) .area) file _ (E .told file) (like file) h o r) .0 refl
+        on-channel (f .unit) o (request-there t (answerOf s area (ask file op priority naming) .area) file _ (E .told file) (like file) h o r) .0 refl
 
     ask-there : (i : ℕ) → i ≢ file → fileAt t i .opened ≡ true → (o : Op) → requestOf (t .channels) (fileAt t i) ≡ At o → o ≡ opOf (ledgers i .asked)
     unfolding answerOf
     ask-there i ne h o r =
-        let zs = answerOf s area (ask file op priority) .area in
+        let zs = answerOf s area (ask file op priority naming) .area in
         let p = was-open t zs i _ (E .told i) (like i) h in
         let q = request-there t zs i _ (E .told i) (like i) h o r in
         A i p o (go p q (ℕ-discrete (fileAt s i .channel) (f .channel)))
@@ -226,12 +227,12 @@ module _ (s : State) (area : List ℕ) (ledgers : ℕ → Ledger) (K : Kept s ar
         go p q (yes c) =
             ap (λ (n : ℕ). requested (turnAt (channelAt s n) (fileAt s i .unit))) c
             ∙ on-channel (fileAt s i .unit) o (sym (ap (λ (n : ℕ). requested (turnAt (channelAt t n) (fileAt s i .unit))) c) ∙ q) .1
-            (other-unit file i (λ e. ne (sym e)) (ask-ready _ f (channelAt s (f .channel)) op priority
-            (asked-number s area ledgers K file op priority z) .isOpen) p c)
+            (other-unit file i (λ e. ne (sym e)) (ask-ready _ f (channelAt s (f .channel)) op priority naming _
+            (asked-number s area ledgers K file op priority naming z) .isOpen) p c)
         go p q (no c) =
-            sym (ap (λ (k : Channel). requested (turnAt k (fileAt s i .unit))) (ask-frame s file op priority .channels (fileAt s i .channel) c)) ∙ q
+            sym (ap (λ (k : Channel). requested (turnAt k (fileAt s i .unit))) (ask-frame s file op priority naming .channels (fileAt s i .channel) c)) ∙ q
 
-    ask-asked : Asked (answerOf s area (ask file op priority) .state) (λ i. cond (eqb file i) (withAsk op (ledgers i)) (ledgers i))
+    ask-asked : Asked (answerOf s area (ask file op priority naming) .state) (λ i. cond (eqb file i) (withAsk op (ledgers i)) (ledgers i))
     ask-asked i h o r = by (ℕ-discrete file i)
       where
         by : Dec (file ≡ i) → o ≡ opOf (cond (eqb file i) (withAsk op (ledgers i)) (ledgers i) .asked)
@@ -311,7 +312,7 @@ module _ (s : State) (area : List ℕ) (ledgers : ℕ → Ledger) (K : Kept s ar
   accepted-asked (close file) z =
       quiet-asked (close file) z (λ c. call-agrees c s area (K .good) (close file)) (λ c. refl)
       (one-like (eqb file) withClose (λ g. record { chosen = refl; opened = λ p. true-not-false p refl })) (one-asked (eqb file) withClose (λ g. refl))
-  accepted-asked (ask file op priority) z = ask-asked file op priority z
+  accepted-asked (ask file op priority naming) z = ask-asked file op priority naming z
   accepted-asked (report channel unit outcome len words) z =
       let a = answerOf s area (report channel unit outcome len words) in
       quiet-asked (report channel unit outcome len words) z (λ c. call-agrees c s area (K .good) (report channel unit outcome len words))
@@ -338,6 +339,8 @@ module _ (s : State) (area : List ℕ) (ledgers : ℕ → Ledger) (K : Kept s ar
   accepted-asked thaw z =
       quiet-asked thaw z (λ c. call-agrees c s area (K .good) thaw) (λ c. event-quiet (isAccepted (answerOf s area thaw)) history.thaw accepted refl)
       (λ i. like-self (ledgers i)) (λ i. refl)
+  accepted-asked return z = quiet-asked return z (λ c. call-agrees c s area (K .good) return) (λ c. refl) (λ i. like-self (ledgers i)) (λ i. refl)
+  accepted-asked running z = quiet-asked running z (λ c. call-agrees c s area (K .good) running) (λ c. refl) (λ i. like-self (ledgers i)) (λ i. refl)
 
   -- a refused call enters no ledger and changes nothing
   pub noted-asked : (call : Call) → Asked (answerOf s area call .state) (λ i. noted i call (answerOf s area call) (ledgers i))

@@ -186,7 +186,7 @@ module _ (s : State) (area : List ℕ) (ledgers : ℕ → Ledger) (K : Kept s ar
   unfolding reportBy
   after-file =
       let x = reportChange s area channel unit outcome len words in
-      here-file s i channel (x .refusal) (x .file) (x .channel) (ap (λ (y : ReportChange). y .refusal) change) (place-of s i open-file)
+      here-file s i channel (x .refusal) (x .file) (x .channel) _ (ap (λ (y : ReportChange). y .refusal) change) (place-of s i open-file)
 
   -- no word of another file's buffers changes
   still : (j : ℕ) → j ≢ i → fileAt s j .opened ≡ true → (k : Side) → owns (fileAt s j) k ≡ true

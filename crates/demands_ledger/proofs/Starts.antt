@@ -1,4 +1,4 @@
--- Fresh start, open, close, ask, freeze and thaw keep what holds of every open file and its ledger. Assumes nothing.
+-- Fresh start, open, close, ask, freeze, thaw, return and what runs keep what holds of every open file and its ledger. Assumes nothing.
 use mathlib.Core.Path.{_≡_, refl, sym, ap, subst, _∙_}
 use mathlib.Core.Bool.{Bool, true, false, cond}
 use mathlib.Core.List.{List, []}
@@ -24,6 +24,7 @@ use Rattle.file_input.specs.Ages.{line}
 use Rattle.file_input.proofs.Ages.{took-line}
 use Rattle.file.proofs.Which.{empty-there}
 use Rattle.pool.specs.Free.{fileCount}
+use Rattle.routines.specs.declared.Naming.{Naming}
 use Rattle.state.specs.declared.State.{State}
 use Rattle.state.specs.Places.{fileAt, channelAt}
 use Rattle.pack_start.specs.declared.Masks.{Masks}
@@ -37,9 +38,11 @@ use Rattle.pack_open.proofs.OpenTheorems.{lowOf, highOf, open-accepted, open-fi
 use Rattle.pack_open.proofs.CloseTheorems.{close-file, close-frame}
 use Rattle.pack_start.proofs.FreezeTheorems.{OnlyTurns, freeze-frame, thaw-frame}
 use Rattle.call_request.specs.Ask.{isReading, askRefusal, askedFile}
-use Rattle.pack_request.specs.Calls.{askWrong, askBy}
+use Rattle.pack_request.specs.Calls.{askWrong, askWaits, askBy}
 use Rattle.pack_request.proofs.AskTheorems.{ask-exactly, ask-frame, ask-file}
-use Rattle.pack.specs.Calls.{opening, close, ask, freeze, thaw, answerOf}
+use Rattle.pack_routine.specs.Calls.{returnBy, runningBy}
+use Rattle.pack_routine.proofs.Theorems.{OnlyRoutines, return-frame, running-frame}
+use Rattle.pack.specs.Calls.{opening, close, ask, freeze, thaw, return, running, answerOf}
 use Rattle.pack.proofs.Kept.{Good, call-kept}
 use Rattle.demands_ledger.specs.Ledgers.{Choice, Ledger, choiceOf, newLedger, blankLedger, withAsk, withClose}
 use Rattle.demands_ledger.specs.Blocks.{allChecked, joined, contents, numberAfter, done}
@@ -153,19 +156,19 @@ module _ (s : State) (area : List ℕ) (ledgers : ℕ → Ledger) (K : Kept s ar
       (ap (λ (f : File). f .opened) (close-file s file z))
       (ap (λ (g : Ledger). g .opened) (entering-here ledgers withClose file)))
 
-  pub asked-number : (file op priority : ℕ) → askBy s file op priority .refusal ≡ 0
-      → askRefusal (askWrong s file) (fileAt s file) (channelAt s (fileAt s file .channel)) op priority ≡ 0
+  pub asked-number : (file op priority : ℕ) (naming : Naming) → askBy s file op priority naming .refusal ≡ 0
+      → askRefusal (askWrong s file) (fileAt s file) (channelAt s (fileAt s file .channel)) op priority naming (askWaits s file) ≡ 0
   unfolding askRefusal
-  asked-number file op priority z = sym (ask-exactly s file op priority .number) ∙ z
+  asked-number file op priority naming z = sym (ask-exactly s file op priority naming .number) ∙ z
 
-  pub ask-kept : (file op priority : ℕ) → askBy s file op priority .refusal ≡ 0
-      → Kept (askBy s file op priority .state) area (entering ledgers (withAsk op) file)
+  pub ask-kept : (file op priority : ℕ) (naming : Naming) → askBy s file op priority naming .refusal ≡ 0
+      → Kept (askBy s file op priority naming .state) area (entering ledgers (withAsk op) file)
   unfolding answerOf
-  ask-kept file op priority z =
-      let F = ask-frame s file op priority in
-      kept-file s (askBy s file op priority .state) area area ledgers (entering ledgers (withAsk op) file) K
-      (call-kept s area (K .good) (ask file op priority)) file (F .words) (F .files) (entering-other ledgers (withAsk op) file) (λ i ne p k q. refl)
-      (subst (λ (h : File). Told (s .w) h area (entering ledgers (withAsk op) file file)) (sym (ask-file s file op priority z))
+  ask-kept file op priority naming z =
+      let F = ask-frame s file op priority naming in
+      kept-file s (askBy s file op priority naming .state) area area ledgers (entering ledgers (withAsk op) file) K
+      (call-kept s area (K .good) (ask file op priority naming)) file (F .words) (F .files) (entering-other ledgers (withAsk op) file) (λ i ne p k q. refl)
+      (subst (λ (h : File). Told (s .w) h area (entering ledgers (withAsk op) file file)) (sym (ask-file s file op priority naming z))
       (subst (Told (s .w) (askedFile op (fileAt s file)) area) (sym (entering-here ledgers (withAsk op) file))
       (told-noted (s .w) op (askedFile op (fileAt s file)) area (ledgers file)
       (told-asked (s .w) op (fileAt s file) area (ledgers file) (K .told file)))))
@@ -186,3 +189,15 @@ module _ (s : State) (area : List ℕ) (ledgers : ℕ → Ledger) (K : Kept s ar
   pub thaw-kept : Kept (thawBy s .state) area ledgers
   unfolding answerOf
   thaw-kept = turns-kept (thawBy s .state) (call-kept s area (K .good) thaw) (thaw-frame s)
+
+  -- a return and a question after what runs leave all but the routines
+  ran-kept : (t : State) → Good t → OnlyRoutines s t → Kept t area ledgers
+  ran-kept t g O = turns-kept t g (record { m = O .m; w = O .w; files = O .files })
+
+  pub return-kept : Kept (returnBy s .state) area ledgers
+  unfolding answerOf
+  return-kept = ran-kept (returnBy s .state) (call-kept s area (K .good) return) (return-frame s)
+
+  pub running-kept : Kept (runningBy s .state) area ledgers
+  unfolding answerOf
+  running-kept = ran-kept (runningBy s .state) (call-kept s area (K .good) running) (running-frame s)

@@ -15,7 +15,7 @@ use Rattle.file_input.specs.declared.Got.{Got}
 use Rattle.file_input.specs.declared.Got.the-variants.{Record, Leftover, Error, End, Nothing}
 use Rattle.state.specs.declared.State.{State}
 use Rattle.call_open.specs.Open.{isSet}
-use Rattle.pack.specs.Calls.{Call, fresh, opening, close, ask, report, get, put, seal, skip, freeze, thaw, Added, nothing, working, reported, got, Answer, answerOf}
+use Rattle.pack.specs.Calls.{Call, fresh, opening, close, ask, report, get, put, seal, skip, freeze, thaw, return, running, Added, nothing, working, reported, got, returned, runs, Answer, answerOf}
 use Rattle.pack.specs.Histories.{isAccepted, isAnswer}
 use Rattle.pack.specs.Books.{toldResult}
 
@@ -126,6 +126,8 @@ toldDelivery nothing = Without
 toldDelivery (working u) = Without
 toldDelivery (reported result delivery u) = delivery
 toldDelivery (got g) = Without
+toldDelivery (returned back p) = Without
+toldDelivery (runs p) = Without
 
 -- "results are .. 03 mark"
 abbrev pub isMark : Added → Bool
@@ -133,6 +135,8 @@ isMark nothing = false
 isMark (working u) = false
 isMark (reported result delivery u) = eqb result 3
 isMark (got g) = false
+isMark (returned back p) = false
+isMark (runs p) = false
 
 -- a report: the block delivered with it, if it answers its request; the block that its answer shows; and whether it read a mark
 abbrev pub withReport : List ℕ → Answer → Ledger → Ledger
@@ -178,6 +182,8 @@ given nothing words = []
 given (working u) words = []
 given (reported result delivery u) words = []
 given (got g) words = givenBy g words
+given (returned back p) words = []
+given (runs p) words = []
 
 -- "If that block was used up by an earlier get, it first becomes empty and the next oldest is looked at."
 abbrev pub pastUsed : List (List Item) → List (List Item)
@@ -278,7 +284,7 @@ abbrev pub entered : ℕ → Call → Answer → Ledger → Ledger
 entered i (fresh m w masks) a g = blankLedger
 entered i (opening file channel unit flags size rlen) a g = cond (eqb file i) (newLedger (choiceOf channel unit flags size rlen)) g
 entered i (close file) a g = cond (eqb file i) (withClose g) g
-entered i (ask file op priority) a g = cond (eqb file i) (withAsk op g) g
+entered i (ask file op priority naming) a g = cond (eqb file i) (withAsk op g) g
 entered i (report channel unit outcome len words) a g = cond (isOn channel unit g) (withReport words a g) g
 entered i (get file) a g = cond (eqb file i) (withGet a g) g
 entered i (put file words) a g = cond (eqb file i) (withPut words g) g
@@ -286,6 +292,8 @@ entered i (seal file) a g = cond (eqb file i) (withSeal g) g
 entered i (skip file) a g = cond (eqb file i) (withSkip g) g
 entered i freeze a g = g
 entered i thaw a g = g
+entered i return a g = g
+entered i running a g = g
 
 -- a refused call enters no ledger
 abbrev pub noted : ℕ → Call → Answer → Ledger → Ledger

@@ -6,7 +6,7 @@ use mathlib.Core.Option.{Option, none, some, Option·none-ne-some}
 use mathlib.Core.List.{List, [], _∷_, _++_}
 use lib.ListN.{length}
 use Rattle.session_frame.specs.declared.Frame.{Frame}
-use Rattle.session_frame.specs.declared.Frame.the-variants.{Malformed, Fresh, Open, Close, Ask, Report, Get, Put, Seal, Skip, Freeze, Thaw}
+use Rattle.session_frame.specs.declared.Frame.the-variants.{Malformed, Fresh, Open, Close, Ask, Report, Get, Put, Seal, Skip, Freeze, Thaw, Return, Running}
 use Rattle.session_frame.specs.Frames.{frameOf, longest}
 use Rattle.session_frame.specs.Digits.{concatMap, byteDigits, digitOf}
 use Rattle.session_frame.specs.Answers.{answerText, answerBytes}
@@ -51,6 +51,8 @@ reply-is s area words (Seal file) = refl
 reply-is s area words (Skip file) = refl
 reply-is s area words Freeze = refl
 reply-is s area words Thaw = refl
+reply-is s area words Return = refl
+reply-is s area words Running = refl
 
 line-is : (s : State) (area line : List ℕ) → answerTo s area line ≡ replyBy s area (callIn line)
 unfolding answerTo callIn
@@ -112,6 +114,8 @@ none-malformed (Seal file) words e = absurd (Option·none-ne-some _ (sym e))
 none-malformed (Skip file) words e = absurd (Option·none-ne-some _ (sym e))
 none-malformed Freeze words e = absurd (Option·none-ne-some _ (sym e))
 none-malformed Thaw words e = absurd (Option·none-ne-some _ (sym e))
+none-malformed Return words e = absurd (Option·none-ne-some _ (sym e))
+none-malformed Running words e = absurd (Option·none-ne-some _ (sym e))
 
 pub no-call-malformed : (line : List ℕ) → callIn line ≡ none → frameOf line ≡ Malformed
 unfolding callIn

@@ -9,13 +9,13 @@ use Rattle.session_frame.specs.declared.Frame.{Frame}
 use Rattle.session_frame.specs.declared.Frame.the-variants as frame
 use Rattle.session_frame.specs.Frames.{frameOf}
 use Rattle.session_frame.specs.declared.Answer as said
-use Rattle.session_frame.specs.declared.Answer.the-variants.{Refused, Done, Asked}
+use Rattle.session_frame.specs.declared.Answer.the-variants.{Refused, Done, Asked, Returned, Runs}
 use Rattle.session_frame.specs.Answers.{answerText}
 use Rattle.state.specs.declared.State.{State}
 use Rattle.state.specs.Places.{beforeStart}
 use Rattle.session_reply.specs.Replies.{answerOr, masksOf, gotAnswer, givenWords, reportAnswer}
 use Rattle.session.specs.Session.{Course, playLines, areaWords}
-use Rattle.pack.specs.Calls.{Call, fresh, opening, close, ask, report, get, put, seal, skip, freeze, thaw, Added, nothing, working, reported, got, Answer, answerOf}
+use Rattle.pack.specs.Calls.{Call, fresh, opening, close, ask, report, get, put, seal, skip, freeze, thaw, return, running, Added, nothing, working, reported, got, returned, runs, Answer, answerOf}
 use Rattle.pack.specs.Histories.{Lent}
 use Rattle.demands_ledger.specs.Ledgers.{stateAfter, areaAfter}
 
@@ -27,7 +27,7 @@ callOf frame.Malformed words = none
 callOf (frame.Fresh q) words = some (fresh (q .m) (q .w) (masksOf (q .masks)))
 callOf (frame.Open q) words = some (opening (q .file) (q .channel) (q .unit) (q .flags) (q .size) (q .rlen))
 callOf (frame.Close file) words = some (close file)
-callOf (frame.Ask q) words = some (ask (q .file) (q .op) (q .priority))
+callOf (frame.Ask q) words = some (ask (q .file) (q .op) (q .priority) (q .naming))
 callOf (frame.Report q) words = some (report (q .channel) (q .unit) (q .outcome) (q .length) words)
 callOf (frame.Get file) words = some (get file)
 callOf (frame.Put q) words = some (put (q .file) words)
@@ -35,6 +35,8 @@ callOf (frame.Seal file) words = some (seal file)
 callOf (frame.Skip file) words = some (skip file)
 callOf frame.Freeze words = some freeze
 callOf frame.Thaw words = some thaw
+callOf frame.Return words = some return
+callOf frame.Running words = some running
 
 unfoldable pub callIn : List ℕ → Option Call
 callIn line = callOf (frameOf line) (givenWords (frameOf line) line)
@@ -51,12 +53,14 @@ callsIn (l ∷ ls) = consOf (callIn l) (callsIn ls)
 -- ---- what is printed
 
 -- "After 00: ask adds the channel's working unit, FF for none. Report adds result, check error, working unit and .. the block's words .. Get adds
--- 00 and words, .. Others add nothing."
+-- 00 and words, .. Others add nothing."; return adds whether a waiting routine was entered and what runs, and what runs adds that alone (document 02, M-110)
 abbrev pub saidBy : Added → said.Answer
 saidBy nothing = Done
 saidBy (working u) = Asked u
 saidBy (reported result delivery u) = reportAnswer result delivery u
 saidBy (got g) = gotAnswer g
+saidBy (returned entered program) = Returned entered program
+saidBy (runs program) = Runs program
 
 -- the line of an answer: "First byte 00 or the refusal."
 abbrev pub lineOf : Answer → List ℕ

@@ -9,11 +9,12 @@ use lib.Dec.{eqb}
 use lib.ListN.{length, take}
 use Rattle.area.specs.Lists.{countOf}
 use Rattle.area.proofs.Walks.{by-test}
+use Rattle.routines.specs.declared.Naming.{Naming}
 use Rattle.state.specs.declared.State.{State}
 use Rattle.state.specs.Places.{fileAt}
 use Rattle.pack_start.specs.declared.Masks.{Masks}
 use Rattle.call_request.specs.Ask.{isPriority}
-use Rattle.pack.specs.Calls.{Call, fresh, opening, close, ask, report, get, put, seal, skip, freeze, thaw, Added, nothing, working, reported, got, Answer, answerOf}
+use Rattle.pack.specs.Calls.{Call, fresh, opening, close, ask, report, get, put, seal, skip, freeze, thaw, return, running, Added, nothing, working, reported, got, Answer, answerOf}
 use Rattle.pack.specs.Histories.{Lent, after, count, isAccepted, isAnswer, freshStart, isReportOn, isAnswerFor, declaredOn}
 use Rattle.pack.specs.Books.{Book, blankBook, bookAfter}
 use Rattle.demands.specs.Demands.{Answers, priorities}
@@ -43,7 +44,7 @@ agree-counts : (c : ℕ) (s : State) (call : Call) (a : Answer) → counts c (ca
 agree-counts c s (fresh m w masks) a = sym (no-more (isAccepted a))
 agree-counts c s (opening file channel unit flags size rlen) a = sym (no-more (isAccepted a))
 agree-counts c s (close file) a = sym (no-more (isAccepted a))
-agree-counts c s (ask file op priority) a = sym (no-more (isAccepted a))
+agree-counts c s (ask file op priority naming) a = sym (no-more (isAccepted a))
 agree-counts c s (report channel unit outcome len words) a = ap (λ (b : Bool). isAccepted a && b) (eqb-swap c channel)
 agree-counts c s (get file) a = sym (no-more (isAccepted a))
 agree-counts c s (put file words) a = sym (no-more (isAccepted a))
@@ -51,6 +52,8 @@ agree-counts c s (seal file) a = sym (no-more (isAccepted a))
 agree-counts c s (skip file) a = sym (no-more (isAccepted a))
 agree-counts c s freeze a = sym (no-more (isAccepted a))
 agree-counts c s thaw a = sym (no-more (isAccepted a))
+agree-counts c s return a = sym (no-more (isAccepted a))
+agree-counts c s running a = sym (no-more (isAccepted a))
 
 four : (a x y z : Bool) → (((a && x) && y) && (a && z)) ≡ (a && (x && (y && z)))
 four true true true z = refl
@@ -62,7 +65,7 @@ agree-answers : (c u : ℕ) (s : State) (call : Call) (a : Answer) → answers c
 agree-answers c u s (fresh m w masks) a = sym (no-more (isAccepted a))
 agree-answers c u s (opening file channel unit flags size rlen) a = sym (no-more (isAccepted a))
 agree-answers c u s (close file) a = sym (no-more (isAccepted a))
-agree-answers c u s (ask file op priority) a = sym (no-more (isAccepted a))
+agree-answers c u s (ask file op priority naming) a = sym (no-more (isAccepted a))
 agree-answers c u s (report channel unit outcome len words) a =
     four (isAccepted a) (eqb c channel) (eqb u unit) (isAnswer (a .added))
     ∙ ap₂ (λ (x y : Bool). isAccepted a && (x && (y && isAnswer (a .added)))) (eqb-swap c channel) (eqb-swap u unit)
@@ -72,6 +75,8 @@ agree-answers c u s (seal file) a = sym (no-more (isAccepted a))
 agree-answers c u s (skip file) a = sym (no-more (isAccepted a))
 agree-answers c u s freeze a = sym (no-more (isAccepted a))
 agree-answers c u s thaw a = sym (no-more (isAccepted a))
+agree-answers c u s return a = sym (no-more (isAccepted a))
+agree-answers c u s running a = sym (no-more (isAccepted a))
 
 with-true : (b : Bool) → b ≡ (b && true)
 with-true true = refl
@@ -81,7 +86,7 @@ agree-starts : (s : State) (call : Call) (a : Answer) → starts (callEvent s ca
 agree-starts s (fresh m w masks) a = with-true (isAccepted a)
 agree-starts s (opening file channel unit flags size rlen) a = sym (no-more (isAccepted a))
 agree-starts s (close file) a = sym (no-more (isAccepted a))
-agree-starts s (ask file op priority) a = sym (no-more (isAccepted a))
+agree-starts s (ask file op priority naming) a = sym (no-more (isAccepted a))
 agree-starts s (report channel unit outcome len words) a = sym (no-more (isAccepted a))
 agree-starts s (get file) a = sym (no-more (isAccepted a))
 agree-starts s (put file words) a = sym (no-more (isAccepted a))
@@ -89,6 +94,8 @@ agree-starts s (seal file) a = sym (no-more (isAccepted a))
 agree-starts s (skip file) a = sym (no-more (isAccepted a))
 agree-starts s freeze a = sym (no-more (isAccepted a))
 agree-starts s thaw a = sym (no-more (isAccepted a))
+agree-starts s return a = sym (no-more (isAccepted a))
+agree-starts s running a = sym (no-more (isAccepted a))
 
 -- ---- a request that the sheet lists as answered: its numbers are those of the history
 
@@ -130,13 +137,13 @@ module _ (s₀ : State) (area₀ : List ℕ) (m w : ℕ) (masks : Masks) (starte
   abbrev start : State
   start = answerOf s₀ area₀ (fresh m w masks) .state
 
-  module _ (before : List Lent) (single : count freshStart start before ≡ 0) (file op priority : ℕ) (area : List ℕ) (ordinary : isPriority priority ≡ false)
-      (accepted : answerOf (after start before) area (ask file op priority) .refusal ≡ 0) (k : ℕ) (later : List (List ℕ)) (fits : k + 1 + length later ≤ mostCount) where
+  module _ (before : List Lent) (single : count freshStart start before ≡ 0) (file op priority : ℕ) (naming : Naming) (area : List ℕ) (ordinary : isPriority priority ≡ false)
+      (accepted : answerOf (after start before) area (ask file op priority naming) .refusal ≡ 0) (k : ℕ) (later : List (List ℕ)) (fits : k + 1 + length later ≤ mostCount) where
     abbrev asked : Answer
-    asked = answerOf (after start before) area (ask file op priority)
+    asked = answerOf (after start before) area (ask file op priority naming)
 
     abbrev listed : Row
-    listed = rowThrough (next k) (newRow (callEvent (after start before) (ask file op priority) asked) k) (eventsOf (asked .state) (asked .area) later)
+    listed = rowThrough (next k) (newRow (callEvent (after start before) (ask file op priority naming) asked) k) (eventsOf (asked .state) (asked .area) later)
 
     pub listed-within : (listed .answered ≡ 0 → ⊥)
         → Within (declaredOn start (fileAt (after start before) file .channel)) (fileAt (after start before) file .channel) (fileAt (after start before) file .unit) k
@@ -145,5 +152,5 @@ module _ (s₀ : State) (area₀ : List ℕ) (m w : ℕ) (masks : Masks) (starte
         let c = fileAt (after start before) file .channel in
         let u = fileAt (after start before) file .unit in
         let A = listed-answered file (fileAt (after start before) file .channel) (fileAt (after start before) file .unit) k (asked .state) (asked .area) later fits ne in
-        let D = demand3 s₀ area₀ m w masks started before single file op priority area ordinary accepted (lentFrom (asked .state) (asked .area) (callsIn (take (A .lines) later))) (A .undropped) in
+        let D = demand3 s₀ area₀ m w masks started before single file op priority naming area ordinary accepted (lentFrom (asked .state) (asked .area) (callsIn (take (A .lines) later))) (A .undropped) in
         record { answer = A; bound = omega (arith, D .soon (A .unanswered), A .reports) }

@@ -12,7 +12,7 @@ use Rattle.area.specs.Lists.{oneIf, countOf}
 use Rattle.area.proofs.Walks.{by-test, and-left, and-right, and-both, true-not-false}
 use Rattle.session_frame.specs.Digits.{digitOf, byteDigits, concatMap}
 use Rattle.session_frame.specs.declared.Frame.{Frame}
-use Rattle.session_frame.specs.declared.Frame.the-variants.{Malformed, Fresh, Open, Close, Ask, Report, Get, Put, Seal, Skip, Freeze, Thaw}
+use Rattle.session_frame.specs.declared.Frame.the-variants.{Malformed, Fresh, Open, Close, Ask, Report, Get, Put, Seal, Skip, Freeze, Thaw, Return, Running}
 use Rattle.session_frame.specs.Frames.{frameOf}
 use Rattle.session_frame.specs.declared.Answer as said
 use Rattle.session_frame.specs.declared.Answer.the-variants.{Refused, Done, Asked}
@@ -26,7 +26,7 @@ use Rattle.call_request.specs.declared.Delivery.{Delivery}
 use Rattle.call_request.specs.declared.Delivery.the-variants.{Without, With}
 use Rattle.pack_request.specs.declared.Reporting.{Reporting}
 use Rattle.pack_request.specs.Calls.{askBy, reportBy, reportByArea}
-use Rattle.pack.specs.Calls.{Call, fresh, opening, close, ask, report, get, put, seal, skip, freeze, thaw, Answer, answerOf}
+use Rattle.pack.specs.Calls.{Call, fresh, opening, close, ask, report, get, put, seal, skip, freeze, thaw, return, running, Answer, answerOf}
 use Rattle.pack.specs.Histories.{isAccepted as accepts, count}
 use Rattle.demands_session.specs.Played.{callOf, callIn, consOf, callsIn, stateFor, areaFor, lentFrom}
 use Rattle.sheet.specs.declared.Event.{Event}
@@ -110,7 +110,7 @@ frame-event s area words (Fresh q) = ap (λ (b : Bool). startEvent b) (accepted-
 frame-event s area words (Open q) = refl
 frame-event s area words (Close file) = refl
 frame-event s area words (Ask q) =
-    ap (λ (b : Bool). askEvent s q b) (accepted-is (askBy s (q .file) (q .op) (q .priority) .refusal) (Asked (askBy s (q .file) (q .op) (q .priority) .working)) [] _ refl)
+    ap (λ (b : Bool). askEvent s q b) (accepted-is (askBy s (q .file) (q .op) (q .priority) (q .naming) .refusal) (Asked (askBy s (q .file) (q .op) (q .priority) (q .naming) .working)) [] _ refl)
 frame-event s area words (Report q) = told (reportBy s area (q .channel) (q .unit) (q .outcome) (q .length) words) (reportByArea s area (q .channel) (q .unit) (q .outcome) (q .length) words)
   where
     told : (x : Reporting) (after : List ℕ)
@@ -128,6 +128,8 @@ frame-event s area words (Seal file) = refl
 frame-event s area words (Skip file) = refl
 frame-event s area words Freeze = refl
 frame-event s area words Thaw = refl
+frame-event s area words Return = refl
+frame-event s area words Running = refl
 
 line-event : (s : State) (area l : List ℕ) → eventOf s (frameOf l) (textOf (answerTo s area l)) ≡ eventFor s area (callIn l)
 unfolding answerTo callIn
@@ -147,6 +149,8 @@ frame-state s area words (Seal file) = refl
 frame-state s area words (Skip file) = refl
 frame-state s area words Freeze = refl
 frame-state s area words Thaw = refl
+frame-state s area words Return = refl
+frame-state s area words Running = refl
 
 frame-area : (s : State) (area words : List ℕ) (f : Frame) → replyTo s area words f .area ≡ areaFor s area (callOf f words)
 unfolding replyTo answerOf
@@ -162,6 +166,8 @@ frame-area s area words (Seal file) = refl
 frame-area s area words (Skip file) = refl
 frame-area s area words Freeze = refl
 frame-area s area words Thaw = refl
+frame-area s area words Return = refl
+frame-area s area words Running = refl
 
 line-state : (s : State) (area l : List ℕ) → answerTo s area l .state ≡ stateFor s area (callIn l)
 unfolding answerTo callIn

@@ -8,7 +8,7 @@ use lib.Dec.{eqb}
 use lib.ListN.{take}
 use Rattle.state.specs.declared.State.{State}
 use Rattle.state.specs.Places.{fileAt}
-use Rattle.pack.specs.Calls.{Call, fresh, opening, close, ask, report, get, put, seal, skip, freeze, thaw, Answer, answerOf}
+use Rattle.pack.specs.Calls.{Call, fresh, opening, close, ask, report, get, put, seal, skip, freeze, thaw, return, running, Answer, answerOf}
 use Rattle.pack.specs.Histories.{isAccepted, isAnswer, count, isReportOn, isAnswerFor, freshStart}
 use Rattle.pack.specs.Books.{Book}
 use Rattle.demands.specs.Demands.{priorities}
@@ -21,7 +21,7 @@ use Rattle.sheet.specs.Events.{noEvent, startEvent}
 -- accepted fresh start
 abbrev pub callEvent : State → Call → Answer → Event
 callEvent s (fresh m w masks) a = startEvent (isAccepted a)
-callEvent s (ask file op priority) a =
+callEvent s (ask file op priority naming) a =
     record { asked = isAccepted a; reported = false; answered = false; started = false; file = file; channel = fileAt s file .channel; unit = fileAt s file .unit }
 callEvent s (report channel unit outcome len words) a =
     record { asked = false; reported = isAccepted a; answered = isAccepted a && isAnswer (a .added); started = false; file = 0; channel = channel; unit = unit }
@@ -33,6 +33,8 @@ callEvent s (seal file) a = noEvent
 callEvent s (skip file) a = noEvent
 callEvent s freeze a = noEvent
 callEvent s thaw a = noEvent
+callEvent s return a = noEvent
+callEvent s running a = noEvent
 
 -- a line that is no frame is no call
 abbrev pub eventFor : State → List ℕ → Option Call → Event

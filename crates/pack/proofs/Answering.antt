@@ -7,11 +7,12 @@ use Rattle.file_input.specs.Histories.{shown}
 use Rattle.state.specs.declared.Called.{Called}
 use Rattle.pack_request.specs.declared.Asking.{Asking}
 use Rattle.pack_request.specs.declared.Reporting.{Reporting}
+use Rattle.pack_routine.specs.declared.Ran.{Ran}
 use Rattle.pack_record.specs.declared.Getting.{Getting}
 use Rattle.pack.specs.declared.AnyAnswer.{AnyAnswer}
 use Rattle.pack.specs.declared.Adds.the-variants.{Found}
-use Rattle.pack.specs.Calls.{plainly, asked, told, given}
-use Rattle.pack.specs.Answers.{answerBy, plainAnswer, askAnswer, reportAnswer, getAnswer}
+use Rattle.pack.specs.Calls.{plainly, asked, told, given, givenBack, runningNow}
+use Rattle.pack.specs.Answers.{answerBy, plainAnswer, askAnswer, reportAnswer, getAnswer, returnAnswer, runningAnswer}
 
 -- each with the area xs that the call left
 module _ (x : AnyAnswer) (xs area : List ℕ) (e : xs ≡ area) where
@@ -26,6 +27,12 @@ module _ (x : AnyAnswer) (xs area : List ℕ) (e : xs ≡ area) where
 
   pub given-as : (r q : Getting) → x ≡ getAnswer r → r ≡ q → answerBy x xs ≡ given q (shown area (q .got)) area
   given-as r q d f = ap₂ answerBy (d ∙ ap getAnswer f) e
+
+  pub returned-as : (r q : Ran) → x ≡ returnAnswer r → r ≡ q → answerBy x xs ≡ givenBack q area
+  returned-as r q d f = ap₂ answerBy (d ∙ ap returnAnswer f) e
+
+  pub runs-as : (r q : Ran) → x ≡ runningAnswer r → r ≡ q → answerBy x xs ≡ runningNow q area
+  runs-as r q d f = ap₂ answerBy (d ∙ ap runningAnswer f) e
 
 -- where the words of a get begin, and how many they are
 pub get-answer : (r : Getting) (start count : ℕ) → start ≡ gotStart (r .got) → count ≡ gotWords (r .got)

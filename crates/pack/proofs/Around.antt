@@ -9,7 +9,7 @@ use Rattle.channel_outcomes.specs.declared.Ending.the-variants.{Good}
 use Rattle.channel_theorems.specs.History as history
 use Rattle.channel_theorems.specs.Lifted.{System, runIn, countShown, countIn}
 use Rattle.state.specs.declared.State.{State}
-use Rattle.pack.specs.Calls.{Call, fresh, opening, close, ask, report, get, put, seal, skip, freeze, thaw, Answer, answerOf}
+use Rattle.pack.specs.Calls.{Call, fresh, opening, close, ask, report, get, put, seal, skip, freeze, thaw, return, running, Answer, answerOf}
 use Rattle.pack.specs.Histories.{Lent, answerTo, after, isAccepted, count, freshStart}
 use Rattle.area.specs.Lists.{oneIf}
 use Rattle.pack.proofs.Refused.{call-alone}
@@ -35,7 +35,7 @@ good-next s x g = go (x .call)
     go (fresh m w masks) = g
     go (opening file channel unit flags size rlen) = call-kept s (x .area) g (opening file channel unit flags size rlen)
     go (close file) = call-kept s (x .area) g (close file)
-    go (ask file op priority) = call-kept s (x .area) g (ask file op priority)
+    go (ask file op priority naming) = call-kept s (x .area) g (ask file op priority naming)
     go (report channel unit outcome len words) = call-kept s (x .area) g (report channel unit outcome len words)
     go (get file) = call-kept s (x .area) g (get file)
     go (put file words) = call-kept s (x .area) g (put file words)
@@ -43,6 +43,8 @@ good-next s x g = go (x .call)
     go (skip file) = call-kept s (x .area) g (skip file)
     go freeze = call-kept s (x .area) g freeze
     go thaw = call-kept s (x .area) g thaw
+    go return = call-kept s (x .area) g return
+    go running = call-kept s (x .area) g running
 
 -- ---- a history without a second fresh start is one of that system
 
@@ -59,7 +61,7 @@ next-same s area (fresh m w masks) z =
     refute b e q = let k : oneIf (b && true) ≡ 1 = rw e in omega arith
 next-same s area (opening file channel unit flags size rlen) z = refl
 next-same s area (close file) z = refl
-next-same s area (ask file op priority) z = refl
+next-same s area (ask file op priority naming) z = refl
 next-same s area (report channel unit outcome len words) z = refl
 next-same s area (get file) z = refl
 next-same s area (put file words) z = refl
@@ -67,6 +69,8 @@ next-same s area (seal file) z = refl
 next-same s area (skip file) z = refl
 next-same s area freeze z = refl
 next-same s area thaw z = refl
+next-same s area return z = refl
+next-same s area running z = refl
 
 module _ (c : ℕ) where
   pub run-same : (s : State) (h : List Lent) → count freshStart s h ≡ 0 → runIn (packAround c) s h ≡ after s h

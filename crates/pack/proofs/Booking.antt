@@ -39,6 +39,7 @@ use Rattle.channel_theorems.proofs.Theorems.Sound.{verdict-next}
 use Rattle.channel_theorems.proofs.Theorems.Fresh.{fresh-unit, fresh-size, units-step}
 use Rattle.channel_theorems.proofs.Theorems.Positions.{ask-stands, thaw-stands, repeat-stands, end-stands}
 use Rattle.channel_theorems.proofs.Theorems.Bookings.{held-start, mark-start, ask-held, ask-mark, repeat-held, repeat-mark, end-held, end-mark}
+use Rattle.routines.specs.declared.Naming.{Naming}
 use Rattle.state.specs.declared.State.{State}
 use Rattle.state.specs.Places.{fileAt, channelAt}
 use Rattle.state_sound.specs.Soundness.{positionInRange, noiseRight, positionRight}
@@ -49,7 +50,7 @@ use Rattle.pack_start.proofs.FreshTheorems.{fresh-accepted}
 use Rattle.call_request.specs.Ask.{opOf, isPriority}
 use Rattle.call_request.specs.Report.{reportRefusal}
 use Rattle.pack_request.proofs.ReportTheorems.{Booked, again, ended, report-exactly, view}
-use Rattle.pack.specs.Calls.{Call, fresh, opening, close, ask, report, get, put, seal, skip, freeze, thaw, Answer, answerOf}
+use Rattle.pack.specs.Calls.{Call, fresh, opening, close, ask, report, get, put, seal, skip, freeze, thaw, return, running, Answer, answerOf}
 use Rattle.pack.specs.Histories.{Lent, answerTo, after, isAccepted, isRepeat}
 use Rattle.pack.specs.Tables.{rowsOf}
 use Rattle.pack.specs.Books.{toldResult, Pending, Book, blankBook, isUrgent, isOrdinary, newPending, isRead, passesOver, failedOnce, failed, Reel, reelMoved, reelAnswered, reelNoted, withRequest, withFailure, withAnswer, withFreeze, booked, bookedAt, bookAfter}
@@ -379,21 +380,21 @@ module _ (c : ℕ) (s : State) (area : List ℕ) (g : kept.Good s) (b : Book) (S
   unseen : (d : Station) → d ≡ stationAt c s → Shows d b
   unseen d e = subst (λ (x : Station). Shows x b) (sym e) S
 
-  ask-shows : (file op priority : ℕ) → answerOf s area (ask file op priority) .refusal ≡ 0
-      → Shows (stationAt c (answerOf s area (ask file op priority) .state)) (booked c s (ask file op priority) (answerOf s area (ask file op priority)) b)
-  ask-shows file op priority z = go (eqb (fileAt s file .channel) c) refl
+  ask-shows : (file op priority : ℕ) (naming : Naming) → answerOf s area (ask file op priority naming) .refusal ≡ 0
+      → Shows (stationAt c (answerOf s area (ask file op priority naming) .state)) (booked c s (ask file op priority naming) (answerOf s area (ask file op priority naming)) b)
+  ask-shows file op priority naming z = go (eqb (fileAt s file .channel) c) refl
     where
       d : Station
-      d = stationAt c (answerOf s area (ask file op priority) .state)
+      d = stationAt c (answerOf s area (ask file op priority naming) .state)
 
-      seen-as : (t : Bool) → (isAccepted (answerOf s area (ask file op priority)) && eqb (fileAt s file .channel) c) ≡ t
+      seen-as : (t : Bool) → (isAccepted (answerOf s area (ask file op priority naming)) && eqb (fileAt s file .channel) c) ≡ t
           → Agrees (stationAt c s) (eventIf t (history.ask (fileAt s file .unit) (opOf op) (isPriority priority)) history.accepted) d
       seen-as t e =
           subst (λ (f : Bool). Agrees (stationAt c s) (eventIf f (history.ask (fileAt s file .unit) (opOf op) (isPriority priority)) history.accepted) d) e
-          (call-agrees c s area g (ask file op priority))
+          (call-agrees c s area g (ask file op priority naming))
 
-      flag : (t : Bool) → eqb (fileAt s file .channel) c ≡ t → (isAccepted (answerOf s area (ask file op priority)) && eqb (fileAt s file .channel) c) ≡ t
-      flag t e = rw (eq-eqb (answerOf s area (ask file op priority) .refusal) 0 z, e)
+      flag : (t : Bool) → eqb (fileAt s file .channel) c ≡ t → (isAccepted (answerOf s area (ask file op priority naming)) && eqb (fileAt s file .channel) c) ≡ t
+      flag t e = rw (eq-eqb (answerOf s area (ask file op priority naming) .refusal) 0 z, e)
 
       go : (t : Bool) → eqb (fileAt s file .channel) c ≡ t → Shows d (cond t (withRequest (fileAt s file .unit) (some (newPending op priority)) b) b)
       go true e = shows-ask (stationAt c s) d b S (fileAt s file .unit) op priority (seen-as true (flag true e))
@@ -496,7 +497,7 @@ module _ (c : ℕ) (s : State) (area : List ℕ) (g : kept.Good s) (b : Book) (S
   accepted-shows (fresh m w masks) z = shows-start c s area m w masks z
   accepted-shows (opening file channel unit flags size rlen) z = unseen _ (call-agrees c s area g (opening file channel unit flags size rlen))
   accepted-shows (close file) z = unseen _ (call-agrees c s area g (close file))
-  accepted-shows (ask file op priority) z = ask-shows file op priority z
+  accepted-shows (ask file op priority naming) z = ask-shows file op priority naming z
   accepted-shows (report channel unit outcome len words) z = report-shows channel unit outcome len words z
   accepted-shows (get file) z = unseen _ (call-agrees c s area g (get file))
   accepted-shows (put file words) z = unseen _ (call-agrees c s area g (put file words))
@@ -504,6 +505,8 @@ module _ (c : ℕ) (s : State) (area : List ℕ) (g : kept.Good s) (b : Book) (S
   accepted-shows (skip file) z = unseen _ (call-agrees c s area g (skip file))
   accepted-shows freeze z = freeze-shows z
   accepted-shows thaw z = thaw-shows z
+  accepted-shows return z = unseen _ (call-agrees c s area g return)
+  accepted-shows running z = unseen _ (call-agrees c s area g running)
 
   -- a refused call enters no book and changes nothing
   pub call-shows : (call : Call)

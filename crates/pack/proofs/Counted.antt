@@ -17,13 +17,14 @@ use Rattle.channel_turns.specs.Turns.{judgeOf}
 use Rattle.channel_theorems.specs.History as history
 use Rattle.channel_theorems.specs.History.{accepted, reportAnswer, aReport, aPriority, aRequestOf, anAnswerTo, isAnswered}
 use Rattle.channel_theorems.specs.Lifted.{countShown}
+use Rattle.routines.specs.declared.Naming.{Naming}
 use Rattle.state.specs.declared.State.{State}
 use Rattle.state.specs.Places.{fileAt, channelAt}
 use Rattle.call_request.specs.Ask.{opOf, isPriority}
 use Rattle.call_request.specs.Report.{reportRefusal, reportOn}
 use Rattle.pack_request.specs.Calls.{reportBy}
 use Rattle.pack_request.proofs.ReportTheorems.{report-exactly, report-event}
-use Rattle.pack.specs.Calls.{Call, fresh, opening, close, ask, report, get, put, seal, skip, freeze, thaw, Answer, answerOf}
+use Rattle.pack.specs.Calls.{Call, fresh, opening, close, ask, report, get, put, seal, skip, freeze, thaw, return, running, Answer, answerOf}
 use Rattle.pack.specs.Histories as h
 use Rattle.pack.specs.Histories.{isAccepted, ofReport, ofAsk, isAnswerFor, isPriorityOn, isRequestOf, isRepeat, isAnswer}
 use Rattle.area.specs.Lists.{oneIf}
@@ -62,12 +63,12 @@ module _ (c : ℕ) where
         go true = refl
         go false = refl
 
-    ask-seen : (event : history.Event → history.Answer → Bool) (file op priority : ℕ) (kind : Bool)
+    ask-seen : (event : history.Event → history.Answer → Bool) (file op priority : ℕ) (naming : Naming) (kind : Bool)
         → (eqb (fileAt s file .channel) c && event (history.ask (fileAt s file .unit) (opOf op) (isPriority priority)) accepted) ≡ kind
-        → countShown event (seen c s area (ask file op priority)) ≡ oneIf (isAccepted (answerOf s area (ask file op priority)) && kind)
-    ask-seen event file op priority kind e =
-        shown-if event (isAccepted (answerOf s area (ask file op priority)) && eqb (fileAt s file .channel) c) _ _
-        ∙ split (isAccepted (answerOf s area (ask file op priority))) (eqb (fileAt s file .channel) c) _ kind (λ a. e)
+        → countShown event (seen c s area (ask file op priority naming)) ≡ oneIf (isAccepted (answerOf s area (ask file op priority naming)) && kind)
+    ask-seen event file op priority naming kind e =
+        shown-if event (isAccepted (answerOf s area (ask file op priority naming)) && eqb (fileAt s file .channel) c) _ _
+        ∙ split (isAccepted (answerOf s area (ask file op priority naming))) (eqb (fileAt s file .channel) c) _ kind (λ a. e)
 
     report-seen : (event : history.Event → history.Answer → Bool) (channel unit outcome len : ℕ) (words : List ℕ) (kind : Bool)
         → (reportBy s area channel unit outcome len words .refusal ≡ 0
@@ -96,8 +97,8 @@ module _ (c : ℕ) where
       reports-match test asks e (fresh m w masks) = unseen (fresh m w masks)
       reports-match test asks e (opening file channel unit flags size rlen) = unseen (opening file channel unit flags size rlen)
       reports-match test asks e (close file) = unseen (close file)
-      reports-match test asks e (ask file op priority) =
-          ask-seen event file op priority false
+      reports-match test asks e (ask file op priority naming) =
+          ask-seen event file op priority naming false
           (ap (λ (b : Bool). eqb (fileAt s file .channel) c && b) (asks _ _ _) ∙ and-false (eqb (fileAt s file .channel) c))
       reports-match test asks e (report channel unit outcome len words) =
           report-seen event channel unit outcome len words (test (answerOf s area (report channel unit outcome len words)) channel unit)
@@ -108,16 +109,18 @@ module _ (c : ℕ) where
       reports-match test asks e (skip file) = unseen (skip file)
       reports-match test asks e freeze = every-seen event (isAccepted (answerOf s area freeze)) history.freeze quietly
       reports-match test asks e thaw = every-seen event (isAccepted (answerOf s area thaw)) history.thaw thaws
+      reports-match test asks e return = unseen return
+      reports-match test asks e running = unseen running
 
       asks-match : (test : ℕ → ℕ → Bool) → ((u o l : ℕ) (a : history.Answer) → event (history.report u o l) a ≡ false)
-          → ((file op priority : ℕ)
+          → ((file op priority : ℕ) (naming : Naming)
           → (eqb (fileAt s file .channel) c && event (history.ask (fileAt s file .unit) (opOf op) (isPriority priority)) accepted)
           ≡ test file priority)
           → (call : Call) → countShown event (seen c s area call) ≡ oneIf (isAccepted (answerOf s area call) && ofAsk test call)
       asks-match test reports e (fresh m w masks) = unseen (fresh m w masks)
       asks-match test reports e (opening file channel unit flags size rlen) = unseen (opening file channel unit flags size rlen)
       asks-match test reports e (close file) = unseen (close file)
-      asks-match test reports e (ask file op priority) = ask-seen event file op priority (test file priority) (e file op priority)
+      asks-match test reports e (ask file op priority naming) = ask-seen event file op priority naming (test file priority) (e file op priority naming)
       asks-match test reports e (report channel unit outcome len words) =
           report-seen event channel unit outcome len words false
           (λ z. ap (λ (b : Bool). eqb channel c && b) (reports unit outcome len _) ∙ and-false (eqb channel c))
@@ -127,6 +130,8 @@ module _ (c : ℕ) where
       asks-match test reports e (skip file) = unseen (skip file)
       asks-match test reports e freeze = every-seen event (isAccepted (answerOf s area freeze)) history.freeze quietly
       asks-match test reports e thaw = every-seen event (isAccepted (answerOf s area thaw)) history.thaw thaws
+      asks-match test reports e return = unseen return
+      asks-match test reports e running = unseen running
 
     -- the result of an accepted report is the channel's verdict; every result but 00 and 07 answers
     pub result-is : (channel unit outcome len : ℕ) (words : List ℕ) → reportBy s area channel unit outcome len words .refusal ≡ 0
@@ -166,10 +171,10 @@ module _ (c : ℕ) where
   unfolding Matches
   priority-matches s area g =
       asks-match s area aPriority refl refl (λ file priority. eqb (fileAt s file .channel) c && isPriority priority) (λ u o l a. refl)
-      (λ file op priority. ap (λ (b : Bool). eqb (fileAt s file .channel) c && b) (and-true (isPriority priority)))
+      (λ file op priority naming. ap (λ (b : Bool). eqb (fileAt s file .channel) c && b) (and-true (isPriority priority)))
 
   pub request-matches : (u : ℕ) → Matches c (isRequestOf c u) (aRequestOf u)
   unfolding Matches
   request-matches u s area g =
       asks-match s area (aRequestOf u) refl refl (λ file priority. eqb (fileAt s file .channel) c && eqb (fileAt s file .unit) u) (λ v o l a. refl)
-      (λ file op priority. ap (λ (b : Bool). eqb (fileAt s file .channel) c && b) (and-true (eqb (fileAt s file .unit) u)))
+      (λ file op priority naming. ap (λ (b : Bool). eqb (fileAt s file .channel) c && b) (and-true (eqb (fileAt s file .unit) u)))

@@ -27,11 +27,12 @@ use Rattle.pack_open.proofs.CloseTheorems.{close-kept}
 use Rattle.pack_start.proofs.FreezeTheorems.{freeze-kept, freeze-frame, thaw-kept, thaw-frame}
 use Rattle.pack_request.proofs.AskTheorems.{ask-kept, ask-frame}
 use Rattle.pack_request.proofs.ReportTheorems.{report-kept, report-frame}
+use Rattle.pack_routine.proofs.Theorems.{return-kept, return-frame, running-kept, running-frame}
 use Rattle.pack_record.proofs.GetTheorems.{get-kept}
 use Rattle.pack_record.proofs.SkipTheorems.{skip-kept}
 use Rattle.pack_record.proofs.PutTheorems.{put-kept}
 use Rattle.pack_record.proofs.SealTheorems.{seal-kept}
-use Rattle.pack.specs.Calls.{Call, fresh, opening, close, ask, report, get, put, seal, skip, freeze, thaw, answerOf}
+use Rattle.pack.specs.Calls.{Call, fresh, opening, close, ask, report, get, put, seal, skip, freeze, thaw, return, running, answerOf}
 use Rattle.pack.specs.Histories.{Lent, after}
 
 -- what holds of every state that calls lead to from a fresh start
@@ -88,8 +89,8 @@ module _ (s : State) (area : List ℕ) (g : Good s) where
     sixteen = open-length file channel unit flags size rlen ∙ g .sixteen;
   }
   call-kept (close file) = record { right = close-kept s file (g .right); sixteen = close-length file ∙ g .sixteen }
-  call-kept (ask file op priority) =
-      record { right = ask-kept s file op priority (g .right); sixteen = ask-frame s file op priority .fileCount ∙ g .sixteen }
+  call-kept (ask file op priority naming) =
+      record { right = ask-kept s file op priority naming (g .right); sixteen = ask-frame s file op priority naming .fileCount ∙ g .sixteen }
   call-kept (report channel unit outcome len words) = record {
     right = report-kept s area channel unit outcome len words (g .sixteen) (g .right);
     sixteen = report-frame s area channel unit outcome len words .fileCount ∙ g .sixteen;
@@ -100,6 +101,8 @@ module _ (s : State) (area : List ℕ) (g : Good s) where
   call-kept (skip file) = record { right = skip-kept s file (g .right); sixteen = skip-length file ∙ g .sixteen }
   call-kept freeze = record { right = freeze-kept s (g .right); sixteen = ap length (freeze-frame s .0 .files) ∙ g .sixteen }
   call-kept thaw = record { right = thaw-kept s (g .right); sixteen = ap length (thaw-frame s .files) ∙ g .sixteen }
+  call-kept return = record { right = return-kept s (g .right); sixteen = ap length (return-frame s .files) ∙ g .sixteen }
+  call-kept running = record { right = running-kept s (g .right); sixteen = ap length (running-frame s .files) ∙ g .sixteen }
 
 -- ---- any history
 

@@ -49,6 +49,7 @@ use Rattle.file_input.specs.Histories as files
 use Rattle.file_input.specs.Histories.{Event, read, giveBack, mark, send, deliver}
 use Rattle.pool.specs.Free.{fileCount}
 use Rattle.pool.specs.Serving.{serves}
+use Rattle.routines.specs.declared.Naming.{Naming}
 use Rattle.state.specs.declared.State.{State}
 use Rattle.state.specs.Places.{fileAt, channelAt}
 use Rattle.state_sound.proofs.Events.{event-alike}
@@ -68,11 +69,12 @@ use Rattle.pack_request.specs.Calls.{fileOf, reportWrong}
 use Rattle.pack_request.proofs.Ready.{not-false}
 use Rattle.pack_request.proofs.AskTheorems.{ask-frame, ask-file}
 use Rattle.pack_request.proofs.ReportTheorems.{Booked, again, ended, ReportReady, report-ready, report-exactly, view, report-books-own, report-file}
+use Rattle.pack_routine.proofs.Theorems.{return-frame, running-frame}
 use Rattle.pack_record.proofs.GetTheorems.{get-file, get-frame}
 use Rattle.pack_record.proofs.SkipTheorems.{skip-drops, skip-frame}
 use Rattle.pack_record.proofs.PutTheorems.{put-file, put-frame}
 use Rattle.pack_record.proofs.SealTheorems.{seal-file, seal-frame}
-use Rattle.pack.specs.Calls.{Call, fresh, opening, close, ask, report, get, put, seal, skip, freeze, thaw, Answer, answerOf}
+use Rattle.pack.specs.Calls.{Call, fresh, opening, close, ask, report, get, put, seal, skip, freeze, thaw, return, running, Answer, answerOf}
 use Rattle.pack.specs.Histories.{Lent, answerTo, after, isAccepted}
 use Rattle.pack.specs.Books.{toldResult, Opened, withResult, openedBy, openedAfter}
 use Rattle.pack.proofs.Refused.{call-alone}
@@ -352,15 +354,15 @@ module _ (i : ℕ) (s : State) (area : List ℕ) (g : kept.Good s) (o : Option O
   unfolding answerOf
   close-known file z = bound-anew (answerOf s area (close file) .state) file none (ap (λ (f : File). f .opened) (close-file s file z)) (close-frame s file .files)
 
-  ask-known : (file op priority : ℕ) → answerOf s area (ask file op priority) .refusal ≡ 0
-      → Known (fileAt (answerOf s area (ask file op priority) .state) i) o
+  ask-known : (file op priority : ℕ) (naming : Naming) → answerOf s area (ask file op priority naming) .refusal ≡ 0
+      → Known (fileAt (answerOf s area (ask file op priority naming) .state) i) o
   unfolding answerOf askedFile
-  ask-known file op priority z = go (isReading op) (ask-file s file op priority z)
+  ask-known file op priority naming z = go (isReading op) (ask-file s file op priority naming z)
     where
-      go : (b : Bool) → fileAt (answerOf s area (ask file op priority) .state) file ≡ cond b (tookBuffer (fileAt s file)) (fileAt s file)
-          → Known (fileAt (answerOf s area (ask file op priority) .state) i) o
-      go true e = event (answerOf s area (ask file op priority) .state) file read refl e (ask-frame s file op priority .files)
-      go false e = happened (answerOf s area (ask file op priority) .state) file (fileAt s file) e (alike-self (fileAt s file)) refl (ask-frame s file op priority .files)
+      go : (b : Bool) → fileAt (answerOf s area (ask file op priority naming) .state) file ≡ cond b (tookBuffer (fileAt s file)) (fileAt s file)
+          → Known (fileAt (answerOf s area (ask file op priority naming) .state) i) o
+      go true e = event (answerOf s area (ask file op priority naming) .state) file read refl e (ask-frame s file op priority naming .files)
+      go false e = happened (answerOf s area (ask file op priority naming) .state) file (fileAt s file) e (alike-self (fileAt s file)) refl (ask-frame s file op priority naming .files)
 
   module _ (channel unit outcome len : ℕ) (words : List ℕ) (z : answerOf s area (report channel unit outcome len words) .refusal ≡ 0) where
     abbrev c : Channel
@@ -470,7 +472,7 @@ module _ (i : ℕ) (s : State) (area : List ℕ) (g : kept.Good s) (o : Option O
   accepted-known (fresh m w masks) z = known-start i s area m w masks z
   accepted-known (opening file channel unit flags size rlen) z = open-known file channel unit flags size rlen z
   accepted-known (close file) z = close-known file z
-  accepted-known (ask file op priority) z = ask-known file op priority z
+  accepted-known (ask file op priority naming) z = ask-known file op priority naming z
   accepted-known (report channel unit outcome len words) z = report-known channel unit outcome len words z
   accepted-known (get file) z = event (answerOf s area (get file) .state) file files.get refl (get-file s area file z) (get-frame s area file .0)
   accepted-known (put file words) z = event (answerOf s area (put file words) .state) file files.put refl (put-file s area file words z) (put-frame s area file words .0)
@@ -478,6 +480,8 @@ module _ (i : ℕ) (s : State) (area : List ℕ) (g : kept.Good s) (o : Option O
   accepted-known (skip file) z = event (answerOf s area (skip file) .state) file files.skip refl (skip-drops s file z .0) (skip-frame s file .0)
   accepted-known freeze z = untouched (answerOf s area freeze .state) (ap (λ (fs : List File). getD fs i closedFile) (freeze-frame s .0 .files))
   accepted-known thaw z = untouched (answerOf s area thaw .state) (ap (λ (fs : List File). getD fs i closedFile) (thaw-frame s .files))
+  accepted-known return z = untouched (answerOf s area return .state) (ap (λ (fs : List File). getD fs i closedFile) (return-frame s .files))
+  accepted-known running z = untouched (answerOf s area running .state) (ap (λ (fs : List File). getD fs i closedFile) (running-frame s .files))
 
   -- a refused call changes nothing
   pub call-known : (call : Call)

@@ -16,6 +16,7 @@ use Rattle.channel_turns.specs.Starts.{startOf, thawOf}
 use Rattle.channel_theorems.specs.History as history
 use Rattle.channel_theorems.specs.History.{Station, station, accepted, reportAnswer, step}
 use Rattle.channel_theorems.specs.Lifted.{Shown, Agrees}
+use Rattle.routines.specs.declared.Naming.{Naming}
 use Rattle.state.specs.declared.State.{State}
 use Rattle.state.specs.Places.{noChannel, fileAt, channelIn, channelAt}
 use Rattle.pack_start.specs.Freeze.{frozenState, thawedState, freezeBy, thawBy}
@@ -27,11 +28,12 @@ use Rattle.pack_start.proofs.FreezeTheorems.{freeze-refused, freeze-state, thaw
 use Rattle.pack_request.proofs.AskTheorems.{ask-exactly, ask-frame, ask-event}
 use Rattle.pack_request.proofs.ReportTheorems.{report-exactly, report-frame, report-event}
 use Rattle.pack_request.specs.declared.Reporting.{Reporting}
+use Rattle.pack_routine.proofs.Theorems.{return-frame, running-frame}
 use Rattle.pack_record.proofs.GetTheorems.{get-frame}
 use Rattle.pack_record.proofs.SkipTheorems.{skip-frame}
 use Rattle.pack_record.proofs.PutTheorems.{put-frame}
 use Rattle.pack_record.proofs.SealTheorems.{seal-frame}
-use Rattle.pack.specs.Calls.{Call, fresh, opening, close, ask, report, get, put, seal, skip, freeze, thaw, answerOf}
+use Rattle.pack.specs.Calls.{Call, fresh, opening, close, ask, report, get, put, seal, skip, freeze, thaw, return, running, answerOf}
 use Rattle.pack.specs.Histories.{isAccepted}
 use Rattle.pack.proofs.Kept.{Good}
 
@@ -49,8 +51,8 @@ abbrev pub seen : ℕ → State → List ℕ → Call → Option Shown
 seen c s area (fresh m w masks) = none
 seen c s area (opening file channel unit flags size rlen) = none
 seen c s area (close file) = none
-seen c s area (ask file op priority) =
-    eventIf (isAccepted (answerOf s area (ask file op priority)) && eqb (fileAt s file .channel) c)
+seen c s area (ask file op priority naming) =
+    eventIf (isAccepted (answerOf s area (ask file op priority naming)) && eqb (fileAt s file .channel) c)
     (history.ask (fileAt s file .unit) (opOf op) (isPriority priority)) accepted
 seen c s area (report channel unit outcome len words) =
     eventIf (isAccepted (answerOf s area (report channel unit outcome len words)) && eqb channel c)
@@ -61,13 +63,15 @@ seen c s area (seal file) = none
 seen c s area (skip file) = none
 seen c s area freeze = eventIf (isAccepted (answerOf s area freeze)) history.freeze accepted
 seen c s area thaw = eventIf (isAccepted (answerOf s area thaw)) history.thaw accepted
+seen c s area return = none
+seen c s area running = none
 
 -- the state after a call; a fresh start is left out, for a history has one alone
 abbrev pub nextOf : State → List ℕ → Call → State
 nextOf s area (fresh m w masks) = s
 nextOf s area (opening file channel unit flags size rlen) = answerOf s area (opening file channel unit flags size rlen) .state
 nextOf s area (close file) = answerOf s area (close file) .state
-nextOf s area (ask file op priority) = answerOf s area (ask file op priority) .state
+nextOf s area (ask file op priority naming) = answerOf s area (ask file op priority naming) .state
 nextOf s area (report channel unit outcome len words) = answerOf s area (report channel unit outcome len words) .state
 nextOf s area (get file) = answerOf s area (get file) .state
 nextOf s area (put file words) = answerOf s area (put file words) .state
@@ -75,6 +79,8 @@ nextOf s area (seal file) = answerOf s area (seal file) .state
 nextOf s area (skip file) = answerOf s area (skip file) .state
 nextOf s area freeze = answerOf s area freeze .state
 nextOf s area thaw = answerOf s area thaw .state
+nextOf s area return = answerOf s area return .state
+nextOf s area running = answerOf s area running .state
 
 -- ---- the channel's own step agrees
 
@@ -109,24 +115,24 @@ module _ (c : ℕ) (s : State) (area : List ℕ) where
       go (yes e) = rw (eq-eqb (thawBy s .refusal) 0 e, thaw-state s e, thaw-each (s .channels) c)
       go (no h) = rw (ne-eqb (thawBy s .refusal) 0 h, thaw-refused s h)
 
-  ask-agrees : (file op priority : ℕ)
-      → Agrees (stationAt c s) (seen c s area (ask file op priority)) (stationAt c (answerOf s area (ask file op priority) .state))
+  ask-agrees : (file op priority : ℕ) (naming : Naming)
+      → Agrees (stationAt c s) (seen c s area (ask file op priority naming)) (stationAt c (answerOf s area (ask file op priority naming) .state))
   unfolding answerOf
-  ask-agrees file op priority = go (ℕ-discrete (askBy s file op priority .refusal) 0) (ℕ-discrete (fileAt s file .channel) c)
+  ask-agrees file op priority naming = go (ℕ-discrete (askBy s file op priority naming .refusal) 0) (ℕ-discrete (fileAt s file .channel) c)
     where
       To : Type 0
-      To = Agrees (stationAt c s) (seen c s area (ask file op priority)) (stationAt c (answerOf s area (ask file op priority) .state))
+      To = Agrees (stationAt c s) (seen c s area (ask file op priority naming)) (stationAt c (answerOf s area (ask file op priority naming) .state))
 
-      go : Dec (askBy s file op priority .refusal ≡ 0) → Dec (fileAt s file .channel ≡ c) → To
+      go : Dec (askBy s file op priority naming .refusal ≡ 0) → Dec (fileAt s file .channel ≡ c) → To
       go (yes e) (yes k) =
-          rw (eq-eqb (askBy s file op priority .refusal) 0 e, eq-eqb (fileAt s file .channel) c k) (subst (λ (d : ℕ). Agrees (stationAt d s)
+          rw (eq-eqb (askBy s file op priority naming .refusal) 0 e, eq-eqb (fileAt s file .channel) c k) (subst (λ (d : ℕ). Agrees (stationAt d s)
           (some (record { event = history.ask (fileAt s file .unit) (opOf op) (isPriority priority); answer = accepted }))
-          (stationAt d (askBy s file op priority .state))) k
-          (ask-event s file op priority e))
+          (stationAt d (askBy s file op priority naming .state))) k
+          (ask-event s file op priority naming e))
       go (yes e) (no k) =
-          let F = ask-frame s file op priority in
-          rw (eq-eqb (askBy s file op priority .refusal) 0 e, ne-eqb (fileAt s file .channel) c k) (rw (F .frozen, F .channels c (λ q. k (sym q))))
-      go (no h) k = rw (ne-eqb (askBy s file op priority .refusal) 0 h, ask-exactly s file op priority .alone h .0)
+          let F = ask-frame s file op priority naming in
+          rw (eq-eqb (askBy s file op priority naming .refusal) 0 e, ne-eqb (fileAt s file .channel) c k) (rw (F .frozen, F .channels c (λ q. k (sym q))))
+      go (no h) k = rw (ne-eqb (askBy s file op priority naming .refusal) 0 h, ask-exactly s file op priority naming .alone h .0)
 
   module _ (g : Good s) where
     report-agrees : (channel unit outcome len : ℕ) (words : List ℕ)
@@ -162,7 +168,7 @@ module _ (c : ℕ) (s : State) (area : List ℕ) where
         let F = open-frame s file channel unit flags size rlen in
         same-station c s (F .channels) (F .frozen)
     call-agrees (close file) = let F = close-frame s file in same-station c s (F .channels) (F .frozen)
-    call-agrees (ask file op priority) = ask-agrees file op priority
+    call-agrees (ask file op priority naming) = ask-agrees file op priority naming
     call-agrees (report channel unit outcome len words) = report-agrees channel unit outcome len words
     call-agrees (get file) = let F = get-frame s area file in same-station c s (F .1) (F .4)
     call-agrees (put file words) = let F = put-frame s area file words in same-station c s (F .1) (F .4)
@@ -170,3 +176,5 @@ module _ (c : ℕ) (s : State) (area : List ℕ) where
     call-agrees (skip file) = let F = skip-frame s file in same-station c s (F .1) (F .4)
     call-agrees freeze = freeze-agrees
     call-agrees thaw = thaw-agrees
+    call-agrees return = let F = return-frame s in same-station c s (F .channels) (F .frozen)
+    call-agrees running = let F = running-frame s in same-station c s (F .channels) (F .frozen)

@@ -8,7 +8,7 @@ use Rattle.channel.specs.declared.Op.{Op}
 use Rattle.channel.specs.declared.Op.the-variants.{Read, Write, Mark}
 use Rattle.state.specs.declared.State.{State}
 use Rattle.state.specs.Places.{fileAt}
-use Rattle.pack.specs.Calls.{Call, fresh, opening, close, ask, report, get, put, seal, skip, freeze, thaw, Added, nothing, working, reported, got, Answer}
+use Rattle.pack.specs.Calls.{Call, fresh, opening, close, ask, report, get, put, seal, skip, freeze, thaw, return, running, Added, nothing, working, reported, got, returned, runs, Answer}
 use Rattle.pack.specs.Histories.{Lent, answerTo, isAccepted, isRepeat}
 
 -- "Report adds result, ..": the result that an answer gives
@@ -17,6 +17,8 @@ toldResult nothing = 0
 toldResult (working u) = 0
 toldResult (reported result error u) = result
 toldResult (got g) = 0
+toldResult (returned entered p) = 0
+toldResult (runs p) = 0
 
 -- ---- the requests on a channel
 
@@ -160,7 +162,7 @@ abbrev pub booked : ℕ → State → Call → Answer → Book → Book
 booked c s (fresh m w masks) a b = blankBook
 booked c s (opening file channel unit flags size rlen) a b = b
 booked c s (close file) a b = b
-booked c s (ask file op priority) a b =
+booked c s (ask file op priority naming) a b =
     cond (eqb (fileAt s file .channel) c) (withRequest (fileAt s file .unit) (some (newPending op priority)) b) b
 booked c s (report channel unit outcome len words) a b =
     cond (eqb channel c) (cond (isRepeat (toldResult (a .added))) (withFailure unit outcome len b) (withAnswer unit (toldResult (a .added)) b)) b
@@ -170,6 +172,8 @@ booked c s (seal file) a b = b
 booked c s (skip file) a b = b
 booked c s freeze a b = withFreeze true b
 booked c s thaw a b = withFreeze false b
+booked c s return a b = b
+booked c s running a b = b
 
 -- a refused call enters no book
 abbrev pub bookedAt : ℕ → State → Lent → Book → Book
@@ -204,7 +208,7 @@ openedBy i (fresh m w masks) a o = none
 openedBy i (opening file channel unit flags size rlen) a o =
     cond (eqb file i) (some (record { channel = channel; unit = unit; marked = false })) o
 openedBy i (close file) a o = cond (eqb file i) none o
-openedBy i (ask file op priority) a o = o
+openedBy i (ask file op priority naming) a o = o
 openedBy i (report channel unit outcome len words) a o = withResult channel unit (toldResult (a .added)) o
 openedBy i (get file) a o = o
 openedBy i (put file words) a o = o
@@ -212,6 +216,8 @@ openedBy i (seal file) a o = o
 openedBy i (skip file) a o = o
 openedBy i freeze a o = o
 openedBy i thaw a o = o
+openedBy i return a o = o
+openedBy i running a o = o
 
 unfoldable pub openedAfter : ℕ → State → Option Opened → List Lent → Option Opened
 openedAfter i s o [] = o

@@ -8,7 +8,7 @@ use Rattle.channel.specs.declared.Unit.{Unit}
 use Rattle.state.specs.declared.State.{State}
 use Rattle.state.specs.Places.{fileAt, channelAt}
 use Rattle.call_request.specs.Ask.{isPriority}
-use Rattle.pack.specs.Calls.{Call, fresh, opening, close, ask, report, get, put, seal, skip, freeze, thaw, Added, nothing, working, reported, got, Answer, answerOf}
+use Rattle.pack.specs.Calls.{Call, fresh, opening, close, ask, report, get, put, seal, skip, freeze, thaw, return, running, Added, nothing, working, reported, got, returned, runs, Answer, answerOf}
 
 -- a call, with the area as the caller lends it then: the caller may write it between calls
 pub record Lent : Type 0 where
@@ -38,7 +38,7 @@ abbrev pub ofFresh : Call → Bool
 ofFresh (fresh m w masks) = true
 ofFresh (opening file channel unit flags size rlen) = false
 ofFresh (close file) = false
-ofFresh (ask file op priority) = false
+ofFresh (ask file op priority naming) = false
 ofFresh (report channel unit outcome len words) = false
 ofFresh (get file) = false
 ofFresh (put file words) = false
@@ -46,12 +46,14 @@ ofFresh (seal file) = false
 ofFresh (skip file) = false
 ofFresh freeze = false
 ofFresh thaw = false
+ofFresh return = false
+ofFresh running = false
 
 abbrev pub ofReport : (ℕ → ℕ → Bool) → Call → Bool
 ofReport test (fresh m w masks) = false
 ofReport test (opening file channel unit flags size rlen) = false
 ofReport test (close file) = false
-ofReport test (ask file op priority) = false
+ofReport test (ask file op priority naming) = false
 ofReport test (report channel unit outcome len words) = test channel unit
 ofReport test (get file) = false
 ofReport test (put file words) = false
@@ -59,12 +61,14 @@ ofReport test (seal file) = false
 ofReport test (skip file) = false
 ofReport test freeze = false
 ofReport test thaw = false
+ofReport test return = false
+ofReport test running = false
 
 abbrev pub ofAsk : (ℕ → ℕ → Bool) → Call → Bool
 ofAsk test (fresh m w masks) = false
 ofAsk test (opening file channel unit flags size rlen) = false
 ofAsk test (close file) = false
-ofAsk test (ask file op priority) = test file priority
+ofAsk test (ask file op priority naming) = test file priority
 ofAsk test (report channel unit outcome len words) = false
 ofAsk test (get file) = false
 ofAsk test (put file words) = false
@@ -72,6 +76,8 @@ ofAsk test (seal file) = false
 ofAsk test (skip file) = false
 ofAsk test freeze = false
 ofAsk test thaw = false
+ofAsk test return = false
+ofAsk test running = false
 
 -- fresh starts
 abbrev pub freshStart : State → Call → Answer → Bool
@@ -90,6 +96,8 @@ isAnswer nothing = false
 isAnswer (working u) = false
 isAnswer (reported result error u) = not (isRepeat result)
 isAnswer (got g) = false
+isAnswer (returned entered p) = false
+isAnswer (runs p) = false
 
 -- answers to the request of unit u on channel c
 abbrev pub isAnswerFor : ℕ → ℕ → State → Call → Answer → Bool

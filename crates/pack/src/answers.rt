@@ -1,4 +1,4 @@
-// The eleven calls in one function: which of them, and its numbers, are a value.
+// The thirteen calls in one function: which of them, and its numbers, are a value.
 use crate::Adds;
 use crate::AnyAnswer;
 use crate::AnyCall;
@@ -16,6 +16,9 @@ use pack_request::Asking;
 use pack_request::Reporting;
 use pack_request::ask;
 use pack_request::report;
+use pack_routine::Ran;
+use pack_routine::give_back;
+use pack_routine::what_runs;
 use pack_start::freeze;
 use pack_start::fresh;
 use pack_start::thaw;
@@ -24,7 +27,7 @@ use state::State;
 ghost use mathlib.Core.Path.{_≡_};
 ghost use Rattle.area.specs.Parts.{partOf};
 ghost use Rattle.pack.specs.Calls.{answerOf};
-ghost use Rattle.pack.specs.Answers.{callOf, answerBy, plainAnswer, askAnswer, reportAnswer, getAnswer};
+ghost use Rattle.pack.specs.Answers.{callOf, answerBy, plainAnswer, askAnswer, reportAnswer, getAnswer, returnAnswer, runningAnswer};
 
 // The answer of a call that adds nothing.
 fn plain(r: Called) -> AnyAnswer
@@ -95,7 +98,40 @@ fn given(r: Getting) -> AnyAnswer
     }
 }
 
-// Makes a call: the one of the eleven that the value names, with its numbers, the lent area and, for a report and a put, the words. What it answers, the
+// The answer of a return.
+fn returned(r: Ran) -> AnyAnswer
+    ensures { λ x. ⌜ x ≡ returnAnswer r ⌝ }
+{
+    let state = r.state;
+    let entered = r.entered;
+    let program = r.program;
+    let adds = Adds::Returned { entered, program };
+    AnyAnswer {
+        refusal: r.refusal,
+        adds,
+        start: 0,
+        count: 0,
+        state,
+    }
+}
+
+// The answer of what runs.
+fn runs(r: Ran) -> AnyAnswer
+    ensures { λ x. ⌜ x ≡ runningAnswer r ⌝ }
+{
+    let state = r.state;
+    let program = r.program;
+    let adds = Adds::Runs(program);
+    AnyAnswer {
+        refusal: r.refusal,
+        adds,
+        start: 0,
+        count: 0,
+        state,
+    }
+}
+
+// Makes a call: the one of the thirteen that the value names, with its numbers, the lent area and, for a report and a put, the words. What it answers, the
 // words that the answer shows, the state and every word of the area after it are those of `answerOf`. A refusal gives the number alone.
 pub fn answer(s: State, area: &mut [u64], call: AnyCall, words: &[u64]) -> AnyAnswer
     ensures { λ r. ⌜ answerBy r (now (area .exit)) ≡ answerOf s (now (area .entry)) (callOf call (now (words .entry))) ⌝ }
@@ -111,7 +147,12 @@ pub fn answer(s: State, area: &mut [u64], call: AnyCall, words: &[u64]) -> AnyAn
             rlen,
         } => plain(open(s, file, channel, unit, flags, size, rlen)),
         AnyCall::Close(file) => plain(close(s, file)),
-        AnyCall::Ask { file, op, priority } => asked(ask(s, file, op, priority)),
+        AnyCall::Ask {
+            file,
+            op,
+            priority,
+            naming,
+        } => asked(ask(s, file, op, priority, naming)),
         AnyCall::Report {
             channel,
             unit,
@@ -124,6 +165,8 @@ pub fn answer(s: State, area: &mut [u64], call: AnyCall, words: &[u64]) -> AnyAn
         AnyCall::Skip(file) => plain(skip(s, file)),
         AnyCall::Freeze => plain(freeze(s)),
         AnyCall::Thaw => plain(thaw(s)),
+        AnyCall::Return => returned(give_back(s)),
+        AnyCall::Running => runs(what_runs(s)),
     }
 }
 

@@ -1,7 +1,7 @@
-// The pack: the eleven calls under one roof, with the state that they take and hand back and what each of them answers. This is all that a
+// The pack: the thirteen calls under one roof, with the state that they take and hand back and what each of them answers. This is all that a
 // caller names in its code; its line of crates.txt also lists the crates that declare the types.
-// `answer` is all eleven in one function, over a call as a value: its contract is `answerOf`, which every theorem speaks of.
-// In `specs/` are the eleven calls as values, what each makes of a state and an area, the refusal table, and histories of calls; the theorems over
+// `answer` is all thirteen in one function, over a call as a value: its contract is `answerOf`, which every theorem speaks of.
+// In `specs/` are the thirteen calls as values, what each makes of a state and an area, the refusal table, and histories of calls; the theorems over
 // them are what the crate `demands` cites.
 mod answers;
 
@@ -29,16 +29,22 @@ pub use pack_request::Reporting;
 pub use pack_request::ask;
 pub use pack_request::report;
 pub use pack_request::reported_words;
+pub use pack_routine::Ran;
+pub use pack_routine::give_back;
+pub use pack_routine::what_runs;
 pub use pack_start::Masks;
 pub use pack_start::freeze;
 pub use pack_start::fresh;
 pub use pack_start::thaw;
+pub use routines::Naming;
+pub use routines::Program;
+pub use routines::no_naming;
 pub use state::Called;
 pub use state::State;
 pub use state::before_start;
 pub use state_sound::is_sound;
 
-// Any of the eleven calls, by its numbers, in the order of document 01's frames; `size` is B and `rlen` is r. A call that names a file alone holds
+// Any of the thirteen calls, by its numbers, in the order of document 01's frames, return and what runs last; `size` is B and `rlen` is r. A call that names a file alone holds
 // that file's number. The words of a report and of a put are lent beside it.
 pub enum AnyCall {
     Fresh {
@@ -59,6 +65,7 @@ pub enum AnyCall {
         file: u8,
         op: u8,
         priority: u8,
+        naming: Naming,
     },
     Report {
         channel: u8,
@@ -72,9 +79,12 @@ pub enum AnyCall {
     Skip(u8),
     Freeze,
     Thaw,
+    Return,
+    Running,
 }
 
-// What an answer adds to the refusal: nothing; the channel's working unit; a report's result, check error and working unit; what get found.
+// What an answer adds to the refusal: nothing; the channel's working unit; a report's result, check error and working unit; what get found; whether a return
+// entered a waiting routine, and what runs after it; what runs.
 pub enum Adds {
     Nothing,
     Working(u8),
@@ -84,6 +94,11 @@ pub enum Adds {
         working: u8,
     },
     Found(Got),
+    Returned {
+        entered: bool,
+        program: Program,
+    },
+    Runs(Program),
 }
 
 // The answer to any call: the refusal, 0 for none; what it adds; where the words that it shows begin in the area, and how many they are; the

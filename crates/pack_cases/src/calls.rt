@@ -1,8 +1,10 @@
-// The eleven calls: their numbers as a command has them, their answers printed. Each gives the state after it.
+// The thirteen calls: their numbers as a command has them, their answers printed. Each gives the state after it.
 use crate::print::answer;
 use crate::print::checked;
 use crate::print::end_line;
+use crate::print::flag;
 use crate::print::number;
+use crate::print::program;
 use crate::print::words;
 use pack::Adds;
 use pack::AnyAnswer;
@@ -10,6 +12,7 @@ use pack::AnyCall;
 use pack::Delivery;
 use pack::Got;
 use pack::Masks;
+use pack::Naming;
 use pack::State;
 use word::Checked;
 use word::not_checked;
@@ -37,6 +40,10 @@ fn long(head: &[u64], i: usize) -> u32 {
     } else {
         0
     }
+}
+
+fn truth(head: &[u64], i: usize) -> bool {
+    if i < head.len() { head[i] != 0 } else { false }
 }
 
 // ---- a command as a call
@@ -75,7 +82,31 @@ fn ask(head: &[u64]) -> AnyCall {
     let file = byte(head, 0);
     let op = byte(head, 1);
     let priority = byte(head, 2);
-    AnyCall::Ask { file, op, priority }
+    let naming = pack::no_naming();
+    AnyCall::Ask {
+        file,
+        op,
+        priority,
+        naming,
+    }
+}
+
+// An ask that says whether it names a routine, and which.
+fn named_ask(head: &[u64]) -> AnyCall {
+    let file = byte(head, 0);
+    let op = byte(head, 1);
+    let priority = byte(head, 2);
+    let naming = Naming {
+        given: truth(head, 3),
+        routine: byte(head, 4),
+        level: byte(head, 5),
+    };
+    AnyCall::Ask {
+        file,
+        op,
+        priority,
+        naming,
+    }
 }
 
 fn report(head: &[u64]) -> AnyCall {
@@ -104,6 +135,9 @@ fn call_of(kind: u64, head: &[u64]) -> AnyCall {
         7 => AnyCall::Seal(byte(head, 0)),
         8 => AnyCall::Skip(byte(head, 0)),
         9 => AnyCall::Freeze,
+        21 => named_ask(head),
+        22 => AnyCall::Return,
+        23 => AnyCall::Running,
         _ => AnyCall::Thaw,
     }
 }
@@ -154,6 +188,14 @@ fn added(area: &[u64], r: AnyAnswer) {
             found(g);
             shown(area, r);
         }
+        Adds::Returned {
+            entered,
+            program: now,
+        } => {
+            number(flag(entered));
+            program(now);
+        }
+        Adds::Runs(now) => program(now),
     }
 }
 

@@ -1,6 +1,7 @@
 // Plays calls on a state that a caller changes between them and an area that it lends, and prints an answer line for each: what a session cannot
 // show. Commands 0 to 10 are the calls in document 01's order; 11 lends fewer words, 12 sets one of them, 13 to 16 change a file, a unit,
 // a channel's mark of either kind, or m, W, the freeze and the free mask; 17 starts over; 18, 19 and 20 print the words, the state, and whether it is sound.
+// 21 is an ask that names a routine, 22 a return, 23 asks what runs; 24 to 26 change the depth of the push-down list, a program, and what stands with a unit.
 // The stored output is that of the second program.
 mod calls;
 mod pokes;
@@ -64,6 +65,10 @@ fn head_count(kind: u64) -> usize {
         14 => 4,
         15 => 3,
         16 => 2,
+        21 => 6,
+        24 => 1,
+        25 => 3,
+        26 => 4,
         _ => 0,
     }
 }
@@ -172,12 +177,21 @@ fn called(kind: u64, head: &[u64], d: Desk, room: &mut [u64], words: &[u64]) -> 
     }
 }
 
+// Whether a command is a call, and whether it changes what the caller holds.
+fn is_call(kind: u64) -> bool {
+    (kind <= 10) | ((21 <= kind) & (kind <= 23))
+}
+
+fn is_change(kind: u64) -> bool {
+    ((11 <= kind) & (kind <= 17)) | ((24 <= kind) & (kind <= 26))
+}
+
 // One command.
 fn done(kind: u64, head: &[u64], d: Desk, room: &mut [u64], words: &[u64]) -> Desk {
-    if kind <= 10 {
+    if is_call(kind) {
         return called(kind, head, d, room, words);
     }
-    if kind <= 17 {
+    if is_change(kind) {
         return changed(kind, head, d, room);
     }
     printed(kind, d, &room[..]);

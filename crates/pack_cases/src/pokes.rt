@@ -11,10 +11,18 @@ use file::Buffer;
 use file::File;
 use file::Slot;
 use pool::FILES;
+use routines::DEPTH;
+use routines::Post;
+use routines::Program;
+use routines::Programs;
+use routines::Routines;
+use routines::post_at;
+use routines::with_post;
 use state::State;
 use state::channel_at;
 use state::file_at;
 use state::with_channel;
+use state::with_routines;
 
 fn byte(n: u64) -> u8 {
     (n % 256) as u8
@@ -285,6 +293,71 @@ fn mark_with(c: Channel, which: u64, v: u64) -> Channel {
     d
 }
 
+// ---- the routines
+
+// A program with another of its numbers: 0 the rank, 1 the channel, 2 the unit, 3 the routine.
+fn program_with(p: Program, field: u64, v: u64) -> Program {
+    let mut q = p;
+    match field {
+        0 => q.rank = byte(v),
+        1 => q.channel = byte(v),
+        2 => q.unit = byte(v),
+        _ => q.routine = byte(v),
+    }
+    q
+}
+
+// What runs, at place 0, or an interrupted program, at the places from 1 on, with another of its numbers.
+fn programs_with(p: Programs, at: usize, field: u64, v: u64) -> Programs {
+    let mut q = p;
+    if at == 0 {
+        let x = program_with(p.running, field, v);
+        q.running = x;
+        return q;
+    }
+    let i = at - 1;
+    if DEPTH <= i {
+        return p;
+    }
+    let x = p.pushed[i];
+    let y = program_with(x, field, v);
+    q.pushed[i] = y;
+    q
+}
+
+// What is named (0 the rank, 1 the routine) or waits (2, 3) at a unit.
+fn post_with(p: Post, field: u64, v: u64) -> Post {
+    let mut named = p.named;
+    let mut due = p.due;
+    match field {
+        0 => named.rank = byte(v),
+        1 => named.routine = byte(v),
+        2 => due.rank = byte(v),
+        _ => due.routine = byte(v),
+    }
+    Post { named, due }
+}
+
+// The routines with the number that the command names: 24 the depth of the list, 25 a program, 26 what stands with a unit.
+fn routines_with(r: Routines, kind: u64, a: u64, b: u64, c: u64, d: u64) -> Routines {
+    if kind == 26 {
+        let x = post_at(r, place(a), place(b));
+        let y = post_with(x, c, d);
+        return with_post(r, place(a), place(b), y);
+    }
+    let p = r.programs;
+    let mut t = r;
+    if kind == 25 {
+        let q = programs_with(p, place(a), b, c);
+        t.programs = q;
+        return t;
+    }
+    let mut q = p;
+    q.count = byte(a);
+    t.programs = q;
+    t
+}
+
 // ---- the state
 
 // The state with another file in the place of that number, and all else as it was: the free mask too.
@@ -318,6 +391,11 @@ pub fn poked(kind: u64, s: State, a: u64, b: u64, c: u64, d: u64) -> State {
     }
     if kind == 16 {
         return pool_with(s, a, b);
+    }
+    if 24 <= kind {
+        let r = s.routines;
+        let t = routines_with(r, kind, a, b, c, d);
+        return with_routines(s, t);
     }
     let x = channel_at(s, i);
     let y = if kind == 14 {

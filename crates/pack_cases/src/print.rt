@@ -11,6 +11,12 @@ use file::File;
 use file::Slot;
 use libc::STDOUT_FILENO;
 use pool::FILES;
+use routines::DEPTH;
+use routines::Post;
+use routines::Program;
+use routines::Programs;
+use routines::Routines;
+use routines::post_at;
 use state::CHANNELS;
 use state::State;
 use word::Checked;
@@ -207,6 +213,72 @@ fn file(i: usize, f: File) {
     buffer(f.high);
 }
 
+// ---- the routines
+
+// A program: its rank, its channel and unit, and its number; all zero for the main program.
+pub fn program(p: Program) {
+    number(p.rank as u64);
+    number(p.channel as u64);
+    number(p.unit as u64);
+    number(p.routine as u64);
+}
+
+// A place of the list that is not all zero.
+fn placed(at: usize, p: Program) {
+    let zero = ((p.rank | p.channel) | (p.unit | p.routine)) == 0;
+    if !zero {
+        number(at as u64);
+        program(p);
+    }
+}
+
+// How many programs were interrupted; what runs, at place 0, and those, from the bottom of the list on; 5 at the end.
+fn programs(p: Programs) {
+    number(p.count as u64);
+    let x = p.running;
+    placed(0, x);
+    let mut i = 0;
+    while i < DEPTH {
+        let y = p.pushed[i];
+        placed(i + 1, y);
+        i += 1;
+    }
+    number(5);
+}
+
+// What stands with a unit, if it is not all zero.
+fn post(c: usize, u: usize, p: Post) {
+    let named = p.named;
+    let due = p.due;
+    let zero = ((named.rank | named.routine) | (due.rank | due.routine)) == 0;
+    if !zero {
+        number(c as u64);
+        number(u as u64);
+        number(named.rank as u64);
+        number(named.routine as u64);
+        number(due.rank as u64);
+        number(due.routine as u64);
+    }
+}
+
+fn channel_posts(r: Routines, c: usize) {
+    let mut u = 0;
+    while u < UNITS {
+        post(c, u, post_at(r, c, u));
+        u += 1;
+    }
+}
+
+// What stands with the units; 5 at the end.
+fn posts(r: Routines) {
+    let mut c = 0;
+    while c < CHANNELS {
+        channel_posts(r, c);
+        c += 1;
+    }
+    number(5);
+}
+
 // ---- the state
 
 fn channels(s: State) {
@@ -228,7 +300,7 @@ fn files(s: State) {
     }
 }
 
-// The pool, each channel with its units, ended by 10, and each file that is not all zero; 16 at the end.
+// The pool, each channel with its units, ended by 10, each file that is not all zero, ended by 16, and the routines.
 pub fn state(s: State) {
     answer(s.m as u64);
     number(s.w as u64);
@@ -237,5 +309,8 @@ pub fn state(s: State) {
     channels(s);
     files(s);
     number(FILES as u64);
+    let r = s.routines;
+    programs(r.programs);
+    posts(r);
     end_line();
 }

@@ -1,4 +1,4 @@
--- What a call that stores one file leaves alone: every other file, every channel, the pool and the freeze. Assumes nothing.
+-- What a call that stores one file leaves alone: every other file, every channel, the pool, the freeze and the routines. Assumes nothing.
 use mathlib.Core.Path.{_≡_, refl}
 use mathlib.Core.Logic.{_≢_}
 use mathlib.Core.Bool.{Bool, true, false, cond}
@@ -21,14 +21,15 @@ pub record OnlyFile (s : State) (i : ℕ) (t : State) : Type 0 where
   pub m : t .m ≡ s .m
   pub w : t .w ≡ s .w
   pub frozen : t .frozen ≡ s .frozen
+  pub routines : t .routines ≡ s .routines
 
 stored : (s : State) (i : ℕ) (f : File) → OnlyFile s i (withFile s i f)
 unfolding withFile
-stored s i f = record { files = λ j ne. getD-set-other (s .files) i j f closedFile ne; channels = refl; m = refl; w = refl; frozen = refl }
+stored s i f = record { files = λ j ne. getD-set-other (s .files) i j f closedFile ne; channels = refl; m = refl; w = refl; frozen = refl; routines = refl }
 
 pub store-frame : (n : ℕ) (s : State) (i : ℕ) (f : File) → OnlyFile s i (called n s (withFile s i f) .state)
 store-frame n s i f = go (eqb n 0)
   where
     go : (b : Bool) → OnlyFile s i (cond b (withFile s i f) s)
     go true = stored s i f
-    go false = record { files = λ j ne. refl; channels = refl; m = refl; w = refl; frozen = refl }
+    go false = record { files = λ j ne. refl; channels = refl; m = refl; w = refl; frozen = refl; routines = refl }

@@ -125,6 +125,7 @@ module _ (s : State) (area : List ℕ) (file : ℕ) where
   -- every other file, every channel and the pool are as they were; no word of the area can change, since it is lent to be read alone
   pub get-frame : ((j : ℕ) → j ≢ file → fileAt (getBy s area file .state) j ≡ fileAt s j) × (getBy s area file .state .channels ≡ s .channels)
       × (getBy s area file .state .m ≡ s .m) × (getBy s area file .state .w ≡ s .w) × (getBy s area file .state .frozen ≡ s .frozen)
+      × (getBy s area file .state .routines ≡ s .routines)
   unfolding getBy withFile
   get-frame = go (eqb (getChange s area file .refusal) 0)
     where
@@ -132,5 +133,6 @@ module _ (s : State) (area : List ℕ) (file : ℕ) where
           × (cond t (withFile s file (getChange s area file .file)) s .channels ≡ s .channels)
           × (cond t (withFile s file (getChange s area file .file)) s .m ≡ s .m) × (cond t (withFile s file (getChange s area file .file)) s .w ≡ s .w)
           × (cond t (withFile s file (getChange s area file .file)) s .frozen ≡ s .frozen)
-      go true = (λ j ne. getD-set-other (s .files) file j (getChange s area file .file) closedFile ne, refl, refl, refl, refl)
-      go false = (λ j ne. refl, refl, refl, refl, refl)
+          × (cond t (withFile s file (getChange s area file .file)) s .routines ≡ s .routines)
+      go true = (λ j ne. getD-set-other (s .files) file j (getChange s area file .file) closedFile ne, refl, refl, refl, refl, refl)
+      go false = (λ j ne. refl, refl, refl, refl, refl, refl)

@@ -166,6 +166,7 @@ module _ (s : State) (area : List ℕ) (file : ℕ) (words : List ℕ) where
   -- every other file, every channel and the pool are as they were
   pub put-frame : ((j : ℕ) → j ≢ file → fileAt (putBy s area file words .state) j ≡ fileAt s j) × (putBy s area file words .state .channels ≡ s .channels)
       × (putBy s area file words .state .m ≡ s .m) × (putBy s area file words .state .w ≡ s .w) × (putBy s area file words .state .frozen ≡ s .frozen)
+      × (putBy s area file words .state .routines ≡ s .routines)
   unfolding putBy withFile
   put-frame = go (eqb (putChange s area file words .refusal) 0)
     where
@@ -173,8 +174,9 @@ module _ (s : State) (area : List ℕ) (file : ℕ) (words : List ℕ) where
           × (cond t (withFile s file (putChange s area file words .file)) s .channels ≡ s .channels)
           × (cond t (withFile s file (putChange s area file words .file)) s .m ≡ s .m) × (cond t (withFile s file (putChange s area file words .file)) s .w ≡ s .w)
           × (cond t (withFile s file (putChange s area file words .file)) s .frozen ≡ s .frozen)
-      go true = (λ j ne. getD-set-other (s .files) file j (putChange s area file words .file) closedFile ne, refl, refl, refl, refl)
-      go false = (λ j ne. refl, refl, refl, refl, refl)
+          × (cond t (withFile s file (putChange s area file words .file)) s .routines ≡ s .routines)
+      go true = (λ j ne. getD-set-other (s .files) file j (putChange s area file words .file) closedFile ne, refl, refl, refl, refl, refl)
+      go false = (λ j ne. refl, refl, refl, refl, refl, refl)
 
   -- and so is every word of the area outside the buffer that it adds to, whatever the answer
   pub put-area-frame : Only (startAt f (s .w) (putSide f)) (s .w) area (putByArea s area file words)

@@ -139,6 +139,7 @@ module _ (s : State) (area : List ℕ) (file : ℕ) where
   -- every other file, every channel and the pool are as they were
   pub seal-frame : ((j : ℕ) → j ≢ file → fileAt (sealBy s area file .state) j ≡ fileAt s j) × (sealBy s area file .state .channels ≡ s .channels)
       × (sealBy s area file .state .m ≡ s .m) × (sealBy s area file .state .w ≡ s .w) × (sealBy s area file .state .frozen ≡ s .frozen)
+      × (sealBy s area file .state .routines ≡ s .routines)
   unfolding sealBy withFile
   seal-frame = go (eqb (sealChange s area file .refusal) 0)
     where
@@ -146,8 +147,9 @@ module _ (s : State) (area : List ℕ) (file : ℕ) where
           × (cond t (withFile s file (sealChange s area file .file)) s .channels ≡ s .channels)
           × (cond t (withFile s file (sealChange s area file .file)) s .m ≡ s .m) × (cond t (withFile s file (sealChange s area file .file)) s .w ≡ s .w)
           × (cond t (withFile s file (sealChange s area file .file)) s .frozen ≡ s .frozen)
-      go true = (λ j ne. getD-set-other (s .files) file j (sealChange s area file .file) closedFile ne, refl, refl, refl, refl)
-      go false = (λ j ne. refl, refl, refl, refl, refl)
+          × (cond t (withFile s file (sealChange s area file .file)) s .routines ≡ s .routines)
+      go true = (λ j ne. getD-set-other (s .files) file j (sealChange s area file .file) closedFile ne, refl, refl, refl, refl, refl)
+      go false = (λ j ne. refl, refl, refl, refl, refl, refl)
 
   -- and so is every word of the area outside the part-filled buffer, whatever the answer
   pub seal-area-frame : Only (partStart (s .w) f) (s .w) area (sealByArea s area file)

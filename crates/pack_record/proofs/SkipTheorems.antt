@@ -101,6 +101,7 @@ module _ (s : State) (file : ℕ) where
   -- every other file, every channel and the pool are as they were; skip takes no area
   pub skip-frame : ((j : ℕ) → j ≢ file → fileAt (skipBy s file .state) j ≡ fileAt s j) × (skipBy s file .state .channels ≡ s .channels)
       × (skipBy s file .state .m ≡ s .m) × (skipBy s file .state .w ≡ s .w) × (skipBy s file .state .frozen ≡ s .frozen)
+      × (skipBy s file .state .routines ≡ s .routines)
   unfolding skipBy withFile
   skip-frame = go (eqb (skipChange s file .refusal) 0)
     where
@@ -108,5 +109,6 @@ module _ (s : State) (file : ℕ) where
           × (cond t (withFile s file (skipChange s file .file)) s .channels ≡ s .channels)
           × (cond t (withFile s file (skipChange s file .file)) s .m ≡ s .m) × (cond t (withFile s file (skipChange s file .file)) s .w ≡ s .w)
           × (cond t (withFile s file (skipChange s file .file)) s .frozen ≡ s .frozen)
-      go true = (λ j ne. getD-set-other (s .files) file j (skipChange s file .file) closedFile ne, refl, refl, refl, refl)
-      go false = (λ j ne. refl, refl, refl, refl, refl)
+          × (cond t (withFile s file (skipChange s file .file)) s .routines ≡ s .routines)
+      go true = (λ j ne. getD-set-other (s .files) file j (skipChange s file .file) closedFile ne, refl, refl, refl, refl, refl)
+      go false = (λ j ne. refl, refl, refl, refl, refl, refl)

@@ -8,7 +8,7 @@ use Prim.Native.Nat.{ℕ, suc, _+_, _≤_, _<_}
 use native.Mathlib.Decide.{ℕ-discrete}
 use native.Mathlib.Omega.{arith}
 use lib.Dec.{ltb, eqb, leb}
-use lib.ListN.{length, take, getD}
+use lib.ListN.{length, set, getD}
 use borrow.Author.Tests.{not-true, ne-eqb, eq-eqb, eqb-true}
 use Rattle.area.specs.declared.Found.{Found}
 use Rattle.area.specs.declared.Found.the-variants as found
@@ -29,7 +29,7 @@ use Rattle.channel_outcomes.specs.declared.Ending.{Ending}
 use Rattle.channel_outcomes.specs.declared.Verdict.{Verdict}
 use Rattle.channel_outcomes.specs.declared.Verdict.the-variants.{Repeats, Ends}
 use Rattle.channel_outcomes.specs.Rules.{isAllowed, isFailure, isPermanent, isNoise, pastNoise, nextAttempt, endingOf, tableVerdict, verdictOf, resultNumber, outcomeCount, incompleteWord}
-use Rattle.channel.specs.Units.{turnAt, positionAt, workOf, operationAt, unitCount}
+use Rattle.channel.specs.Units.{declaredAt, turnAt, positionAt, workOf, operationAt, unitCount}
 use Rattle.channel_turns.specs.Scans.{workingIn, unitNumber}
 use Rattle.channel_turns.specs.Turns.{judgeTurn, judgeOf, bookOf, reportOf}
 use Rattle.channel_theorems.specs.History.{station, report, stepTo, reportAnswer, step, aReport}
@@ -42,9 +42,10 @@ use Rattle.area.specs.Lists.{numberOr}
 use Rattle.pool.specs.Serving.{serves, servingFile}
 use Rattle.state_sound.specs.Files.{shareBuffer, shareUnit, apart}
 use Rattle.state_sound.proofs.Replaced.{alike-self, unbound}
+use Rattle.routines.specs.declared.Routines.{Routines}
 use Rattle.state.specs.declared.State.{State}
 use Rattle.state.specs.Places.{fileAt, channelAt}
-use Rattle.state.specs.Stores.{withFile, withChannel}
+use Rattle.state.specs.Stores.{withFile, withChannel, withRoutines}
 use Rattle.state_sound.specs.Requests.{requested, isNone}
 use Rattle.state_sound.specs.Soundness.{sound}
 use Rattle.state_sound.specs.Judged.{fileReady}
@@ -52,6 +53,7 @@ use Rattle.state_sound.proofs.Everywhere.{place-inside}
 use Rattle.state_sound.proofs.Facts.{Served, SoundFacts, sound-facts, facts-sound}
 use Rattle.state_sound.proofs.ChannelCalls.{repeat-moved, end-moved}
 use Rattle.state_sound.proofs.Kept.{line-of, place-of}
+use Rattle.state_sound.proofs.RoutinesKept.{answered-beside, repeated-beside}
 use Rattle.word.specs.declared.Checked.{Checked}
 use Rattle.word.specs.CheckWords.{blockNumbers}
 use Rattle.word.specs.Checks.{unchecked, isChecked, isExact}
@@ -64,9 +66,11 @@ use Rattle.call_request.specs.declared.ReportChange.{ReportChange}
 use Rattle.pack_request.specs.declared.Reporting.{Reporting}
 use Rattle.call_request.specs.Effects.{effectOf, opEffect, isDelivery}
 use Rattle.call_request.specs.Report.{isIdleFor, takesNoWords, isForbidden, lengthWrong, shownStart, shownCount, shownBlock, effectAt, reportRows, reportRefusal, deliveryCheck, deliveryOf, reportedFile, refusedReport, reportOn, reportOnArea}
+use Rattle.call_request.specs.Named.{reportedRoutines}
+use Rattle.call_request.proofs.NamedLaws.{repeats-routines, ends-routines}
 use Rattle.pack_request.specs.Calls.{fileOf, reportWrong, reportBy, reportByArea}
 use Rattle.pack_request.proofs.Ready.{not-false, ended-file}
-use Rattle.pack_request.proofs.Changed.{Frame, changed-refused, changed-taken, changed-frame, here-file, here-channel, became-sound}
+use Rattle.pack_request.proofs.Changed.{Frame, Beside, changed-refused, changed-taken, changed-frame, here-file, here-channel, became-sound}
 
 -- ---- what a report that is booked comes to
 
@@ -207,6 +211,9 @@ module _ (s : State) (area : List ℕ) (channel unit outcome len : ℕ) (words :
   abbrev became : File
   became = reportedFile effect f (length words) (deliveryCheck effect f words)
 
+  abbrev routinesAfter : Verdict → Routines
+  routinesAfter v = reportedRoutines (s .routines) (s .frozen) channel unit (resultNumber (positionAt c unit) v)
+
   change-refused : (refusal ≡ 0 → ⊥) → change ≡ refusedReport refusal f c
   unfolding reportOn
   change-refused h = rw (ne-eqb refusal 0 h)
@@ -238,10 +245,11 @@ module _ (s : State) (area : List ℕ) (channel unit outcome len : ℕ) (words :
       go (yes z) = booked-number z ∙ sym z
       go (no h) = refused-number h
 
-  report-state : refusal ≡ 0 → reported .state ≡ withFile (withChannel s channel booking) i became
+  report-state : refusal ≡ 0 → reported .state ≡ withRoutines (withFile (withChannel s channel booking) i became) (routinesAfter (judgeOf c unit outcome len))
   unfolding reportBy
   report-state z =
-      changed-taken s i channel _ _ _ (booked-number z) ∙ ap (λ (x : ReportChange). withFile (withChannel s channel (x .channel)) i (x .file)) (change-booked z)
+      changed-taken s i channel _ _ _ _ (booked-number z)
+      ∙ ap (λ (x : ReportChange). withRoutines (withFile (withChannel s channel (x .channel)) i (x .file)) (reportedRoutines (s .routines) (s .frozen) channel unit (x .result))) (change-booked z)
 
   -- refused: the number alone, the state that was passed, and the area as it was
   pub record ReportAlone : Type 0 where
@@ -251,7 +259,7 @@ module _ (s : State) (area : List ℕ) (channel unit outcome len : ℕ) (words :
   report-alone : (refusal ≡ 0 → ⊥) → ReportAlone
   unfolding reportBy reportByArea reportOnArea
   report-alone h = record {
-    answer = rw (change-refused h, changed-refused s i channel refusal f c h);
+    answer = rw (change-refused h, changed-refused s i channel refusal f c (reportedRoutines (s .routines) (s .frozen) channel unit 0) h);
     untouched = rw (ne-eqb refusal 0 h);
   }
 
@@ -268,7 +276,7 @@ module _ (s : State) (area : List ℕ) (channel unit outcome len : ℕ) (words :
   -- what is not named is not touched: every other file, and every other channel
   pub report-frame : Frame s (reported .state) i channel
   unfolding reportBy
-  report-frame = changed-frame s i channel _ _ _
+  report-frame = changed-frame s i channel _ _ _ _
 
   module _ (sixteen : length (s .files) ≡ fileCount) (z : refusal ≡ 0) where
     ready : ReportReady wrong f c unit outcome len (s .w) area words
@@ -300,34 +308,49 @@ module _ (s : State) (area : List ℕ) (channel unit outcome len : ℕ) (words :
         sym (ap (λ (n : ℕ). fileReady (requested (turnAt (channelAt s n) (f .unit))) f) on-channel ∙ ap (λ (n : ℕ). fileReady (requested (turnAt c n)) f) on-unit)
         ∙ facts .ready i isOpen
 
+    inside : channel < length (s .channels)
+    inside = subst (λ (n : ℕ). n < length (s .channels)) on-channel (line-of s facts i isOpen)
+
+    unit-known : declaredAt c unit ≡ true
+    unit-known = sym (ap (λ (n : ℕ). declaredAt (channelAt s n) (f .unit)) on-channel ∙ ap (declaredAt c) on-unit) ∙ facts .declared i isOpen
+
     after-facts : (found : Checked) → isChecked (f .sequence) (f .check) found ≡ true → isExact (f .sequence) (f .check) found ≡ true
-        → SoundFacts (withFile (withChannel s channel booking) i (reportedFile effect f (length words) found))
+        → SoundFacts (withRoutines (withFile (withChannel s channel booking) i (reportedFile effect f (length words) found)) (routinesAfter (judgeOf c unit outcome len)))
     unfolding operationAt reportedFile
     after-facts found right exact = go view (ready .fits)
       where
         To : Work → Verdict → Type 0
-        To x v = SoundFacts (withFile (withChannel s channel (bookOf c unit v (s .frozen))) i (reportedFile (effectOf (ltb 0 (length words)) x v) f (length words) found))
+        To x v =
+            SoundFacts
+            (withRoutines (withFile (withChannel s channel (bookOf c unit v (s .frozen))) i (reportedFile (effectOf (ltb 0 (length words)) x v) f (length words) found))
+            (routinesAfter v))
 
         go : Booked c unit outcome len → (isDelivery effect ≡ true → blockFits f (length words) ≡ true) → To (operationAt c unit) (judgeOf c unit outcome len)
         go (again r q t j) k =
+            let moved = repeat-moved (s .m) c unit (s .frozen) (facts .channels channel) outcome len q j in
             subst (To (operationAt c unit)) (sym j)
-            (became-sound s i channel unit (bookOf c unit (Repeats q) (s .frozen)) f (requested (turnAt c unit)) facts isOpen on-channel on-unit
-            (repeat-moved (s .m) c unit (s .frozen) (facts .channels channel) outcome len q j)
-            (record { sound = facts .files i isOpen; ready = requested-ready; alike = alike-self f }))
+            (became-sound s i channel unit (bookOf c unit (Repeats q) (s .frozen)) f (requested (turnAt c unit)) (routinesAfter (Repeats q)) facts isOpen on-channel on-unit moved
+            (record { sound = facts .files i isOpen; ready = requested-ready; alike = alike-self f })
+            (subst (Beside (set (s .channels) channel (bookOf c unit (Repeats q) (s .frozen))) (s .frozen))
+            (sym (repeats-routines (s .routines) (s .frozen) channel unit (positionAt c unit) q))
+            (repeated-beside s channel unit _ (requested (turnAt c unit)) facts inside moved refl)))
         go (ended r e t j) k =
+            let moved = end-moved (s .m) c unit (s .frozen) (facts .channels channel) outcome len e j in
             let w : operationAt c unit ≡ At (r .op) = ap workOf t in
             let here : effect ≡ opEffect (ltb 0 (length words)) (r .op) e = ap (effectOf (ltb 0 (length words)) (operationAt c unit)) j ∙ ap (λ (x : Work). effectOf (ltb 0 (length words)) x (Ends e)) w in
             subst (To (operationAt c unit)) (sym j)
             (subst (λ (x : Work). To x (Ends e)) (sym w)
-            (became-sound s i channel unit (bookOf c unit (Ends e) (s .frozen)) _ Nothing facts isOpen on-channel on-unit
-            (end-moved (s .m) c unit (s .frozen) (facts .channels channel) outcome len e j)
+            (became-sound s i channel unit (bookOf c unit (Ends e) (s .frozen)) _ Nothing (routinesAfter (Ends e)) facts isOpen on-channel on-unit moved
             (ended-file (s .m) (s .w) f (length words) found (facts .files i isOpen) right exact (ltb 0 (length words)) (r .op) e
-            (sym (ap (λ (x : Turn). fileReady (requested x) f) t) ∙ requested-ready) (λ b. k (ap isDelivery here ∙ b)))))
+            (sym (ap (λ (x : Turn). fileReady (requested x) f) t) ∙ requested-ready) (λ b. k (ap isDelivery here ∙ b)))
+            (subst (Beside (set (s .channels) channel (bookOf c unit (Ends e) (s .frozen))) (s .frozen))
+            (sym (ends-routines (s .routines) (s .frozen) channel unit (positionAt c unit) e))
+            (answered-beside s channel unit _ Nothing facts inside moved refl unit-known))))
 
     reported-channel : channelAt (reported .state) channel ≡ booking
     unfolding reportBy
     reported-channel =
-        here-channel s i channel _ _ _ (booked-number z) (subst (λ (n : ℕ). n < length (s .channels)) on-channel (line-of s facts i isOpen))
+        here-channel s i channel _ _ _ _ (booked-number z) inside
         ∙ ap (λ (x : ReportChange). x .channel) (change-booked z)
 
     reported-event : Agrees (station c (s .frozen)) (some (record { event = report unit outcome len; answer = reportAnswer (judgeOf c unit outcome len) }))
@@ -384,7 +407,7 @@ module _ (s : State) (area : List ℕ) (channel unit outcome len : ℕ) (words :
   unfolding reportBy
   report-file n z =
       let y = sym report-number ∙ z in
-      here-file s i channel _ _ _ (booked-number y) (place-of s i (isOpen n y)) ∙ ap (λ (x : ReportChange). x .file) (change-booked y)
+      here-file s i channel _ _ _ _ (booked-number y) (place-of s i (isOpen n y)) ∙ ap (λ (x : ReportChange). x .file) (change-booked y)
 
   pub report-working : length (s .files) ≡ fileCount → reported .refusal ≡ 0
       → reported .working ≡ unitNumber (workingIn (channelAt (reported .state) channel))
@@ -392,3 +415,11 @@ module _ (s : State) (area : List ℕ) (channel unit outcome len : ℕ) (words :
   report-working n z =
       let y = sym report-number ∙ z in
       ap (λ (x : ReportChange). x .working) (change-booked y) ∙ ap (λ (d : Channel). unitNumber (workingIn d)) (sym (reported-channel n y))
+
+  -- the routines after it: what an answered request named is due, or entered
+  pub report-routines : reported .refusal ≡ 0 → reported .state .routines ≡ reportedRoutines (s .routines) (s .frozen) channel unit (reported .result)
+  unfolding reportBy withRoutines
+  report-routines z =
+      let y = sym report-number ∙ z in
+      ap (λ (t : State). t .routines) (report-state y)
+      ∙ ap (λ (x : ReportChange). reportedRoutines (s .routines) (s .frozen) channel unit (x .result)) (sym (change-booked y))

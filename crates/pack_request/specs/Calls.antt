@@ -13,6 +13,10 @@ use Rattle.call_request.specs.declared.AskChange.{AskChange}
 use Rattle.call_request.specs.declared.ReportChange.{ReportChange}
 use Rattle.call_request.specs.Ask.{askOn}
 use Rattle.call_request.specs.Report.{reportOn, reportOnArea}
+use Rattle.call_request.specs.Named.{askedRoutines, reportedRoutines}
+use Rattle.routines.specs.declared.Naming.{Naming}
+use Rattle.routines.specs.declared.Routines.{Routines}
+use Rattle.routines.specs.Posts.{waitsIn}
 use Rattle.pack_request.specs.declared.Asking.{Asking}
 use Rattle.pack_request.specs.declared.Reporting.{Reporting}
 use Rattle.pack_request.specs.Changes.{changedState}
@@ -23,14 +27,26 @@ use Rattle.pack_request.specs.Changes.{changedState}
 abbrev pub askWrong : State → ℕ → Bool
 askWrong s file = not (sound s) || leb fileCount file
 
--- what changes: the file, and the channel that it is open on
-abbrev pub askChange : State → ℕ → ℕ → ℕ → AskChange
-askChange s file op priority = askOn (askWrong s file) (fileAt s file) (channelAt s (fileAt s file .channel)) op priority (s .frozen)
+-- whether a routine waits at the file's unit
+abbrev pub askWaits : State → ℕ → Bool
+askWaits s file = waitsIn (s .routines) (fileAt s file .channel) (fileAt s file .unit)
 
-unfoldable pub askBy : State → ℕ → ℕ → ℕ → Asking
-askBy s file op priority =
-    let x = askChange s file op priority in
-    record { refusal = x .refusal; working = x .working; state = changedState s file (fileAt s file .channel) (x .refusal) (x .file) (x .channel) }
+-- what changes: the file, the channel that it is open on, and what the request of its unit names
+abbrev pub askChange : State → ℕ → ℕ → ℕ → Naming → AskChange
+askChange s file op priority naming =
+    askOn (askWrong s file) (fileAt s file) (channelAt s (fileAt s file .channel)) op priority naming (askWaits s file) (s .frozen)
+
+abbrev pub askedAll : State → ℕ → Naming → Routines
+askedAll s file naming = askedRoutines (s .routines) (fileAt s file .channel) (fileAt s file .unit) naming
+
+unfoldable pub askBy : State → ℕ → ℕ → ℕ → Naming → Asking
+askBy s file op priority naming =
+    let x = askChange s file op priority naming in
+    record {
+      refusal = x .refusal;
+      working = x .working;
+      state = changedState s file (fileAt s file .channel) (x .refusal) (x .file) (x .channel) (askedAll s file naming);
+    }
 
 -- ---- report
 
@@ -42,7 +58,7 @@ fileOf s c u = fileServing (s .files) c u
 abbrev pub reportWrong : State → ℕ → ℕ → Bool
 reportWrong s n c = not (sound s) || (areaShort s n || leb channelCount c)
 
--- what changes: the channel, and the file that its unit serves
+-- what changes: the channel, the file that its unit serves, and the routines
 abbrev pub reportChange : State → List ℕ → ℕ → ℕ → ℕ → ℕ → List ℕ → ReportChange
 reportChange s area c u outcome len words =
     reportOn (reportWrong s (length area) c) (fileAt s (fileOf s c u)) (channelAt s c) u outcome len (s .w) (s .frozen) area words
@@ -57,7 +73,7 @@ reportBy s area c u outcome len words =
       working = x .working;
       start = x .start;
       count = x .count;
-      state = changedState s (fileOf s c u) c (x .refusal) (x .file) (x .channel);
+      state = changedState s (fileOf s c u) c (x .refusal) (x .file) (x .channel) (reportedRoutines (s .routines) (s .frozen) c u (x .result));
     }
 
 unfoldable pub reportByArea : State → List ℕ → ℕ → ℕ → ℕ → ℕ → List ℕ → List ℕ

@@ -4,9 +4,13 @@ use crate::Reporting;
 use crate::changes::changed_state;
 use area::part;
 use call_request::ask_on;
+use call_request::asked_routines;
 use call_request::report_on;
+use call_request::reported_routines;
 use pool::FILES;
 use pool::file_of;
+use routines::Naming;
+use routines::waits_at;
 use state::CHANNELS;
 use state::State;
 use state::area_short;
@@ -17,20 +21,24 @@ ghost use mathlib.Core.Path.{_≡_};
 ghost use Rattle.area.specs.Parts.{partOf};
 ghost use Rattle.pack_request.specs.Calls.{askBy, reportBy, reportByArea};
 
-// An ask of a file: operation 0 read, 1 write, 2 mark, priority 0 or 1. A refusal gives the state that was passed.
-pub fn ask(s: State, file: u8, op: u8, priority: u8) -> Asking
-    ensures { λ r. ⌜ r ≡ askBy s file op priority ⌝ }
+// An ask of a file: operation 0 read, 1 write, 2 mark, priority 0 or 1, and the routine that it names. A refusal gives the state that was passed.
+pub fn ask(s: State, file: u8, op: u8, priority: u8, naming: Naming) -> Asking
+    ensures { λ r. ⌜ r ≡ askBy s file op priority naming ⌝ }
 {
     let i = file as usize;
     let f = file_at(s, i);
     let j = f.channel as usize;
+    let u = f.unit as usize;
     let c = channel_at(s, j);
+    let old = s.routines;
+    let waits = waits_at(old, j, u);
     let whole = is_sound(s);
     let wrong = !whole | (FILES <= i);
-    let x = ask_on(wrong, f, c, op, priority, s.frozen);
+    let x = ask_on(wrong, f, c, op, priority, naming, waits, s.frozen);
     let g = x.file;
     let d = x.channel;
-    let t = changed_state(s, i, j, x.refusal, g, d);
+    let new = asked_routines(old, j, u, naming);
+    let t = changed_state(s, i, j, x.refusal, g, d, new);
     Asking {
         refusal: x.refusal,
         working: x.working,
@@ -76,7 +84,9 @@ pub fn report(
     let g = x.file;
     let d = x.channel;
     let delivery = x.delivery;
-    let t = changed_state(s, i, j, x.refusal, g, d);
+    let old = s.routines;
+    let new = reported_routines(old, s.frozen, j, unit as usize, x.result);
+    let t = changed_state(s, i, j, x.refusal, g, d, new);
     Reporting {
         refusal: x.refusal,
         result: x.result,

@@ -1,6 +1,6 @@
 -- Freeze and thaw: exactly when they are refused, what they leave alone, that either twice is as once, and that a sound state stays sound.
 -- Assumes nothing.
-use mathlib.Core.Path.{_≡_, refl, sym, ap, _∙_}
+use mathlib.Core.Path.{_≡_, refl, sym, ap, ap₂, _∙_}
 use mathlib.Core.Logic.{_≢_}
 use mathlib.Core.Bool.{Bool, true, false, not, cond, _||_}
 use mathlib.Core.List.{List, [], _∷_, map}
@@ -21,6 +21,7 @@ use Rattle.channel_turns.specs.Starts.{startOf, thawOf}
 use Rattle.channel_theorems.proofs.Theorems.Turning.{held, at-set}
 use Rattle.channel_theorems.proofs.Theorems.Starts.{Started, isFrozen, isBusy, isQuiet, begins, started, works-found}
 use Rattle.channel_turns.proofs.Laws.Starts.{start-stays}
+use Rattle.routines.specs.declared.Routines.{Routines}
 use Rattle.state.specs.declared.State.{State}
 use Rattle.state.specs.Places.{channelAt}
 use Rattle.state_sound.specs.Soundness.{sound}
@@ -29,6 +30,7 @@ use Rattle.state_sound.proofs.Wholes.{freeze-kept as freeze-facts, thaw-kept as
 use Rattle.pack_start.specs.Freeze.{stateRows, stateRefusal, frozenState, thawedState, freezeBy, thawBy}
 use Rattle.state.proofs.Answered.{not-so, state-refused, state-accepted}
 use Rattle.area.proofs.Maps.{map-twice}
+use Rattle.routines.proofs.Laws.Facts.{look-twice}
 
 module _ (s : State) where
   -- refused with a number exactly if its row applies and none with a lower number does
@@ -85,19 +87,19 @@ thaw-kept s h = go (ℕ-discrete (thawBy s .refusal) 0)
 
 -- ---- what they leave alone
 
--- the pool and the files are as they were; freeze leaves the channels too
+-- the pool and the files are as they were; freeze leaves the channels and the routines too
 pub record OnlyTurns (s t : State) : Type 0 where
   pub m : t .m ≡ s .m
   pub w : t .w ≡ s .w
   pub files : t .files ≡ s .files
 
-pub freeze-frame : (s : State) → OnlyTurns s (freezeBy s .state) × (freezeBy s .state .channels ≡ s .channels)
+pub freeze-frame : (s : State) → OnlyTurns s (freezeBy s .state) × (freezeBy s .state .channels ≡ s .channels) × (freezeBy s .state .routines ≡ s .routines)
 unfolding freezeBy frozenState
 freeze-frame s = go (eqb (stateRefusal s) 0)
   where
-    go : (b : Bool) → OnlyTurns s (cond b (frozenState s) s) × (cond b (frozenState s) s .channels ≡ s .channels)
-    go true = (record { m = refl; w = refl; files = refl }, refl)
-    go false = (record { m = refl; w = refl; files = refl }, refl)
+    go : (b : Bool) → OnlyTurns s (cond b (frozenState s) s) × (cond b (frozenState s) s .channels ≡ s .channels) × (cond b (frozenState s) s .routines ≡ s .routines)
+    go true = (record { m = refl; w = refl; files = refl }, refl, refl)
+    go false = (record { m = refl; w = refl; files = refl }, refl, refl)
 
 pub thaw-frame : (s : State) → OnlyTurns s (thawBy s .state)
 unfolding thawBy thawedState
@@ -135,7 +137,9 @@ thaw-twice c = start-twice c false
 
 pub thaw-thaw : (s : State) → thawedState (thawedState s) ≡ thawedState s
 unfolding thawedState
-thaw-thaw s = ap (λ (cs : List Channel). record { m = s .m; w = s .w; frozen = false; channels = cs; files = s .files; free = s .free }) (map-twice thawOf thaw-twice (s .channels))
+thaw-thaw s =
+    ap₂ (λ (cs : List Channel) (r : Routines). record { m = s .m; w = s .w; frozen = false; channels = cs; files = s .files; free = s .free; routines = r })
+    (map-twice thawOf thaw-twice (s .channels)) (look-twice (s .routines) false)
 
 -- ---- "After every accepted call, a channel that is idle and not frozen starts an activity .. if any request waits."
 

@@ -9,6 +9,7 @@ use Rattle.channel.specs.Units.{unitCount, freshOf}
 use Rattle.file.specs.Sizes.{closedFile}
 use Rattle.pool.specs.Free.{fileCount, poolFits}
 use Rattle.pool.specs.Masks.{allFree}
+use Rattle.routines.specs.Posts.{noRoutines}
 use Rattle.state.specs.declared.State.{State}
 use Rattle.state.specs.declared.Called.{Called}
 use Rattle.pack_start.specs.declared.Masks.{Masks}
@@ -36,7 +37,8 @@ freshRefusal wrong m w k n = lowest (freshRows wrong m w k n)
 
 -- ---- its effect
 
--- "A fresh start closes everything, drops all requests, thaws and resets the scans."
+-- "A fresh start closes everything, drops all requests, thaws and resets the scans."; no routine waits or was interrupted, and the main program runs
+-- (document 02, M-110)
 unfoldable pub freshState : ℕ → ℕ → Masks → State
 freshState m w k = record {
   m = m;
@@ -45,6 +47,7 @@ freshState m w k = record {
   channels = freshOf (k .a) ∷ freshOf (k .b) ∷ freshOf (k .c) ∷ freshOf (k .d) ∷ freshOf (k .e) ∷ [];
   files = replicate fileCount closedFile;
   free = allFree m;
+  routines = noRoutines;
 }
 
 -- of a state, an area of n words, and what the start asks for

@@ -1,6 +1,7 @@
-// Freeze stops starts on all channels; thaw lets them happen.
+// Freeze stops starts on all channels; thaw lets them happen, and the scheduler looks for a routine to enter.
 use area::row;
 use channel::Channel;
+use routines::looked;
 use state::CHANNELS;
 use state::Called;
 use state::State;
@@ -42,13 +43,15 @@ fn all_started(channels: [Channel; CHANNELS]) -> [Channel; CHANNELS]
     started
 }
 
-// The state, thawed, with what is due started on every channel.
+// The state, thawed, with what is due started on every channel; then the scheduler looks.
 pub fn thawed_state(s: State) -> State
     ensures { λ r. ⌜ r ≡ thawedState s ⌝ }
 {
     let channels = s.channels;
     let files = s.files;
     let started = all_started(channels);
+    let old = s.routines;
+    let routines = looked(old, false);
     State {
         m: s.m,
         w: s.w,
@@ -56,6 +59,7 @@ pub fn thawed_state(s: State) -> State
         channels: started,
         files,
         free: s.free,
+        routines,
     }
 }
 

@@ -1,4 +1,4 @@
-// Fresh start: it closes everything, drops all requests, thaws, resets the scans and declares the units. It touches no word.
+// Fresh start: it closes everything, drops all requests and routines, thaws, resets the scans and declares the units. It touches no word.
 use crate::Masks;
 use area::row;
 use channel::UNITS;
@@ -6,6 +6,7 @@ use file::closed_file;
 use pool::FILES;
 use pool::all_free;
 use pool::pool_fits;
+use routines::no_routines;
 use state::Called;
 use state::State;
 use state_sound::is_sound;
@@ -58,6 +59,7 @@ pub fn fresh_state(m: u8, w: u16, masks: Masks) -> State
     let channels = [a, b, c, d, e];
     let files = [f; FILES];
     let free = all_free(m);
+    let routines = no_routines();
     State {
         m,
         w,
@@ -65,6 +67,7 @@ pub fn fresh_state(m: u8, w: u16, masks: Masks) -> State
         channels,
         files,
         free,
+        routines,
     }
 }
 

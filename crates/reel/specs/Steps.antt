@@ -5,6 +5,7 @@ use Rattle.state.specs.declared.State.{State}
 use Rattle.state.specs.Places.{beforeStart}
 use Rattle.channel_outcomes.specs.Rules.{noLength}
 use Rattle.pack_start.specs.declared.Masks.{Masks}
+use Rattle.routines.specs.Posts.{noNaming}
 use Rattle.pack.specs.Calls.{Call, fresh, opening, close, ask, report, get, put, seal, Answer, answerOf}
 use Rattle.reel.specs.declared.Options.{Options}
 
@@ -28,9 +29,9 @@ begunBy area o = inTurn beforeStart area starts (opens o)
 unfoldable pub againBy : State → List ℕ → Options → Answer
 againBy s area o = inTurn s area (close 0) (opens o)
 
--- an operation of the file that is asked for, and then reported with an outcome and the words that it brings
+-- an operation of the file that is asked for, with no routine, and then reported with an outcome and the words that it brings
 unfoldable pub endedBy : State → List ℕ → ℕ → ℕ → List ℕ → Answer
-endedBy s area op outcome words = inTurn s area (ask 0 op 0) (report 0 0 outcome noLength words)
+endedBy s area op outcome words = inTurn s area (ask 0 op 0 noNaming) (report 0 0 outcome noLength words)
 
 -- ---- writing: "operation(0 read, 1 write, 2 mark)", outcome "0 good"
 

@@ -3,6 +3,7 @@ use pack::AnyAnswer;
 use pack::AnyCall;
 use pack::NO_LENGTH;
 use pack::State;
+use pack::no_naming;
 ghost use mathlib.Core.Path.{_≡_};
 ghost use Rattle.pack.specs.Answers.{answerBy, callOf};
 ghost use Rattle.reel.specs.Steps.{inTurn, endedBy};
@@ -22,11 +23,12 @@ pub fn in_turn(
     pack::answer(t, area, second, words)
 }
 
-// An operation that is asked for (0 read, 1 write, 2 mark) and then reported with an outcome, and with words where it brings a block. Where the ask is refused, the
+// An operation that is asked for (0 read, 1 write, 2 mark), with no routine, and then reported with an outcome, and with words where it brings a block. Where the ask is refused, the
 // report is given the state as it was.
 pub fn ended(s: State, area: &mut [u64], op: u8, outcome: u8, words: &[u64]) -> AnyAnswer
     ensures { λ r. ⌜ answerBy r (now (area .exit)) ≡ endedBy s (now (area .entry)) op outcome (now (words .entry)) ⌝ }
 {
+    let naming = no_naming();
     in_turn(
         s,
         area,
@@ -34,6 +36,7 @@ pub fn ended(s: State, area: &mut [u64], op: u8, outcome: u8, words: &[u64]) -> 
             file: 0,
             op,
             priority: 0,
+            naming,
         },
         AnyCall::Report {
             channel: 0,

@@ -21,7 +21,7 @@ use Rattle.word.specs.CheckWords.{extra}
 use Rattle.file_output.specs.Sends.{sendWords}
 use Rattle.file_input.proofs.Ages.{Aged, noBlock, old, aged}
 use Rattle.session_frame.specs.declared.Frame.{Frame}
-use Rattle.session_frame.specs.declared.Frame.the-variants.{Malformed, Fresh, Open, Close, Ask, Report, Get, Put, Seal, Skip, Freeze, Thaw}
+use Rattle.session_frame.specs.declared.Frame.the-variants.{Malformed, Fresh, Open, Close, Ask, Report, Get, Put, Seal, Skip, Freeze, Thaw, Return, Running}
 use Rattle.session_frame.specs.Frames.{frameOf}
 use Rattle.file_input.specs.declared.Got.the-variants.{Record, Leftover, Error, End, Nothing}
 use Rattle.file_input.specs.Gets.{wordsLeft, found, lookedAt, getFrom, gotStart, gotWords}
@@ -158,6 +158,8 @@ reply-words s area words (Seal file) k = omega arith
 reply-words s area words (Skip file) k = omega arith
 reply-words s area words Freeze k = omega arith
 reply-words s area words Thaw k = omega arith
+reply-words s area words Return k = omega arith
+reply-words s area words Running k = omega arith
 
 -- ---- every answer is written whole
 

@@ -25,16 +25,22 @@ use Rattle.channel.specs.declared.Channel.{Channel}
 use Rattle.file.specs.declared.File.{File}
 use Rattle.pool.specs.Free.{fileCount}
 use Rattle.pool.specs.Masks.{freeAfter}
+use Rattle.routines.specs.declared.Post.{Post}
+use Rattle.routines.specs.declared.Routines.{Routines}
+use Rattle.routines.specs.Posts.{postAt}
 use Rattle.state.specs.declared.State.{State}
 use Rattle.state.specs.Places.{channelCount}
+use Rattle.state.specs.Stores.{withRoutines}
 use Rattle.session_reply.specs.declared.Told.{Told}
 use Rattle.session_reply.specs.declared.Change.{Change}
+use Rattle.session_reply.specs.declared.RoutineTold.{RoutineTold}
 use Rattle.session_reply.specs.Replies.{answerOr}
-use Rattle.session_reply.specs.Places.{groupOf, namedFile, fileNumber, placeOf, fileOr, channelOr, channelFor}
-use Rattle.session_reply.specs.Turns.{wholeRefusal, wholeState, recordArea, requestArea, recordAt, bindingAt, requestAt, Turned, turnedIs, wholeTurn, turnedOn, areaOn}
+use Rattle.session_reply.specs.Places.{groupOf, namedFile, fileNumber, placeOf, fileOr, channelOr, channelFor, unitFor}
+use Rattle.session_reply.specs.Turns.{wholeRefusal, wholeState, recordArea, requestArea, recordAt, bindingAt, requestAt, postedIn, isStill, routineOf, Turned, turnedIs, wholeTurn, routineTurn, turnedOn, areaOn}
 use Rattle.session_reply.proofs.Stores.{Counts, record-turned, record-moved, binding-turned, request-turned, request-moved}
+use Rattle.session_reply.proofs.Posting.{posted-still}
 use Rattle.session_reply.proofs.Kept.{turned-counts}
-use Rattle.session_reply.proofs.Groups.{as-request, as-whole, as-binding, as-record}
+use Rattle.session_reply.proofs.Groups.{as-request, as-whole, as-routine, as-binding, as-record}
 use Rattle.session.specs.Rooms.{mostWords, mostText, givenIn}
 use Rattle.session.specs.Player.{Player, playerWith, heldText, playPart}
 use Rattle.session.proofs.Written.{front-fits, pasted-length}
@@ -97,18 +103,28 @@ module _ (unsound : Bool) (bytes : List ℕ) (x : Player) (s : State) (area : Li
         ))
         (omega (arith, roomy, front-fits (heldText (step .line) filled) words f n given counted gave .1))
 
-    pub onward-request : g ≡ 1 → (i k : ℕ) (d₁ old : File) → i ≡ fileNumber f (s .files) → k ≡ placeOf i fileCount → old ≡ getD (s .files) k d₁
-        → (l : ℕ) (d₂ was : Channel) → l ≡ placeOf (channelFor f i old) channelCount → was ≡ getD (s .channels) l d₂
-        → (y : Change) (mask : ℕ) (after : List ℕ) → y ≡ requestAt unsound (s .m) (s .w) (s .frozen) f i old was area (take n given)
-        → after ≡ requestArea unsound (s .m) (s .w) f (fileOr i old) (channelOr (channelFor f i old) was) area (take n given)
-        → mask ≡ freeAfter (s .free) old (y .file) → (end' : ℕ) (out' : List ℕ) → Wrote (y .answer) (y .start) (y .count) after end' out'
-        → Onward unsound bytes x
-        (then (record { m = s .m; w = s .w; frozen = s .frozen; channels = set (s .channels) l (y .channel); files = set (s .files) k (y .file); free = mask }) after out' end')
-    onward-request e i k d₁ old number place read l d₂ was place₂ read₂ y mask after ey em e₃ end' out' w =
-        let h = as-request unsound s area f (take n given) g is e in
-        onward-by (turnedIs (y .answer) (y .start) (y .count) (record { m = s .m; w = s .w; frozen = s .frozen; channels = set (s .channels) l (y .channel); files = set (s .files) k (y .file); free = mask }))
-        (request-turned unsound s area (take n given) f counts i k d₁ old number place read l d₂ was place₂ read₂ y mask ey e₃ ∙ sym (h .0)) after
-        (request-moved unsound s area (take n given) f counts i k d₁ old number place read l d₂ was place₂ read₂ after em ∙ sym (h .1)) end' out' w
+    -- a request: `stood` is the post of its unit
+    module _ (e : g ≡ 1) (i k : ℕ) (d₁ old : File) (number : i ≡ fileNumber f (s .files)) (place : k ≡ placeOf i fileCount) (read : old ≡ getD (s .files) k d₁)
+        (l : ℕ) (d₂ was : Channel) (place₂ : l ≡ placeOf (channelFor f i old) channelCount) (read₂ : was ≡ getD (s .channels) l d₂)
+        (stood : Post) (es : stood ≡ postAt (s .routines) (channelFor f i old) (unitFor f i old))
+        (y : Change) (mask : ℕ) (after : List ℕ) (ey : y ≡ requestAt unsound (s .m) (s .w) (s .frozen) f i old was stood area (take n given))
+        (em : after ≡ requestArea unsound (s .m) (s .w) f (fileOr i old) (channelOr (channelFor f i old) was) area (take n given))
+        (e₃ : mask ≡ freeAfter (s .free) old (y .file)) (end' : ℕ) (out' : List ℕ) (w : Wrote (y .answer) (y .start) (y .count) after end' out') where
+      abbrev asked : Routines → State
+      asked rs = record { m = s .m; w = s .w; frozen = s .frozen; channels = set (s .channels) l (y .channel); files = set (s .files) k (y .file); free = mask; routines = rs }
+
+      -- what it leaves there is stored, with the look that may follow
+      pub onward-posted : (rs : Routines) → rs ≡ postedIn (s .routines) (s .frozen) (channelFor f i old) (unitFor f i old) (y .post) (y .looks)
+          → Onward unsound bytes x (then (asked rs) after out' end')
+      onward-posted rs er =
+          let h = as-request unsound s area f (take n given) g is e in
+          onward-by (turnedIs (y .answer) (y .start) (y .count) (asked rs))
+          (request-turned unsound s area (take n given) f counts i k d₁ old number place read l d₂ was place₂ read₂ stood y mask rs es ey e₃ er ∙ sym (h .0)) after
+          (request-moved unsound s area (take n given) f counts i k d₁ old number place read l d₂ was place₂ read₂ after em ∙ sym (h .1)) end' out' w
+
+      -- the routines are as they were
+      pub onward-still : (still : Bool) → still ≡ isStill stood (y .post) (y .looks) → still ≡ true → Onward unsound bytes x (then (asked (s .routines)) after out' end')
+      onward-still still et t = onward-posted (s .routines) (posted-still (s .routines) (s .frozen) (channelFor f i old) (unitFor f i old) stood (y .post) (y .looks) still es et t)
 
     module _ (n1 : g ≡ 1 → ⊥) where
       module _ (e : g ≡ 3) (r : ℕ) (en : r ≡ wholeRefusal unsound (length area) f) (a : Answer) (ea : a ≡ answerOr r answer.Done)
@@ -127,15 +143,24 @@ module _ (unsound : Bool) (bytes : List ℕ) (x : Player) (s : State) (area : Li
         pub onward-refused : (r ≡ 0 → ⊥) → Onward unsound bytes x (then s area out' end')
         onward-refused h = whole-by s (sym (cond-false (wholeState s f) s (ne-eqb r 0 h)))
 
-      module _ (n3 : g ≡ 3 → ⊥) (i k : ℕ) (d₁ old : File) (number : i ≡ namedFile f) (place : k ≡ placeOf i fileCount) (read : old ≡ getD (s .files) k d₁) where
+      pub onward-routine : (g ≡ 3 → ⊥) → g ≡ 4 → (y : RoutineTold) → y ≡ routineOf unsound (s .frozen) (s .routines) f → (end' : ℕ) (out' : List ℕ) → Wrote (y .answer) 0 0 area end' out'
+          → Onward unsound bytes x
+          (then (record { m = s .m; w = s .w; frozen = s .frozen; channels = s .channels; files = s .files; free = s .free; routines = y .routines }) area out' end')
+      unfolding routineTurn withRoutines
+      onward-routine n3 e y ey end' out' w =
+          let h = as-routine unsound s area f (take n given) g is n1 n3 e in
+          onward-by (turnedIs (y .answer) 0 0 (withRoutines s (y .routines)))
+          (ap (λ (z : RoutineTold). turnedIs (z .answer) 0 0 (withRoutines s (z .routines))) ey ∙ sym (h .0)) area (sym (h .1)) end' out' w
+
+      module _ (n3 : g ≡ 3 → ⊥) (n4 : g ≡ 4 → ⊥) (i k : ℕ) (d₁ old : File) (number : i ≡ namedFile f) (place : k ≡ placeOf i fileCount) (read : old ≡ getD (s .files) k d₁) where
         abbrev stored : File → ℕ → State
-        stored file mask = record { m = s .m; w = s .w; frozen = s .frozen; channels = s .channels; files = set (s .files) k file; free = mask }
+        stored file mask = record { m = s .m; w = s .w; frozen = s .frozen; channels = s .channels; files = set (s .files) k file; free = mask; routines = s .routines }
 
         pub onward-binding : g ≡ 2 → (l : ℕ) (d₂ was : Channel) → l ≡ placeOf (channelFor f i old) channelCount → was ≡ getD (s .channels) l d₂
             → (y : Told) (mask : ℕ) → y ≡ bindingAt unsound (s .w) (s .free) (s .files) f i old was → mask ≡ freeAfter (s .free) old (y .file)
             → (end' : ℕ) (out' : List ℕ) → Wrote (y .answer) (y .start) (y .count) area end' out' → Onward unsound bytes x (then (stored (y .file) mask) area out' end')
         onward-binding e l d₂ was place₂ read₂ y mask ey e₃ end' out' w =
-            let h = as-binding unsound s area f (take n given) g is n1 n3 e in
+            let h = as-binding unsound s area f (take n given) g is n1 n3 n4 e in
             onward-by (turnedIs (y .answer) (y .start) (y .count) (stored (y .file) mask))
             (binding-turned unsound s area (take n given) f counts i k d₁ old number place read l d₂ was place₂ read₂ y mask ey e₃ ∙ sym (h .0)) area (sym (h .1)) end' out' w
 
@@ -143,7 +168,7 @@ module _ (unsound : Bool) (bytes : List ℕ) (x : Player) (s : State) (area : Li
             → after ≡ recordArea unsound (s .m) (s .w) f (fileOr i old) area (take n given) → mask ≡ freeAfter (s .free) old (y .file)
             → (end' : ℕ) (out' : List ℕ) → Wrote (y .answer) (y .start) (y .count) after end' out' → Onward unsound bytes x (then (stored (y .file) mask) after out' end')
         onward-record n2 y mask after ey em e₃ end' out' w =
-            let h = as-record unsound s area f (take n given) g is n1 n3 n2 in
+            let h = as-record unsound s area f (take n given) g is n1 n3 n4 n2 in
             onward-by (turnedIs (y .answer) (y .start) (y .count) (stored (y .file) mask))
             (record-turned unsound s area (take n given) f counts i k d₁ old number place read y mask ey e₃ ∙ sym (h .0)) after
             (record-moved unsound s area (take n given) f counts i k d₁ old number place read after em ∙ sym (h .1)) end' out' w

@@ -16,7 +16,7 @@ use Rattle.session_frame.specs.Digits.{bytesOf}
 use Rattle.session_frame.specs.Fields.{wordsOf}
 use Rattle.session_frame.specs.Writes.{placeAfter}
 use Rattle.session_frame.specs.declared.Frame.{Frame}
-use Rattle.session_frame.specs.declared.Frame.the-variants.{Malformed, Fresh, Open, Close, Ask, Report, Get, Put, Seal, Skip, Freeze, Thaw}
+use Rattle.session_frame.specs.declared.Frame.the-variants.{Malformed, Fresh, Open, Close, Ask, Report, Get, Put, Seal, Skip, Freeze, Thaw, Return, Running}
 use Rattle.session_frame.specs.Frames.{wordsAt, frameOf, wordsFrom}
 use Rattle.session_frame.proofs.Laws.Given.{All, report-words, put-words}
 use Rattle.session_frame.specs.declared.Answer.{Answer}
@@ -45,6 +45,8 @@ given-within (Seal file) line n = omega arith
 given-within (Skip file) line n = omega arith
 given-within Freeze line n = omega arith
 given-within Thaw line n = omega arith
+given-within Return line n = omega arith
+given-within Running line n = omega arith
 
 all-taken : (line : List ℕ) (head k n : ℕ) → All line head k → mostWords ≤ n → wordsFrom line head n ≡ wordsOf (drop head (bytesOf line))
 unfolding wordsFrom
@@ -65,6 +67,8 @@ given-all (Seal file) line n e h = refl
 given-all (Skip file) line n e h = refl
 given-all Freeze line n e h = refl
 given-all Thaw line n e h = refl
+given-all Return line n e h = refl
+given-all Running line n e h = refl
 
 -- what is pasted at the front is what stands there
 module _ (ys xs room : List ℕ) (n : ℕ) (fit : length ys ≤ length xs) (long : n ≡ length ys) (made : room ≡ paste 0 ys xs) where

@@ -7,7 +7,7 @@ use lib.ListN.{length}
 use Rattle.area.specs.Parts.{paste, pastedIn}
 use Rattle.session_frame.specs.Writes.{placeAfter}
 use Rattle.session_frame.specs.declared.Frame.{Frame}
-use Rattle.session_frame.specs.declared.Frame.the-variants.{Malformed, Fresh, Open, Close, Ask, Report, Get, Put, Seal, Skip, Freeze, Thaw}
+use Rattle.session_frame.specs.declared.Frame.the-variants.{Malformed, Fresh, Open, Close, Ask, Report, Get, Put, Seal, Skip, Freeze, Thaw, Return, Running}
 use Rattle.session_frame.specs.Frames.{wordsAt, frameOf, wordsFrom}
 use Rattle.state.specs.declared.State.{State}
 use Rattle.session_reply.specs.Replies.{Reply, givenWords, textOf}
@@ -36,6 +36,8 @@ givenIn (Seal file) line n = []
 givenIn (Skip file) line n = []
 givenIn Freeze line n = []
 givenIn Thaw line n = []
+givenIn Return line n = []
+givenIn Running line n = []
 
 -- everything after a line: the state, the answer's length, the area, the words' room, the answer's room
 pub record After : Type 0 where

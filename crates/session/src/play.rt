@@ -19,6 +19,7 @@ use session_line::next_line;
 use session_line::no_line;
 use session_reply::BINDING;
 use session_reply::REQUEST;
+use session_reply::ROUTINE;
 use session_reply::WHOLE;
 use session_reply::answer_or;
 use session_reply::binding_on;
@@ -26,9 +27,13 @@ use session_reply::channel_place;
 use session_reply::file_number;
 use session_reply::group_of;
 use session_reply::index_in;
+use session_reply::is_still;
 use session_reply::named_file;
+use session_reply::post_for;
+use session_reply::posted;
 use session_reply::record_on;
 use session_reply::request_on;
+use session_reply::routine_on;
 use session_reply::whole_refusal;
 use session_reply::whole_state;
 use state::State;
@@ -66,6 +71,8 @@ fn given(f: Frame, line: &[u8], room: &mut [u64]) -> usize
         Frame::Skip(_) => 0,
         Frame::Freeze => 0,
         Frame::Thaw => 0,
+        Frame::Return => 0,
+        Frame::Running => 0,
     }
 }
 
@@ -164,6 +171,8 @@ pub fn play_part(
             let old = t.files[k];
             let l = channel_place(frame, i, old);
             let was = t.channels[l];
+            let held = t.routines;
+            let stood = post_for(frame, i, old, held);
             let x = request_on(
                 unsound,
                 t.m,
@@ -173,17 +182,25 @@ pub fn play_part(
                 i,
                 old,
                 was,
+                stood,
                 area,
                 &words[..q.count],
             );
             let new = x.file;
             let c = x.channel;
             let a = x.answer;
+            let p = x.post;
             let free = free_after(t.free, old, new);
             t.files[k] = new;
             t.channels[l] = c;
             t.free = free;
             end = answer_at(a, x.start, x.count, &area[..], out, end);
+            let still = is_still(stood, p, x.looks);
+            if still {
+                continue;
+            }
+            let after = posted(held, t.frozen, frame, i, old, p, x.looks);
+            t.routines = after;
             continue;
         }
         if group == WHOLE {
@@ -193,6 +210,15 @@ pub fn play_part(
             if no == 0 {
                 t = whole_state(t, frame);
             }
+            continue;
+        }
+        if group == ROUTINE {
+            let held = t.routines;
+            let x = routine_on(unsound, t.frozen, held, frame);
+            let a = x.answer;
+            let after = x.routines;
+            t.routines = after;
+            end = answer_at(a, 0, 0, &area[..], out, end);
             continue;
         }
         let i = named_file(frame) as usize;

@@ -1,11 +1,12 @@
 -- Answer lines (document 01, "The session program"). Assumes nothing.
+use mathlib.Core.Bool.{cond}
 use mathlib.Core.List.{List, [], _∷_, _++_}
 use Prim.Native.Nat.{ℕ, _-_}
 use lib.ListN.{length, take}
 use Rattle.session_frame.specs.Digits.{byteDigits, concatMap}
-use Rattle.session_frame.specs.Fields.{wordBytes, foundBytes}
+use Rattle.session_frame.specs.Fields.{wordBytes, foundBytes, programBytes}
 use Rattle.session_frame.specs.declared.Answer.{Answer}
-use Rattle.session_frame.specs.declared.Answer.the-variants.{Refused, Done, Asked, Reported, Delivered, Got, GotError}
+use Rattle.session_frame.specs.declared.Answer.the-variants.{Refused, Done, Asked, Reported, Delivered, Got, GotError, Returned, Runs}
 
 -- The bytes of each answer; ws are the words that are shown.
 unfoldable pub answerBytes : Answer → List ℕ → List ℕ
@@ -24,6 +25,9 @@ answerBytes (Delivered result found working) ws = 0 ∷ result ∷ found .error 
 -- "Get adds 00 and words, 01 nothing yet, 02 end, 03 and the check error, 04 and a leftover.": which number is `file_input`'s to say
 answerBytes (Got number) ws = 0 ∷ number ∷ concatMap wordBytes ws
 answerBytes (GotError number found) ws = 0 ∷ number ∷ found .error ∷ foundBytes found
+-- a return (document 02, M-110): "the highest waiting routine is entered" or the program last pushed "resumes", and what runs now
+answerBytes (Returned entered program) ws = 0 ∷ cond entered 1 0 ∷ programBytes program
+answerBytes (Runs program) ws = 0 ∷ programBytes program
 
 -- "pairs of upper-case hexadecimal digits, line feed"
 unfoldable pub answerText : Answer → List ℕ → List ℕ

@@ -1,10 +1,12 @@
 -- The fields of a frame: bytes, sizes of two bytes, words of five (document 01, "The session program"). Assumes nothing.
-use mathlib.Core.Bool.{Bool}
+use mathlib.Core.Bool.{Bool, cond}
 use mathlib.Core.List.{List, [], _∷_, _++_}
 use Prim.Native.Nat.{ℕ, _+_, _*_, _/_, _%_, _^_}
 use lib.Dec.{ltb}
 use lib.ListN.{getD}
 use Rattle.word.specs.declared.Checked.{Checked}
+use Rattle.routines.specs.declared.Program.{Program}
+use Rattle.routines.specs.Ranks.{isMain}
 use Rattle.session_frame.specs.Digits.{byteDigits, concatMap}
 
 -- "Other numbers are one byte": byte k, 0 past the end
@@ -25,6 +27,13 @@ sumBytes n = n / 2 ^ 24 % 256 ∷ n / 2 ^ 16 % 256 ∷ n / 2 ^ 8 % 256 ∷ n % 2
 -- what a check found, its error left out: "worked-out sum and number first, then those read, four bytes a sum, two a number"
 abbrev pub foundBytes : Checked → List ℕ
 foundBytes c = sumBytes (c .sum) ++ (sizeBytes (c .number) ++ (sumBytes (c .sumread) ++ sizeBytes (c .numberread)))
+
+-- what runs, its rank left out: channel, unit and number, each 255 for the main program (document 02, M-110)
+unfoldable pub programByte : Program → ℕ → ℕ
+programByte p n = cond (isMain p) 255 n
+
+abbrev pub programBytes : Program → List ℕ
+programBytes p = programByte p (p .channel) ∷ programByte p (p .unit) ∷ programByte p (p .routine) ∷ []
 
 -- "Words are five bytes, highest first."
 abbrev pub wordOf : ℕ → ℕ → ℕ → ℕ → ℕ → ℕ

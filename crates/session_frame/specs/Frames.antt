@@ -1,16 +1,18 @@
 -- The frames of a session (document 01, "The session program"). Assumes nothing.
-use mathlib.Core.Bool.{Bool, cond, _&&_}
+use mathlib.Core.Bool.{Bool, true, cond, _&&_}
 use mathlib.Core.List.{List}
 use Prim.Native.Nat.{ℕ, _-_, _/_, _%_}
 use lib.Dec.{ltb, leb, eqb}
 use lib.ListN.{length, take, drop}
 use Rattle.area.specs.Lists.{allOf}
 use Rattle.channel_outcomes.specs.Rules.{redundancy, noLength}
+use Rattle.routines.specs.declared.Naming.{Naming}
+use Rattle.routines.specs.Posts.{noNaming}
 use Rattle.session_frame.specs.Digits.{isDigit, bytesOf}
 use Rattle.session_frame.specs.Fields.{byteAt, sizeAt, wordsOf}
 use Rattle.session_frame.specs.declared.ReportFrame.{ReportFrame}
 use Rattle.session_frame.specs.declared.Frame.{Frame}
-use Rattle.session_frame.specs.declared.Frame.the-variants.{Malformed, Fresh, Open, Close, Ask, Report, Get, Put, Seal, Skip, Freeze, Thaw}
+use Rattle.session_frame.specs.declared.Frame.the-variants.{Malformed, Fresh, Open, Close, Ask, Report, Get, Put, Seal, Skip, Freeze, Thaw, Return, Running}
 
 -- "Over 10,248 digits is malformed."; "Lines then run to 10,252 digits."
 abbrev pub longest : ℕ
@@ -49,9 +51,25 @@ openFrom n b =
     sized n 9
     (Open (record { file = byteAt b 1; channel = byteAt b 2; unit = byteAt b 3; flags = byteAt b 4; size = sizeAt b 5; rlen = sizeAt b 7 }))
 
--- "03 file operation(0 read, 1 write, 2 mark) priority(0/1)"
+-- "03 file operation(0 read, 1 write, 2 mark) priority(0/1)", with what it says of a routine
+unfoldable pub askWith : Naming → List ℕ → Frame
+askWith naming b = Ask (record { file = byteAt b 1; op = byteAt b 2; priority = byteAt b 3; naming = naming })
+
+-- "An ask may name a routine and a priority" (document 02, M-110): two bytes more, the routine's number and its priority
+abbrev pub namedAs : ℕ → ℕ → Naming
+namedAs routine level = record { given = true; routine = routine; level = level }
+
+unfoldable pub namingIn : List ℕ → Naming
+namingIn b = namedAs (byteAt b 4) (byteAt b 5)
+
+abbrev pub plainAsk : ℕ
+plainAsk = 4
+
+abbrev pub namingAsk : ℕ
+namingAsk = 6
+
 unfoldable pub askFrom : ℕ → List ℕ → Frame
-askFrom n b = sized n 4 (Ask (record { file = byteAt b 1; op = byteAt b 2; priority = byteAt b 3 }))
+askFrom n b = cond (eqb n namingAsk) (askWith (namingIn b) b) (sized n plainAsk (askWith noNaming b))
 
 -- the bytes of a report ahead of its words: "04 channel unit outcome", and with a length "two bytes ahead of any words"
 abbrev pub reportHead : ℕ
@@ -82,7 +100,8 @@ wordsAt q = cond (eqb (q .length) noLength) reportHead lengthHead
 unfoldable pub putFrom : ℕ → List ℕ → Frame
 putFrom n b = worded n 2 (Put (record { file = byteAt b 1; words = wordCount n 2 }))
 
--- "00 .. · 01 .. · 02 close file · 03 .. · 04 .. · 05 get file · 06 .. · 07 seal file · 08 skip file · 09 freeze · 0A thaw."
+-- "00 .. · 01 .. · 02 close file · 03 .. · 04 .. · 05 get file · 06 .. · 07 seal file · 08 skip file · 09 freeze · 0A thaw."; and 0B return, 0C what
+-- runs (document 02, M-110)
 unfoldable pub kindBy : ℕ → ℕ → List ℕ → Frame
 kindBy kind n b =
     cond (eqb kind 0) (freshFrom n b)
@@ -95,7 +114,9 @@ kindBy kind n b =
     (cond (eqb kind 7) (sized n 2 (Seal (byteAt b 1)))
     (cond (eqb kind 8) (sized n 2 (Skip (byteAt b 1)))
     (cond (eqb kind 9) (sized n 1 Freeze)
-    (cond (eqb kind 10) (sized n 1 Thaw) Malformed))))))))))
+    (cond (eqb kind 10) (sized n 1 Thaw)
+    (cond (eqb kind 11) (sized n 1 Return)
+    (cond (eqb kind 12) (sized n 1 Running) Malformed))))))))))))
 
 unfoldable pub kindOf : ℕ → List ℕ → Frame
 kindOf n b = kindBy (byteAt b 0) n b

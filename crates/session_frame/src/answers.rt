@@ -2,16 +2,19 @@
 // line. Every other character of the area stays.
 use crate::Answer;
 use crate::Lead;
+use routines::Program;
+use routines::is_main;
 use word::Checked;
 ghost use mathlib.Core.Path.{_≡_};
+ghost use mathlib.Core.Bool.{cond};
 ghost use Prim.Native.Nat.{_+_, _*_, _%_, _≤_, _<_};
 ghost use lib.Dec.{leb};
 ghost use lib.ListN.{length};
 ghost use Rattle.area.specs.Parts.{paste, pastedIn};
 ghost use Rattle.session_frame.specs.Digits.{digitOf, byteDigits, concatMap};
-ghost use Rattle.session_frame.specs.Fields.{wordDigits};
+ghost use Rattle.session_frame.specs.Fields.{wordDigits, programByte};
 ghost use Rattle.session_frame.specs.Writes.{placeAfter};
-ghost use Rattle.session_frame.specs.Leads.{briefLead, fullLead, leadOf, shownOf};
+ghost use Rattle.session_frame.specs.Leads.{briefLead, fullLead, returnedLead, runsLead, leadOf, shownOf};
 ghost use Rattle.session_frame.specs.Answers.{answerText};
 
 // Whether n words of ten characters fit.
@@ -130,6 +133,94 @@ fn full(count: usize, second: u8, found: Checked, last: u8) -> Lead
     }
 }
 
+// What stands for every number of the main program.
+const MAIN: u8 = 255;
+
+// A number of a program as an answer has it.
+fn program_byte(p: Program, n: u8) -> u8
+    ensures { λ r. ⌜ r ≡ programByte p n ⌝ }
+{
+    if is_main(p) {
+        return MAIN;
+    }
+    n
+}
+
+// 1 for yes, 0 for no.
+fn flag(yes: bool) -> u8
+    ensures { λ r. ⌜ r ≡ cond yes 1 0 ⌝ }
+{
+    if yes {
+        return 1;
+    }
+    0
+}
+
+// The lead of a return: 00, whether a routine was entered, and what runs.
+fn returned(entered: bool, p: Program) -> Lead
+    ensures { λ r. ⌜ r ≡ returnedLead entered p ⌝ }
+{
+    let how = flag(entered);
+    let channel = program_byte(p, p.channel);
+    let unit = program_byte(p, p.unit);
+    let routine = program_byte(p, p.routine);
+    let bytes = [
+        0,
+        how,
+        channel,
+        unit,
+        routine,
+        0,
+        0,
+        0,
+        0,
+        0,
+        0,
+        0,
+        0,
+        0,
+        0,
+        0,
+    ];
+    Lead {
+        count: 5,
+        bytes,
+        worded: false,
+    }
+}
+
+// The lead of what runs: 00 and its numbers.
+fn runs(p: Program) -> Lead
+    ensures { λ r. ⌜ r ≡ runsLead p ⌝ }
+{
+    let channel = program_byte(p, p.channel);
+    let unit = program_byte(p, p.unit);
+    let routine = program_byte(p, p.routine);
+    let bytes = [
+        0,
+        channel,
+        unit,
+        routine,
+        0,
+        0,
+        0,
+        0,
+        0,
+        0,
+        0,
+        0,
+        0,
+        0,
+        0,
+        0,
+    ];
+    Lead {
+        count: 4,
+        bytes,
+        worded: false,
+    }
+}
+
 // The bytes of an answer ahead of its words.
 fn lead_of(a: Answer) -> Lead
     ensures { λ r. ⌜ r ≡ leadOf a ⌝ }
@@ -146,6 +237,8 @@ fn lead_of(a: Answer) -> Lead
         } => full(16, result, found, working),
         Answer::Got(number) => brief(2, 0, number, 0, true),
         Answer::GotError { number, found } => full(15, number, found, 0),
+        Answer::Returned { entered, program } => returned(entered, program),
+        Answer::Runs(program) => runs(program),
     }
 }
 

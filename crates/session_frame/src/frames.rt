@@ -9,12 +9,14 @@ use crate::OpenFrame;
 use crate::PutFrame;
 use crate::ReportFrame;
 use channel_outcomes::NO_LENGTH;
+use routines::Naming;
+use routines::no_naming;
 ghost use mathlib.Core.Path.{_≡_};
 ghost use Prim.Native.Nat.{_<_};
 ghost use Rattle.area.specs.Lists.{allOf};
 ghost use Rattle.session_frame.specs.Digits.{isDigit, valueOf, bytesOf};
 ghost use Rattle.session_frame.specs.Fields.{byteAt, sizeAt, wordAt};
-ghost use Rattle.session_frame.specs.Frames.{sized, worded, wordCount, freshFrom, openFrom, askFrom, showsLength, reportWith, reportFrom, wordsAt, putFrom, isText, kindOf, frameOf, wordsFrom};
+ghost use Rattle.session_frame.specs.Frames.{sized, worded, wordCount, freshFrom, openFrom, askWith, namedAs, namingIn, askFrom, showsLength, reportWith, reportFrom, wordsAt, putFrom, isText, kindOf, frameOf, wordsFrom};
 ghost use lib.ListN.{length};
 ghost use Rattle.area.specs.Parts.{paste};
 
@@ -164,15 +166,58 @@ fn opening(line: &[u8], n: usize) -> Frame
     if_sized(n, 9, Frame::Open(f))
 }
 
-// A request.
-fn ask(line: &[u8], n: usize) -> Frame
-    ensures { λ r. ⌜ r ≡ askFrom n (bytesOf (now (line .entry))) ⌝ }
+// The bytes of an ask: one that names no routine, and one that names one.
+const PLAIN_ASK: usize = 4;
+
+const NAMING_ASK: usize = 6;
+
+// The numbers of an ask, with what it says of a routine.
+fn ask_with(line: &[u8], naming: Naming) -> Frame
+    ensures { λ r. ⌜ r ≡ askWith naming (bytesOf (now (line .entry))) ⌝ }
 {
     let file = byte_at(line, 1);
     let op = byte_at(line, 2);
     let priority = byte_at(line, 3);
-    let f = AskFrame { file, op, priority };
-    if_sized(n, 4, Frame::Ask(f))
+    let f = AskFrame {
+        file,
+        op,
+        priority,
+        naming,
+    };
+    Frame::Ask(f)
+}
+
+// What an ask says that names a routine.
+fn named(routine: u8, level: u8) -> Naming
+    ensures { λ r. ⌜ r ≡ namedAs routine level ⌝ }
+{
+    Naming {
+        given: true,
+        routine,
+        level,
+    }
+}
+
+// The routine and its priority, which stand after the numbers of an ask.
+fn naming_in(line: &[u8]) -> Naming
+    ensures { λ r. ⌜ r ≡ namingIn (bytesOf (now (line .entry))) ⌝ }
+{
+    let routine = byte_at(line, 4);
+    let level = byte_at(line, 5);
+    named(routine, level)
+}
+
+// A request; one of six bytes names a routine.
+fn ask(line: &[u8], n: usize) -> Frame
+    ensures { λ r. ⌜ r ≡ askFrom n (bytesOf (now (line .entry))) ⌝ }
+{
+    if n == NAMING_ASK {
+        let naming = naming_in(line);
+        return ask_with(line, naming);
+    }
+    let none = no_naming();
+    let f = ask_with(line, none);
+    if_sized(n, PLAIN_ASK, f)
 }
 
 // The bytes of a report ahead of its words: without a length, and with one.
@@ -277,6 +322,8 @@ fn kind_of(line: &[u8], n: usize) -> Frame
         8 => if_sized(n, 2, Frame::Skip(file)),
         9 => if_sized(n, 1, Frame::Freeze),
         10 => if_sized(n, 1, Frame::Thaw),
+        11 => if_sized(n, 1, Frame::Return),
+        12 => if_sized(n, 1, Frame::Running),
         _ => Frame::Malformed,
     }
 }

@@ -8,6 +8,8 @@ pub use answers::write_answer;
 pub use frames::frame_of;
 pub use frames::words_at;
 pub use frames::words_into;
+use routines::Naming;
+use routines::Program;
 use word::Checked;
 
 // The most characters that a line has: a report with a length and 1,024 words.
@@ -39,11 +41,12 @@ pub struct OpenFrame {
     pub rlen: u16,
 }
 
-// An ask.
+// An ask, and what it says of a special routine.
 pub struct AskFrame {
     pub file: u8,
     pub op: u8,
     pub priority: u8,
+    pub naming: Naming,
 }
 
 // A report; `length` is the length in words that it carries, `channel_outcomes::NO_LENGTH` for none, and `words` is how many words come with it.
@@ -75,6 +78,10 @@ pub enum Frame {
     Skip(u8),
     Freeze,
     Thaw,
+    // the return of the routine that runs
+    Return,
+    // what runs
+    Running,
 }
 
 // An answer, its words left out: they are a part of the area, passed beside it.
@@ -105,6 +112,13 @@ pub enum Answer {
         number: u8,
         found: Checked,
     },
+    // return: whether a waiting routine was entered, and what runs now
+    Returned {
+        entered: bool,
+        program: Program,
+    },
+    // what runs
+    Runs(Program),
 }
 
 // The most bytes of an answer ahead of its words: a report that delivers a block.

@@ -1,10 +1,10 @@
 -- By the inner forms a frame comes to what the public definitions of the calls say, where `unsound` is the judgement of the state. Assumes nothing.
 use mathlib.Core.Path.{_≡_, refl, sym, ap, ap₂, _∙_}
-use mathlib.Core.Bool.{Bool, true, false, not, cond}
+use mathlib.Core.Bool.{Bool, true, false, not, cond, _||_}
 use mathlib.Core.List.{List, []}
 use Prim.Native.Nat.{ℕ}
-use borrow.Author.Tests.{ne-eqb, eqb-false}
-use lib.Dec.{eqb}
+use borrow.Author.Tests.{ne-eqb, eqb-true, eqb-false}
+use lib.Dec.{leb, eqb}
 use lib.ListN.{length, getD}
 use lib.Seq.{set-getD}
 use Rattle.area.specs.Parts.{partOf}
@@ -27,15 +27,20 @@ use Rattle.session_frame.specs.declared.OpenFrame.{OpenFrame}
 use Rattle.session_frame.specs.declared.AskFrame.{AskFrame}
 use Rattle.session_frame.specs.declared.ReportFrame.{ReportFrame}
 use Rattle.session_frame.specs.declared.PutFrame.{PutFrame}
-use Rattle.session_frame.specs.declared.Frame.the-variants.{Malformed, Fresh, Open, Close, Ask, Report, Get, Put, Seal, Skip, Freeze, Thaw}
+use Rattle.session_frame.specs.declared.Frame.the-variants.{Malformed, Fresh, Open, Close, Ask, Report, Get, Put, Seal, Skip, Freeze, Thaw, Return, Running}
 use Rattle.session_frame.specs.Frames.{frameOf}
 use Rattle.pool.specs.Free.{fileCount}
 use Rattle.pool.specs.Masks.{freeAfter}
 use Rattle.pool.specs.Serving.{isBound}
 use Rattle.pool.proofs.FreeMasks.{after-same}
+use Rattle.routines.specs.declared.Naming.{Naming}
+use Rattle.routines.specs.declared.Routines.{Routines}
+use Rattle.routines.specs.Ranks.{isDue}
+use Rattle.routines.specs.Posts.{postAt}
+use Rattle.routines.proofs.Laws.Table.{due-at}
 use Rattle.state.specs.declared.State.{State}
 use Rattle.state.specs.Places.{noChannel, fileAt, channelAt}
-use Rattle.state.specs.Stores.{withFile, withChannel}
+use Rattle.state.specs.Stores.{withFile, withChannel, withRoutines}
 use Rattle.state_sound.specs.Soundness.{sound}
 use Rattle.pack_start.specs.Fresh.{freshRefusal, freshState, freshBy}
 use Rattle.call_open.specs.Open.{wishOf, openOn}
@@ -49,7 +54,9 @@ use Rattle.call_request.specs.declared.ReportChange.{ReportChange}
 use Rattle.pack_request.specs.Changes.{changedState}
 use Rattle.call_request.specs.Ask.{askRefusal, askedFile, askedChannel, askOn}
 use Rattle.pack_request.specs.Calls.{askChange, askBy, fileOf, reportChange, reportBy, reportByArea}
+use Rattle.call_request.specs.Named.{reportedRoutines}
 use Rattle.call_request.specs.Report.{effectAt, deliveryCheck, deliveryOf, shownStart, shownCount, reportedFile, reportRefusal, refusedReport, reportOn}
+use Rattle.pack_routine.specs.Calls.{returnBy, runningBy}
 use Rattle.call_record.specs.Get.{getOn}
 use Rattle.pack_record.specs.Gets.{getChange, getBy, getWords}
 use Rattle.call_record.specs.Skip.{skipOn}
@@ -60,23 +67,28 @@ use Rattle.call_record.specs.Seal.{sealOn}
 use Rattle.pack_record.specs.Seals.{sealChange, sealBy, sealByArea}
 use Rattle.file_input.specs.Histories.{shown}
 use Rattle.session_reply.specs.Replies.{answerOr, quietly, masksOf, gotAnswer, givenWords, replyTo, answerTo, reportAnswer}
-use Rattle.session_reply.specs.Changes.{openTold, closeTold, askChangeOn, skipTold, reportChangeOn, reportAreaOn, getTold, putTold, putAreaOn, sealTold, sealAreaOn}
-use Rattle.session_reply.specs.Turns.{wholeRefusal, wholeState, recordOf, recordArea, bindingOf, requestOf, requestArea, recordTurn, bindingTurn, requestTurn, wholeTurn, turnedOn, requestAreaOn, areaOn, replyOn, answerOn}
+use Rattle.session_reply.specs.Changes.{openTold, closeTold, askedPost, askChangeOn, skipTold, reportChangeOn, reportAreaOn, getTold, putTold, putAreaOn, sealTold, sealAreaOn, returnTold, runningTold}
+use Rattle.session_reply.specs.Turns.{wholeRefusal, wholeState, recordOf, recordArea, bindingOf, requestOf, requestArea, postedIn, routineOf, recordTurn, bindingTurn, requestTurn, wholeTurn, routineTurn, turnedOn, requestAreaOn, areaOn, replyOn, answerOn}
+use Rattle.session_reply.proofs.Posting.{ask-posted, ask-unposted, report-posted}
 
 -- ---- what is stored where nothing changed
 
 same-channel : (s : State) (j : ℕ) → withChannel s j (channelAt s j) ≡ s
 unfolding withChannel
-same-channel s j = ap (λ (cs : List Channel). record { m = s .m; w = s .w; frozen = s .frozen; channels = cs; files = s .files; free = s .free }) (set-getD (s .channels) j noChannel)
+same-channel s j = ap (λ (cs : List Channel). record { m = s .m; w = s .w; frozen = s .frozen; channels = cs; files = s .files; free = s .free; routines = s .routines }) (set-getD (s .channels) j noChannel)
 
 same-file : (s : State) (i : ℕ) → withFile s i (fileAt s i) ≡ s
 unfolding withFile
 same-file s i =
-    ap (λ (fs : List File). record { m = s .m; w = s .w; frozen = s .frozen; channels = s .channels; files = fs; free = freeAfter (s .free) (fileAt s i) (getD fs i closedFile) }) (set-getD (s .files) i closedFile)
-    ∙ sym (ap (λ (n : ℕ). record { m = s .m; w = s .w; frozen = s .frozen; channels = s .channels; files = s .files; free = n }) (after-same (s .free) (fileAt s i) (fileAt s i) refl))
+    ap (λ (fs : List File). record { m = s .m; w = s .w; frozen = s .frozen; channels = s .channels; files = fs; free = freeAfter (s .free) (fileAt s i) (getD fs i closedFile); routines = s .routines }) (set-getD (s .files) i closedFile)
+    ∙ sym (ap (λ (n : ℕ). record { m = s .m; w = s .w; frozen = s .frozen; channels = s .channels; files = s .files; free = n; routines = s .routines }) (after-same (s .free) (fileAt s i) (fileAt s i) refl))
 
 same-both : (s : State) (i j : ℕ) → withFile (withChannel s j (channelAt s j)) i (fileAt s i) ≡ s
 same-both s i j = ap (λ (t : State). withFile t i (fileAt s i)) (same-channel s j) ∙ same-file s i
+
+same-routines : (s : State) → withRoutines s (s .routines) ≡ s
+unfolding withRoutines
+same-routines s = refl
 
 -- a call that changes its file if it is not refused
 stored-file : (s : State) (i n : ℕ) (g : File) → ((n ≡ 0 → ⊥) → g ≡ fileAt s i) → withFile s i g ≡ cond (eqb n 0) (withFile s i g) s
@@ -86,16 +98,18 @@ stored-file s i n g alone =
     (λ q e. ap (withFile s i) (alone (eqb-false n 0 e)) ∙ same-file s i ∙ sym (cond-false _ _ e))
     refl
 
--- a call that changes its file and its channel if it is not refused
-stored-both : (s : State) (i j n : ℕ) (g : File) (d : Channel) → ((n ≡ 0 → ⊥) → (g ≡ fileAt s i) × (d ≡ channelAt s j))
-    → withFile (withChannel s j d) i g ≡ changedState s i j n g d
+-- a call that changes its file, its channel and the routines if it is not refused
+stored-all : (s : State) (i j n : ℕ) (g : File) (d : Channel) (q r : Routines) → (n ≡ 0 → q ≡ r)
+    → ((n ≡ 0 → ⊥) → ((g ≡ fileAt s i) × (d ≡ channelAt s j)) × (q ≡ s .routines))
+    → withRoutines (withFile (withChannel s j d) i g) q ≡ changedState s i j n g d r
 unfolding changedState
-stored-both s i j n g d alone =
-    by-test (λ t. eqb n 0 ≡ t → withFile (withChannel s j d) i g ≡ cond (eqb n 0) (withFile (withChannel s j d) i g) s) (eqb n 0)
-    (λ q e. sym (cond-true _ _ e))
-    (λ q e.
+stored-all s i j n g d q r same alone =
+    by-test (λ t. eqb n 0 ≡ t → withRoutines (withFile (withChannel s j d) i g) q ≡ cond (eqb n 0) (withRoutines (withFile (withChannel s j d) i g) r) s) (eqb n 0)
+    (λ b e. ap (withRoutines (withFile (withChannel s j d) i g)) (same (eqb-true n 0 e)) ∙ sym (cond-true _ _ e))
+    (λ b e.
     let a = alone (eqb-false n 0 e) in
-    ap₂ (λ (x : Channel) (f : File). withFile (withChannel s j x) i f) (a .1) (a .0) ∙ same-both s i j ∙ sym (cond-false _ _ e))
+    ap₂ (λ (x : Channel) (f : File). withRoutines (withFile (withChannel s j x) i f) q) (a .0 .1) (a .0 .0)
+    ∙ ap (λ (t : State). withRoutines t q) (same-both s i j) ∙ ap (withRoutines s) (a .1) ∙ same-routines s ∙ sym (cond-false _ _ e))
     refl
 
 -- ---- a refused call leaves its file and its channel
@@ -111,18 +125,19 @@ refused-report : (t : Bool) (a b : ReportChange) → a .refusal ≡ 0 → ((cond
 refused-report true a b z h = absurd (h z)
 refused-report false a b z h = refl
 
-ask-alone : (wrong : Bool) (f : File) (c : Channel) (op priority : ℕ) (frozen : Bool) → (askOn wrong f c op priority frozen .refusal ≡ 0 → ⊥)
-    → (askOn wrong f c op priority frozen .file ≡ f) × (askOn wrong f c op priority frozen .channel ≡ c)
+ask-alone : (wrong : Bool) (f : File) (c : Channel) (op priority : ℕ) (naming : Naming) (waits frozen : Bool) → (askOn wrong f c op priority naming waits frozen .refusal ≡ 0 → ⊥)
+    → (askOn wrong f c op priority naming waits frozen .file ≡ f) × (askOn wrong f c op priority naming waits frozen .channel ≡ c)
 unfolding askOn
-ask-alone wrong f c op priority frozen h =
-    let e = refused-ask (eqb (askRefusal wrong f c op priority) 0)
+ask-alone wrong f c op priority naming waits frozen h =
+    let e = refused-ask (eqb (askRefusal wrong f c op priority naming waits) 0)
     (record { refusal = 0; working = unitNumber (workingIn (askedChannel f c op priority frozen)); file = askedFile op f; channel = askedChannel f c op priority frozen })
-    (record { refusal = askRefusal wrong f c op priority; working = 0; file = f; channel = c }) refl h in
+    (record { refusal = askRefusal wrong f c op priority naming waits; working = 0; file = f; channel = c }) refl h in
     (ap (λ (x : AskChange). x .file) e, ap (λ (x : AskChange). x .channel) e)
 
 report-alone : (wrong : Bool) (f : File) (c : Channel) (u outcome len w : ℕ) (frozen : Bool) (area words : List ℕ)
     → (reportOn wrong f c u outcome len w frozen area words .refusal ≡ 0 → ⊥)
-    → (reportOn wrong f c u outcome len w frozen area words .file ≡ f) × (reportOn wrong f c u outcome len w frozen area words .channel ≡ c)
+    → ((reportOn wrong f c u outcome len w frozen area words .file ≡ f) × (reportOn wrong f c u outcome len w frozen area words .channel ≡ c))
+    × (reportOn wrong f c u outcome len w frozen area words .result ≡ 0)
 unfolding reportOn
 report-alone wrong f c u outcome len w frozen area words h =
     let x = effectAt c u outcome len (length words) in
@@ -137,7 +152,12 @@ report-alone wrong f c u outcome len w frozen area words h =
       file = reportedFile x f (length words) (deliveryCheck x f words);
       channel = bookOf c u (judgeOf c u outcome len) frozen;
     }) (refusedReport (reportRefusal wrong f c u outcome len w area words) f c) refl h in
-    (ap (λ (x : ReportChange). x .file) e, ap (λ (x : ReportChange). x .channel) e)
+    ((ap (λ (x : ReportChange). x .file) e, ap (λ (x : ReportChange). x .channel) e), ap (λ (x : ReportChange). x .result) e)
+
+-- a refused report answers no request
+unanswered : (r : Routines) (frozen : Bool) (c u : ℕ) → reportedRoutines r frozen c u 0 ≡ r
+unfolding reportedRoutines
+unanswered r frozen c u = refl
 
 -- ---- every frame
 
@@ -176,20 +196,34 @@ module _ (s : State) (area words : List ℕ) where
   ask-right : (q : AskFrame) → Right (Ask q)
   unfolding Right replyOn turnedOn areaOn requestTurn requestAreaOn wholeTurn bindingTurn recordTurn wholeRefusal wholeState recordOf recordArea bindingOf requestOf requestArea replyTo askBy askChangeOn
   ask-right q =
-      let x = askChange s (q .file) (q .op) (q .priority) in
-      ap (λ (u : State). record { state = u; area = area; answer = answerOr (x .refusal) (answer.Asked (x .working)); words = [] })
-      (stored-both s (q .file) (fileAt s (q .file) .channel) (x .refusal) (x .file) (x .channel) (ask-alone _ _ _ _ _ _))
+      let f = fileAt s (q .file) in
+      let on : Bool → AskChange = λ (b : Bool). askOn (not (sound s) || leb fileCount (q .file)) f (channelAt s (f .channel)) (q .op) (q .priority) (q .naming) b (s .frozen) in
+      let x = askChange s (q .file) (q .op) (q .priority) (q .naming) in
+      let r = s .routines in
+      ap (λ (b : Bool). record {
+        state = withRoutines (withFile (withChannel s (f .channel) (on b .channel)) (q .file) (on b .file)) (postedIn r (s .frozen) (f .channel) (f .unit) (askedPost (on b .refusal) (postAt r (f .channel) (f .unit)) (q .naming)) false);
+        area = area;
+        answer = answerOr (on b .refusal) (answer.Asked (on b .working));
+        words = [];
+      }) (ap isDue (sym (due-at r (f .channel) (f .unit))))
+      ∙ ap (λ (u : State). record { state = u; area = area; answer = answerOr (x .refusal) (answer.Asked (x .working)); words = [] })
+      (stored-all s (q .file) (f .channel) (x .refusal) (x .file) (x .channel) _ _ (λ z. ask-posted r (s .frozen) (f .channel) (f .unit) (x .refusal) (q .naming) z)
+      (λ z. (ask-alone _ _ _ _ _ _ _ _ z, ask-unposted r (s .frozen) (f .channel) (f .unit) (x .refusal) (q .naming) z)))
 
   report-right : (q : ReportFrame) → Right (Report q)
   unfolding Right replyOn turnedOn areaOn requestTurn requestAreaOn wholeTurn bindingTurn recordTurn wholeRefusal wholeState recordOf recordArea bindingOf requestOf requestArea replyTo reportBy reportByArea reportChangeOn reportAreaOn
   report-right q =
       let x = reportChange s area (q .channel) (q .unit) (q .outcome) (q .length) words in
+      let posted = report-posted (s .routines) (s .frozen) (q .channel) (q .unit) (x .result) in
       ap (λ (u : State). record {
         state = u;
         area = reportByArea s area (q .channel) (q .unit) (q .outcome) (q .length) words;
         answer = answerOr (x .refusal) (reportAnswer (x .result) (x .delivery) (x .working));
         words = partOf (x .start) (x .count) (reportByArea s area (q .channel) (q .unit) (q .outcome) (q .length) words);
-      }) (stored-both s (fileOf s (q .channel) (q .unit)) (q .channel) (x .refusal) (x .file) (x .channel) (report-alone _ _ _ _ _ _ _ _ _ _))
+      })
+      (stored-all s (fileOf s (q .channel) (q .unit)) (q .channel) (x .refusal) (x .file) (x .channel) _ _ (λ z. posted)
+      (λ z. let a = report-alone _ _ _ _ _ _ _ _ _ _ z in
+      (a .0, posted ∙ ap (reportedRoutines (s .routines) (s .frozen) (q .channel) (q .unit)) (a .1) ∙ unanswered (s .routines) (s .frozen) (q .channel) (q .unit))))
 
   get-right : (file : ℕ) → Right (Get file)
   unfolding Right replyOn turnedOn areaOn requestTurn requestAreaOn wholeTurn bindingTurn recordTurn wholeRefusal wholeState recordOf recordArea bindingOf requestOf requestArea replyTo getBy getWords getTold getOn
@@ -227,6 +261,14 @@ module _ (s : State) (area words : List ℕ) where
   unfolding Right replyOn turnedOn areaOn wholeTurn wholeRefusal wholeState replyTo thawBy lowest stateRows
   thaw-right = refl
 
+  return-right : Right Return
+  unfolding Right replyOn turnedOn areaOn routineTurn routineOf returnTold replyTo returnBy
+  return-right = refl
+
+  running-right : Right Running
+  unfolding Right replyOn turnedOn areaOn routineTurn routineOf runningTold replyTo runningBy
+  running-right = refl
+
   pub turned-right : (frame : Frame) → replyOn (not (sound s)) s area words frame ≡ replyTo s area words frame
   unfolding Right
   turned-right Malformed = malformed-right
@@ -241,6 +283,8 @@ module _ (s : State) (area words : List ℕ) where
   turned-right (Skip file) = skip-right file
   turned-right Freeze = freeze-right
   turned-right Thaw = thaw-right
+  turned-right Return = return-right
+  turned-right Running = running-right
 
 -- ---- every line
 

@@ -1,6 +1,6 @@
 -- What each call's code makes of its inner form comes to its definition. Assumes nothing.
 use mathlib.Core.Path.{_≡_, sym, ap, ap₂, _∙_}
-use mathlib.Core.Bool.{Bool, true, cond, _||_, _&&_}
+use mathlib.Core.Bool.{Bool, true, false, cond, _||_, _&&_}
 use mathlib.Core.List.{List}
 use Prim.Native.Nat.{ℕ, _*_}
 use borrow.Author.Tests.{ne-eqb}
@@ -17,6 +17,12 @@ use Rattle.file_input.specs.Gets.{gotStart, gotWords}
 use Rattle.pool.specs.Free.{fileCount}
 use Rattle.pool.specs.Masks.{freeIn}
 use Rattle.pool.specs.Serving.{isBound}
+use Rattle.routines.specs.declared.Post.{Post}
+use Rattle.routines.specs.declared.Routines.{Routines}
+use Rattle.routines.specs.Ranks.{isDue}
+use Rattle.routines.specs.Posts.{postAt, withPost}
+use Rattle.pack_routine.specs.declared.RoutineChange.{RoutineChange}
+use Rattle.pack_routine.specs.Ons.{returnOn, runningOn}
 use Rattle.state.specs.declared.State.{State}
 use Rattle.state.specs.declared.Called.{Called}
 use Rattle.state.specs.Places.{channelCount}
@@ -42,8 +48,8 @@ use Rattle.session_frame.specs.declared.Frame.{Frame}
 use Rattle.session_reply.specs.declared.Told.{Told}
 use Rattle.session_reply.specs.declared.Change.{Change}
 use Rattle.session_reply.specs.Replies.{answerOr, gotAnswer, masksOf, reportAnswer}
-use Rattle.session_reply.specs.Changes.{quietTold, openWrong, openTold, askChangeOn, reportChangeOn, reportAreaOn, getTold, putTold, putAreaOn, sealTold, sealAreaOn}
-use Rattle.session_reply.specs.Places.{channelNumber, fileOr, fileKept, channelOr, channelKept, channelFor}
+use Rattle.session_reply.specs.Changes.{quietTold, openWrong, openTold, askedPost, askChangeOn, isNamedAnswer, reportedPost, reportChangeOn, reportAreaOn, getTold, putTold, putAreaOn, sealTold, sealAreaOn, returnTold, runningTold}
+use Rattle.session_reply.specs.Places.{channelNumber, unitNumber, fileOr, fileKept, channelOr, channelKept, channelFor, unitFor}
 use Rattle.session_reply.specs.Turns.{recordOf, recordArea, bindingOf, requestOf, requestArea, toldAt, recordAt, bindingAt, changeAt, requestAt}
 
 pub opened-as : (unsound : Bool) (w mask : ℕ) (files : List File) (f : File) (c : Channel) (q : OpenFrame)
@@ -58,30 +64,66 @@ opened-as unsound w mask files f c q bound free wish x r eb ef eq ex er =
     ex ∙ rw (eb, ef, eq) in
     er ∙ ap (λ (y : FileChange). quietTold (y .refusal) (y .file)) e
 
-pub asked-as : (unsound frozen : Bool) (f : File) (c : Channel) (q : AskFrame) (x : AskChange) (a : Answer)
-    → x ≡ askOn (unsound || leb fileCount (q .file)) f c (q .op) (q .priority) frozen → a ≡ answerOr (x .refusal) (answer.Asked (x .working))
-    → record { answer = a; start = 0; count = 0; file = x .file; channel = x .channel } ≡ askChangeOn unsound frozen f c q
+pub asked-as : (unsound frozen : Bool) (f : File) (c : Channel) (p : Post) (q : AskFrame) (waits : Bool) (x : AskChange) (a : Answer) (post : Post)
+    → waits ≡ isDue (p .due) → x ≡ askOn (unsound || leb fileCount (q .file)) f c (q .op) (q .priority) (q .naming) waits frozen
+    → a ≡ answerOr (x .refusal) (answer.Asked (x .working)) → post ≡ askedPost (x .refusal) p (q .naming)
+    → record { answer = a; start = 0; count = 0; file = x .file; channel = x .channel; post = post; looks = false } ≡ askChangeOn unsound frozen f c p q
 unfolding askChangeOn
-asked-as unsound frozen f c q x a ex ea =
-    ap (λ (b : Answer). record { answer = b; start = 0; count = 0; file = x .file; channel = x .channel }) ea
-    ∙ ap (λ (y : AskChange). record { answer = answerOr (y .refusal) (answer.Asked (y .working)); start = 0; count = 0; file = y .file; channel = y .channel }) ex
+asked-as unsound frozen f c p q waits x a post ew ex ea ep =
+    ap₂ (λ (b : Answer) (z : Post). record { answer = b; start = 0; count = 0; file = x .file; channel = x .channel; post = z; looks = false }) ea ep
+    ∙ ap (λ (y : AskChange). record {
+      answer = answerOr (y .refusal) (answer.Asked (y .working));
+      start = 0;
+      count = 0;
+      file = y .file;
+      channel = y .channel;
+      post = askedPost (y .refusal) p (q .naming);
+      looks = false;
+    }) (ex ∙ ap (λ (t : Bool). askOn (unsound || leb fileCount (q .file)) f c (q .op) (q .priority) (q .naming) t frozen) ew)
 
-module _ (unsound : Bool) (m w : ℕ) (frozen : Bool) (f : File) (c : Channel) (q : ReportFrame) (area words : List ℕ) where
-  pub reported-as : (short : Bool) (x : ReportChange) (a : Answer) → short ≡ ltb (length area) (m * w)
+module _ (unsound : Bool) (m w : ℕ) (frozen : Bool) (f : File) (c : Channel) (p : Post) (q : ReportFrame) (area words : List ℕ) where
+  pub reported-as : (short : Bool) (x : ReportChange) (a : Answer) (post : Post) (looks : Bool) → short ≡ ltb (length area) (m * w)
       → x ≡ reportOn (unsound || (short || leb channelCount (q .channel))) f c (q .unit) (q .outcome) (q .length) w frozen area words
-      → a ≡ answerOr (x .refusal) (reportAnswer (x .result) (x .delivery) (x .working))
-      → record { answer = a; start = x .start; count = x .count; file = x .file; channel = x .channel }
-      ≡ reportChangeOn unsound m w frozen f c q area words
+      → a ≡ answerOr (x .refusal) (reportAnswer (x .result) (x .delivery) (x .working)) → post ≡ reportedPost (x .result) p → looks ≡ isNamedAnswer (x .result) p
+      → record { answer = a; start = x .start; count = x .count; file = x .file; channel = x .channel; post = post; looks = looks }
+      ≡ reportChangeOn unsound m w frozen f c p q area words
   unfolding reportChangeOn
-  reported-as short x a es ex ea =
-      ap (λ (b : Answer). record { answer = b; start = x .start; count = x .count; file = x .file; channel = x .channel }) ea
+  reported-as short x a post looks es ex ea ep el =
+      ap₂ (λ (b : Answer) (z : Post). record { answer = b; start = x .start; count = x .count; file = x .file; channel = x .channel; post = z; looks = looks }) ea ep
+      ∙ ap (λ (t : Bool). record {
+        answer = answerOr (x .refusal) (reportAnswer (x .result) (x .delivery) (x .working));
+        start = x .start;
+        count = x .count;
+        file = x .file;
+        channel = x .channel;
+        post = reportedPost (x .result) p;
+        looks = t;
+      }) el
       ∙ ap (λ (y : ReportChange). record {
         answer = answerOr (y .refusal) (reportAnswer (y .result) (y .delivery) (y .working));
         start = y .start;
         count = y .count;
         file = y .file;
         channel = y .channel;
+        post = reportedPost (y .result) p;
+        looks = isNamedAnswer (y .result) p;
       }) (ex ∙ ap (λ (t : Bool). reportOn (unsound || (t || leb channelCount (q .channel))) f c (q .unit) (q .outcome) (q .length) w frozen area words) es)
+
+-- ---- the routines
+
+pub given-back-as : (unsound frozen : Bool) (r : Routines) (x : RoutineChange) (a : Answer) → x ≡ returnOn unsound frozen r
+    → a ≡ answerOr (x .refusal) (answer.Returned (x .entered) (x .program)) → record { answer = a; routines = x .routines } ≡ returnTold unsound frozen r
+unfolding returnTold
+given-back-as unsound frozen r x a ex ea =
+    ap (λ (b : Answer). record { answer = b; routines = x .routines }) ea
+    ∙ ap (λ (y : RoutineChange). record { answer = answerOr (y .refusal) (answer.Returned (y .entered) (y .program)); routines = y .routines }) ex
+
+pub running-as : (unsound : Bool) (r : Routines) (x : RoutineChange) (a : Answer) → x ≡ runningOn unsound r → a ≡ answerOr (x .refusal) (answer.Runs (x .program))
+    → record { answer = a; routines = x .routines } ≡ runningTold unsound r
+unfolding runningTold
+running-as unsound r x a ex ea =
+    ap (λ (b : Answer). record { answer = b; routines = x .routines }) ea
+    ∙ ap (λ (y : RoutineChange). record { answer = answerOr (y .refusal) (answer.Runs (y .program)); routines = y .routines }) ex
 
 pub reported-area : (unsound : Bool) (m w : ℕ) (f : File) (c : Channel) (q : ReportFrame) (area words : List ℕ) (short : Bool) (after : List ℕ)
     → short ≡ ltb (length area) (m * w) → after ≡ reportOnArea (unsound || (short || leb channelCount (q .channel))) f c (q .unit) (q .outcome) (q .length) w area words
@@ -140,6 +182,18 @@ module _ (frame : Frame) (i : ℕ) (old f : File) (ef : f ≡ fileOr i old) wher
   unfolding channelFor
   channel-for j e = e ∙ ap (λ (g : File). channelNumber frame (g .channel)) ef
 
+  unit-for : (u : ℕ) → u ≡ unitNumber frame (f .unit) → u ≡ unitFor frame i old
+  unfolding unitFor
+  unit-for u e = e ∙ ap (λ (g : File). unitNumber frame (g .unit)) ef
+
+  -- the post of its unit, and another one there
+  module _ (r : Routines) (j u : ℕ) (ej : j ≡ channelNumber frame (f .channel)) (eu : u ≡ unitNumber frame (f .unit)) where
+    pub post-as : (p : Post) → p ≡ postAt r j u → p ≡ postAt r (channelFor frame i old) (unitFor frame i old)
+    post-as p e = e ∙ ap₂ (λ (k v : ℕ). postAt r k v) (channel-for j ej) (unit-for u eu)
+
+    pub with-post-as : (t : Routines) (p : Post) → t ≡ withPost r j u p → t ≡ withPost r (channelFor frame i old) (unitFor frame i old) p
+    with-post-as t p e = e ∙ ap₂ (λ (k v : ℕ). withPost r k v p) (channel-for j ej) (unit-for u eu)
+
   told-kept : (x y : Told) (file : File) → x ≡ y → file ≡ fileKept i (x .file) old
       → _≡_ {A = Told} (record { answer = x .answer; start = x .start; count = x .count; file = file }) (toldAt i old y)
   unfolding toldAt
@@ -164,16 +218,16 @@ module _ (frame : Frame) (i : ℕ) (old f : File) (ef : f ≡ fileOr i old) wher
     binding-as unsound w free files x file ex e =
         told-kept x _ file (ex ∙ ap₂ (λ (g : File) (d : Channel). bindingOf unsound w free files frame g d) ef channel-there) e
 
-    module _ (unsound : Bool) (m w : ℕ) (frozen : Bool) (area words : List ℕ) where
-      pub request-as : (x : Change) (file : File) (channel : Channel) → x ≡ requestOf unsound m w frozen frame f c area words → file ≡ fileKept i (x .file) old
+    module _ (unsound : Bool) (m w : ℕ) (frozen : Bool) (p : Post) (area words : List ℕ) where
+      pub request-as : (x : Change) (file : File) (channel : Channel) → x ≡ requestOf unsound m w frozen frame f c p area words → file ≡ fileKept i (x .file) old
           → channel ≡ channelKept j (x .channel) was
-          → _≡_ {A = Change} (record { answer = x .answer; start = x .start; count = x .count; file = file; channel = channel })
-          (requestAt unsound m w frozen frame i old was area words)
+          → _≡_ {A = Change} (record { answer = x .answer; start = x .start; count = x .count; file = file; channel = channel; post = x .post; looks = x .looks })
+          (requestAt unsound m w frozen frame i old was p area words)
       unfolding requestAt changeAt
       request-as x file channel ex e e₂ =
-          ap₂ (λ (g : File) (d : Channel). record { answer = x .answer; start = x .start; count = x .count; file = g; channel = d }) e
+          ap₂ (λ (g : File) (d : Channel). record { answer = x .answer; start = x .start; count = x .count; file = g; channel = d; post = x .post; looks = x .looks }) e
           (e₂ ∙ ap (λ (n : ℕ). channelKept n (x .channel) was) (channel-for j ej))
-          ∙ ap (changeAt i old (channelFor frame i old) was) (ex ∙ ap₂ (λ (g : File) (d : Channel). requestOf unsound m w frozen frame g d area words) ef channel-there)
+          ∙ ap (changeAt i old (channelFor frame i old) was) (ex ∙ ap₂ (λ (g : File) (d : Channel). requestOf unsound m w frozen frame g d p area words) ef channel-there)
 
       pub request-area : (after : List ℕ) → after ≡ requestArea unsound m w frame f c area words
           → after ≡ requestArea unsound m w frame (fileOr i old) (channelOr (channelFor frame i old) was) area words
@@ -220,17 +274,17 @@ module _ (frame : Frame) (i : ℕ) (old f : File) (ef : f ≡ fileOr i old) (j :
       e ∙ sym (told-there i old first _)
       ∙ ap₂ (λ (g : File) (c : Channel). toldAt i old (bindingOf unsound w free files frame g c)) (sym (file-there i old first)) (sym channel-within)
 
-  module _ (unsound : Bool) (m w : ℕ) (frozen : Bool) (area words : List ℕ) where
+  module _ (unsound : Bool) (m w : ℕ) (frozen : Bool) (p : Post) (area words : List ℕ) where
     change-there : (x : Change) → changeAt i old (channelFor frame i old) was x ≡ x
     unfolding changeAt fileKept channelKept
     change-there x =
-        ap₂ (λ (g : File) (c : Channel). record { answer = x .answer; start = x .start; count = x .count; file = g; channel = c }) (cond-true _ _ first) (cond-true _ _ second)
+        ap₂ (λ (g : File) (c : Channel). record { answer = x .answer; start = x .start; count = x .count; file = g; channel = c; post = x .post; looks = x .looks }) (cond-true _ _ first) (cond-true _ _ second)
 
-    pub request-within : (x : Change) → x ≡ requestOf unsound m w frozen frame old was area words → x ≡ requestAt unsound m w frozen frame i old was area words
+    pub request-within : (x : Change) → x ≡ requestOf unsound m w frozen frame old was p area words → x ≡ requestAt unsound m w frozen frame i old was p area words
     unfolding requestAt
     request-within x e =
         e ∙ sym (change-there _)
-        ∙ ap₂ (λ (g : File) (c : Channel). changeAt i old (channelFor frame i old) was (requestOf unsound m w frozen frame g c area words)) (sym (file-there i old first)) (sym channel-within)
+        ∙ ap₂ (λ (g : File) (c : Channel). changeAt i old (channelFor frame i old) was (requestOf unsound m w frozen frame g c p area words)) (sym (file-there i old first)) (sym channel-within)
 
     pub request-area-within : (after : List ℕ) → after ≡ requestArea unsound m w frame old was area words
         → after ≡ requestArea unsound m w frame (fileOr i old) (channelOr (channelFor frame i old) was) area words

@@ -10,7 +10,7 @@ use Rattle.session_frame.specs.declared.Frame.{Frame}
 use Rattle.state.specs.declared.State.{State}
 use Rattle.state.specs.Places.{fileAt}
 use Rattle.session_reply.specs.Places.{groupOf, namedFile}
-use Rattle.session_reply.specs.Turns.{recordArea, recordTurn, bindingTurn, requestTurn, wholeTurn, turnedOn, requestAreaOn, areaOn}
+use Rattle.session_reply.specs.Turns.{recordArea, recordTurn, bindingTurn, requestTurn, wholeTurn, routineTurn, turnedOn, requestAreaOn, areaOn}
 
 module _ (unsound : Bool) (s : State) (area : List ℕ) (frame : Frame) (words : List ℕ) (g : ℕ) (is : g ≡ groupOf frame) where
   pub as-request : g ≡ 1 → (turnedOn unsound s area frame words ≡ requestTurn unsound s area frame words) × (areaOn unsound s area frame words ≡ requestAreaOn unsound s area frame words)
@@ -26,19 +26,30 @@ module _ (unsound : Bool) (s : State) (area : List ℕ) (frame : Frame) (words :
         (cond-false _ _ f ∙ cond-true _ _ t, cond-false _ _ f ∙ cond-true _ _ t)
 
     module _ (n3 : g ≡ 3 → ⊥) where
-      pub as-binding : g ≡ 2 → (turnedOn unsound s area frame words ≡ bindingTurn unsound s frame) × (areaOn unsound s area frame words ≡ area)
+      pub as-routine : g ≡ 4 → (turnedOn unsound s area frame words ≡ routineTurn unsound s frame) × (areaOn unsound s area frame words ≡ area)
       unfolding turnedOn areaOn
-      as-binding e =
+      as-routine e =
           let f = ne-eqb (groupOf frame) 1 (λ z. n1 (is ∙ z)) in
           let f₃ = ne-eqb (groupOf frame) 3 (λ z. n3 (is ∙ z)) in
-          let t = eq-eqb (groupOf frame) 2 (sym is ∙ e) in
+          let t = eq-eqb (groupOf frame) 4 (sym is ∙ e) in
           (cond-false _ _ f ∙ cond-false _ _ f₃ ∙ cond-true _ _ t, cond-false _ _ f ∙ cond-false _ _ f₃ ∙ cond-true _ _ t)
 
-      pub as-record : (g ≡ 2 → ⊥) → (turnedOn unsound s area frame words ≡ recordTurn unsound s area frame words)
-          × (areaOn unsound s area frame words ≡ recordArea unsound (s .m) (s .w) frame (fileAt s (namedFile frame)) area words)
-      unfolding turnedOn areaOn
-      as-record n2 =
-          let f = ne-eqb (groupOf frame) 1 (λ z. n1 (is ∙ z)) in
-          let f₃ = ne-eqb (groupOf frame) 3 (λ z. n3 (is ∙ z)) in
-          let f₂ = ne-eqb (groupOf frame) 2 (λ z. n2 (is ∙ z)) in
-          (cond-false _ _ f ∙ cond-false _ _ f₃ ∙ cond-false _ _ f₂, cond-false _ _ f ∙ cond-false _ _ f₃ ∙ cond-false _ _ f₂)
+      module _ (n4 : g ≡ 4 → ⊥) where
+        pub as-binding : g ≡ 2 → (turnedOn unsound s area frame words ≡ bindingTurn unsound s frame) × (areaOn unsound s area frame words ≡ area)
+        unfolding turnedOn areaOn
+        as-binding e =
+            let f = ne-eqb (groupOf frame) 1 (λ z. n1 (is ∙ z)) in
+            let f₃ = ne-eqb (groupOf frame) 3 (λ z. n3 (is ∙ z)) in
+            let f₄ = ne-eqb (groupOf frame) 4 (λ z. n4 (is ∙ z)) in
+            let t = eq-eqb (groupOf frame) 2 (sym is ∙ e) in
+            (cond-false _ _ f ∙ cond-false _ _ f₃ ∙ cond-false _ _ f₄ ∙ cond-true _ _ t, cond-false _ _ f ∙ cond-false _ _ f₃ ∙ cond-false _ _ f₄ ∙ cond-true _ _ t)
+
+        pub as-record : (g ≡ 2 → ⊥) → (turnedOn unsound s area frame words ≡ recordTurn unsound s area frame words)
+            × (areaOn unsound s area frame words ≡ recordArea unsound (s .m) (s .w) frame (fileAt s (namedFile frame)) area words)
+        unfolding turnedOn areaOn
+        as-record n2 =
+            let f = ne-eqb (groupOf frame) 1 (λ z. n1 (is ∙ z)) in
+            let f₃ = ne-eqb (groupOf frame) 3 (λ z. n3 (is ∙ z)) in
+            let f₄ = ne-eqb (groupOf frame) 4 (λ z. n4 (is ∙ z)) in
+            let f₂ = ne-eqb (groupOf frame) 2 (λ z. n2 (is ∙ z)) in
+            (cond-false _ _ f ∙ cond-false _ _ f₃ ∙ cond-false _ _ f₄ ∙ cond-false _ _ f₂, cond-false _ _ f ∙ cond-false _ _ f₃ ∙ cond-false _ _ f₄ ∙ cond-false _ _ f₂)

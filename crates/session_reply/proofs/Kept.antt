@@ -10,10 +10,11 @@ use Rattle.area.proofs.Marks.{cond-false}
 use Rattle.channel.specs.declared.Channel.{Channel}
 use Rattle.file.specs.declared.File.{File}
 use Rattle.session_frame.specs.declared.Frame.{Frame}
-use Rattle.session_frame.specs.declared.Frame.the-variants.{Malformed, Fresh, Open, Close, Ask, Report, Get, Put, Seal, Skip, Freeze, Thaw}
+use Rattle.session_frame.specs.declared.Frame.the-variants.{Malformed, Fresh, Open, Close, Ask, Report, Get, Put, Seal, Skip, Freeze, Thaw, Return, Running}
 use Rattle.session_frame.specs.Frames.{frameOf}
+use Rattle.routines.specs.declared.Routines.{Routines}
 use Rattle.state.specs.declared.State.{State}
-use Rattle.state.specs.Stores.{withFile, withChannel}
+use Rattle.state.specs.Stores.{withFile, withChannel, withRoutines}
 use Rattle.state_sound.specs.Soundness.{sound}
 use Rattle.pack_start.specs.Fresh.{freshBy}
 use Rattle.pack_start.proofs.FreshTheorems.{fresh-kept}
@@ -23,13 +24,14 @@ use Rattle.pack_start.proofs.FreezeTheorems.{freeze-kept, thaw-kept}
 use Rattle.pack_request.proofs.AskTheorems.{ask-kept}
 use Rattle.pack_request.proofs.ReportTheorems.{report-kept}
 use Rattle.pack_request.proofs.ReportWords.{report-area-length}
+use Rattle.pack_routine.proofs.Theorems.{return-kept, running-kept}
 use Rattle.pack_record.proofs.GetTheorems.{get-kept}
 use Rattle.pack_record.proofs.SkipTheorems.{skip-kept}
 use Rattle.pack_record.proofs.PutTheorems.{put-kept, put-area-frame}
 use Rattle.pack_record.proofs.SealTheorems.{seal-kept, seal-area-frame}
 use Rattle.session_reply.specs.Replies.{Reply, masksOf, givenWords, replyTo, answerTo}
 use Rattle.session_reply.specs.Places.{groupOf}
-use Rattle.session_reply.specs.Turns.{wholeRefusal, recordTurn, bindingTurn, requestTurn, wholeTurn, Turned, turnedOn, replyOn}
+use Rattle.session_reply.specs.Turns.{wholeRefusal, recordTurn, bindingTurn, requestTurn, wholeTurn, routineTurn, Turned, turnedOn, replyOn}
 use Rattle.session_reply.proofs.Stores.{Counts, whole-counts}
 use Rattle.session_reply.proofs.Agrees.{turned-right}
 
@@ -49,7 +51,7 @@ reply-kept s area words Malformed k h = h
 reply-kept s area words (Fresh q) k h = fresh-sound s (length area) (q .m) (q .w) (masksOf (q .masks)) h
 reply-kept s area words (Open q) k h = open-kept s (q .file) (q .channel) (q .unit) (q .flags) (q .size) (q .rlen) (k .files) h
 reply-kept s area words (Close file) k h = close-kept s file h
-reply-kept s area words (Ask q) k h = ask-kept s (q .file) (q .op) (q .priority) h
+reply-kept s area words (Ask q) k h = ask-kept s (q .file) (q .op) (q .priority) (q .naming) h
 reply-kept s area words (Report q) k h = report-kept s area (q .channel) (q .unit) (q .outcome) (q .length) words (k .files) h
 reply-kept s area words (Get file) k h = get-kept s area file h
 reply-kept s area words (Put q) k h = put-kept s area (q .file) words h
@@ -57,6 +59,8 @@ reply-kept s area words (Seal file) k h = seal-kept s area file h
 reply-kept s area words (Skip file) k h = skip-kept s file h
 reply-kept s area words Freeze k h = freeze-kept s h
 reply-kept s area words Thaw k h = thaw-kept s h
+reply-kept s area words Return k h = return-kept s h
+reply-kept s area words Running k h = running-kept s h
 
 pub answer-kept : (s : State) (area line : List ℕ) → Counts s → sound s ≡ true → sound (answerTo s area line .state) ≡ true
 unfolding answerTo
@@ -72,16 +76,21 @@ channel-counts : (s : State) (j : ℕ) (c : Channel) → Counts s → Counts (wi
 unfolding withChannel
 channel-counts s j c k = record { files = k .files; channels = length-set (s .channels) j c ∙ k .channels }
 
+routines-counts : (s : State) (r : Routines) → Counts s → Counts (withRoutines s r)
+unfolding withRoutines
+routines-counts s r k = record { files = k .files; channels = k .channels }
+
 counts-turned : (b : Bool) (x y : Turned) → Counts (x .state) → Counts (y .state) → Counts (cond b x y .state)
 counts-turned true x y p q = p
 counts-turned false x y p q = q
 
 pub turned-counts : (unsound : Bool) (s : State) (area words : List ℕ) (frame : Frame) → Counts s → Counts (turnedOn unsound s area frame words .state)
-unfolding turnedOn requestTurn wholeTurn bindingTurn recordTurn
+unfolding turnedOn requestTurn wholeTurn routineTurn bindingTurn recordTurn
 turned-counts unsound s area words frame k =
-    counts-turned (eqb (groupOf frame) 1) _ _ (file-counts _ _ _ (channel-counts s _ _ k))
+    counts-turned (eqb (groupOf frame) 1) _ _ (routines-counts _ _ (file-counts _ _ _ (channel-counts s _ _ k)))
     (counts-turned (eqb (groupOf frame) 3) _ _ (whole-counts (wholeRefusal unsound (length area) frame) s frame k)
-    (counts-turned (eqb (groupOf frame) 2) _ _ (file-counts s _ _ k) (file-counts s _ _ k)))
+    (counts-turned (eqb (groupOf frame) 4) _ _ (routines-counts s _ k)
+    (counts-turned (eqb (groupOf frame) 2) _ _ (file-counts s _ _ k) (file-counts s _ _ k))))
 
 on-counts : (unsound : Bool) (s : State) (area words : List ℕ) (frame : Frame) → Counts s → Counts (replyOn unsound s area words frame .state)
 unfolding replyOn
@@ -109,6 +118,8 @@ reply-area s area words (Seal file) k = seal-area-frame s area file .long
 reply-area s area words (Skip file) k = refl
 reply-area s area words Freeze k = refl
 reply-area s area words Thaw k = refl
+reply-area s area words Return k = refl
+reply-area s area words Running k = refl
 
 pub answer-area : (s : State) (area line : List ℕ) → Counts s → length (answerTo s area line .area) ≡ length area
 unfolding answerTo

@@ -1,4 +1,5 @@
 pub mod Done
+pub mod Posting
 pub mod Agrees
 pub mod Stores
 pub mod Kept

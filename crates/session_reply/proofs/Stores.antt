@@ -15,21 +15,24 @@ use Rattle.channel_turns.specs.Starts.{thawOf}
 use Rattle.file.specs.declared.File.{File}
 use Rattle.file.specs.Sizes.{closedFile}
 use Rattle.session_frame.specs.declared.Frame.{Frame}
-use Rattle.session_frame.specs.declared.Frame.the-variants.{Malformed, Fresh, Open, Close, Ask, Report, Get, Put, Seal, Skip, Freeze, Thaw}
+use Rattle.session_frame.specs.declared.Frame.the-variants.{Malformed, Fresh, Open, Close, Ask, Report, Get, Put, Seal, Skip, Freeze, Thaw, Return, Running}
 use Rattle.pool.specs.Free.{fileCount}
 use Rattle.pool.specs.Masks.{freeAfter}
 use Rattle.pool.proofs.FreeMasks.{after-same}
+use Rattle.routines.specs.declared.Post.{Post}
+use Rattle.routines.specs.declared.Routines.{Routines}
+use Rattle.routines.specs.Posts.{postAt}
 use Rattle.state.specs.declared.State.{State}
 use Rattle.state.specs.Places.{channelCount, noChannel, fileAt, channelAt}
-use Rattle.state.specs.Stores.{withFile, withChannel}
+use Rattle.state.specs.Stores.{withFile, withChannel, withRoutines}
 use Rattle.state.proofs.Lookups.{any-default}
 use Rattle.pack_start.specs.Fresh.{freshRefusal, freshState}
 use Rattle.pack_start.specs.Freeze.{frozenState, thawedState}
 use Rattle.session_reply.specs.declared.Told.{Told}
 use Rattle.session_reply.specs.declared.Change.{Change}
 use Rattle.session_reply.specs.Replies.{masksOf}
-use Rattle.session_reply.specs.Places.{groupOf, namedFile, fileNumber, channelNumber, placeOf, fileOr, fileKept, channelOr, channelKept, channelFor}
-use Rattle.session_reply.specs.Turns.{wholeState, recordOf, recordArea, bindingOf, requestOf, requestArea, toldAt, recordAt, bindingAt, changeAt, requestAt, Turned, turnedIs, recordTurn, bindingTurn, requestTurn, requestAreaOn}
+use Rattle.session_reply.specs.Places.{groupOf, namedFile, fileNumber, channelNumber, unitNumber, placeOf, fileOr, fileKept, channelOr, channelKept, channelFor, unitFor}
+use Rattle.session_reply.specs.Turns.{wholeState, recordOf, recordArea, bindingOf, requestOf, requestArea, toldAt, recordAt, bindingAt, changeAt, requestAt, postedIn, Turned, turnedIs, recordTurn, bindingTurn, requestTurn, requestAreaOn}
 
 -- ---- a place of a list, whatever its number
 
@@ -80,6 +83,8 @@ state-counts s (Get file) k = k
 state-counts s (Put q) k = k
 state-counts s (Seal file) k = k
 state-counts s (Skip file) k = k
+state-counts s Return k = k
+state-counts s Running k = k
 
 pub whole-counts : (r : ℕ) (s : State) (frame : Frame) → Counts s → Counts (cond (eqb r 0) (wholeState s frame) s)
 whole-counts r s frame k = counts-if (eqb r 0) (wholeState s frame) s (state-counts s frame k) k
@@ -107,11 +112,11 @@ module _ (t : State) (counts : Counts t) (i k : ℕ) (d₁ old : File) (place : 
 
   -- the state with another file stored there
   pub file-stored : (cs : List Channel) (g new : File) (mask : ℕ) → new ≡ fileKept i g old → mask ≡ freeAfter (t .free) old new
-      → _≡_ {A = State} (record { m = t .m; w = t .w; frozen = t .frozen; channels = cs; files = set (t .files) k new; free = mask })
-      (withFile (record { m = t .m; w = t .w; frozen = t .frozen; channels = cs; files = t .files; free = t .free }) i g)
+      → _≡_ {A = State} (record { m = t .m; w = t .w; frozen = t .frozen; channels = cs; files = set (t .files) k new; free = mask; routines = t .routines })
+      (withFile (record { m = t .m; w = t .w; frozen = t .frozen; channels = cs; files = t .files; free = t .free; routines = t .routines }) i g)
   unfolding withFile fileKept
   file-stored cs g new mask e e₃ =
-      ap₂ (λ (fs : List File) (n : ℕ). record { m = t .m; w = t .w; frozen = t .frozen; channels = cs; files = fs; free = n })
+      ap₂ (λ (fs : List File) (n : ℕ). record { m = t .m; w = t .w; frozen = t .frozen; channels = cs; files = fs; free = n; routines = t .routines })
       (place-stored (t .files) fileCount i k d₁ old (counts .files) place read g new e)
       (e₃ ∙ ap (freeAfter (t .free) old) e ∙ mask-is g)
 
@@ -143,7 +148,7 @@ module _ (unsound : Bool) (t : State) (area words : List ℕ) (frame : Frame) (c
   file-named = file-is t counts i k d₁ old place read ∙ ap (fileAt t) number
 
   told-as : (x y : Told) (mask : ℕ) → x ≡ toldAt i old y → mask ≡ freeAfter (t .free) old (x .file)
-      → turnedIs (x .answer) (x .start) (x .count) (record { m = t .m; w = t .w; frozen = t .frozen; channels = t .channels; files = set (t .files) k (x .file); free = mask })
+      → turnedIs (x .answer) (x .start) (x .count) (record { m = t .m; w = t .w; frozen = t .frozen; channels = t .channels; files = set (t .files) k (x .file); free = mask; routines = t .routines })
       ≡ turnedIs (y .answer) (y .start) (y .count) (withFile t (namedFile frame) (y .file))
   unfolding toldAt
   told-as x y mask e e₃ =
@@ -152,7 +157,7 @@ module _ (unsound : Bool) (t : State) (area words : List ℕ) (frame : Frame) (c
       ∙ ap (λ (z : Told). turnedIs (z .answer) (z .start) (z .count) (withFile t (namedFile frame) (y .file))) e
 
   pub record-turned : (x : Told) (mask : ℕ) → x ≡ recordAt unsound (t .m) (t .w) frame i old area words → mask ≡ freeAfter (t .free) old (x .file)
-      → turnedIs (x .answer) (x .start) (x .count) (record { m = t .m; w = t .w; frozen = t .frozen; channels = t .channels; files = set (t .files) k (x .file); free = mask })
+      → turnedIs (x .answer) (x .start) (x .count) (record { m = t .m; w = t .w; frozen = t .frozen; channels = t .channels; files = set (t .files) k (x .file); free = mask; routines = t .routines })
       ≡ recordTurn unsound t area frame words
   unfolding recordAt recordTurn
   record-turned x mask e e₃ =
@@ -165,7 +170,7 @@ module _ (unsound : Bool) (t : State) (area words : List ℕ) (frame : Frame) (c
 
   pub binding-turned : (l : ℕ) (d₂ was : Channel) → l ≡ placeOf (channelFor frame i old) channelCount → was ≡ getD (t .channels) l d₂
       → (x : Told) (mask : ℕ) → x ≡ bindingAt unsound (t .w) (t .free) (t .files) frame i old was → mask ≡ freeAfter (t .free) old (x .file)
-      → turnedIs (x .answer) (x .start) (x .count) (record { m = t .m; w = t .w; frozen = t .frozen; channels = t .channels; files = set (t .files) k (x .file); free = mask })
+      → turnedIs (x .answer) (x .start) (x .count) (record { m = t .m; w = t .w; frozen = t .frozen; channels = t .channels; files = set (t .files) k (x .file); free = mask; routines = t .routines })
       ≡ bindingTurn unsound t frame
   unfolding bindingAt bindingTurn
   binding-turned l d₂ was place₂ read₂ x mask e e₃ =
@@ -187,25 +192,46 @@ module _ (unsound : Bool) (t : State) (area words : List ℕ) (frame : Frame) (c
 
   both-stored : (y : Change) (new : File) (kept : Channel) (mask : ℕ) → new ≡ fileKept i (y .file) old → kept ≡ channelKept (channelFor frame i old) (y .channel) was
       → mask ≡ freeAfter (t .free) old new
-      → _≡_ {A = State} (record { m = t .m; w = t .w; frozen = t .frozen; channels = set (t .channels) l kept; files = set (t .files) k new; free = mask })
+      → _≡_ {A = State} (record { m = t .m; w = t .w; frozen = t .frozen; channels = set (t .channels) l kept; files = set (t .files) k new; free = mask; routines = t .routines })
       (withFile (withChannel t own (y .channel)) (fileNumber frame (t .files)) (y .file))
   unfolding withChannel
   both-stored y new kept mask e e₂ e₃ =
       file-stored t counts i k d₁ old place read (set (t .channels) l kept) (y .file) new mask e e₃
-      ∙ ap₂ (λ (cs : List Channel) (n : ℕ). withFile (record { m = t .m; w = t .w; frozen = t .frozen; channels = cs; files = t .files; free = t .free }) n (y .file))
+      ∙ ap₂ (λ (cs : List Channel) (n : ℕ). withFile (record { m = t .m; w = t .w; frozen = t .frozen; channels = cs; files = t .files; free = t .free; routines = t .routines }) n (y .file))
       (channel-stored t counts i k d₁ old place read frame l d₂ was place₂ read₂ (y .channel) kept e₂ ∙ ap (λ (n : ℕ). set (t .channels) (channelNumber frame (fileAt t n .channel)) (y .channel)) number) number
 
-  pub request-turned : (x : Change) (mask : ℕ) → x ≡ requestAt unsound (t .m) (t .w) (t .frozen) frame i old was area words → mask ≡ freeAfter (t .free) old (x .file)
+  abbrev unit : ℕ
+  unit = unitNumber frame (fileAt t (fileNumber frame (t .files)) .unit)
+
+  own-is : channelFor frame i old ≡ own
+  unfolding channelFor
+  own-is = ap (λ (f : File). channelNumber frame (f .channel)) file-concerned
+
+  unit-is : unitFor frame i old ≡ unit
+  unfolding unitFor
+  unit-is = ap (λ (f : File). unitNumber frame (f .unit)) file-concerned
+
+  -- the post `stood` is that of the frame's unit, and `after` are the routines once what the call leaves there is stored
+  pub request-turned : (stood : Post) (x : Change) (mask : ℕ) (after : Routines) → stood ≡ postAt (t .routines) (channelFor frame i old) (unitFor frame i old)
+      → x ≡ requestAt unsound (t .m) (t .w) (t .frozen) frame i old was stood area words → mask ≡ freeAfter (t .free) old (x .file)
+      → after ≡ postedIn (t .routines) (t .frozen) (channelFor frame i old) (unitFor frame i old) (x .post) (x .looks)
       → turnedIs (x .answer) (x .start) (x .count)
-      (record { m = t .m; w = t .w; frozen = t .frozen; channels = set (t .channels) l (x .channel); files = set (t .files) k (x .file); free = mask })
+      (record { m = t .m; w = t .w; frozen = t .frozen; channels = set (t .channels) l (x .channel); files = set (t .files) k (x .file); free = mask; routines = after })
       ≡ requestTurn unsound t area frame words
-  unfolding requestAt requestTurn changeAt
-  request-turned x mask e e₃ =
-      let y = requestOf unsound (t .m) (t .w) (t .frozen) frame (fileOr i old) (channelOr (channelFor frame i old) was) area words in
-      ap (turnedIs (x .answer) (x .start) (x .count)) (both-stored y (x .file) (x .channel) mask (ap (λ (z : Change). z .file) e) (ap (λ (z : Change). z .channel) e) e₃)
-      ∙ ap (λ (z : Change). turnedIs (z .answer) (z .start) (z .count) (withFile (withChannel t own (y .channel)) (fileNumber frame (t .files)) (y .file))) e
-      ∙ ap₂ (λ (f : File) (c : Channel). let y = requestOf unsound (t .m) (t .w) (t .frozen) frame f c area words in
-      turnedIs (y .answer) (y .start) (y .count) (withFile (withChannel t own (y .channel)) (fileNumber frame (t .files)) (y .file))) file-concerned channel-concerned
+  unfolding requestAt requestTurn changeAt withRoutines
+  request-turned stood x mask after ep e e₃ ea =
+      let y = requestOf unsound (t .m) (t .w) (t .frozen) frame (fileOr i old) (channelOr (channelFor frame i old) was) stood area words in
+      let turn : Change → Turned = λ (z : Change). turnedIs (z .answer) (z .start) (z .count)
+      (withRoutines (withFile (withChannel t own (z .channel)) (fileNumber frame (t .files)) (z .file)) (postedIn (t .routines) (t .frozen) own unit (z .post) (z .looks))) in
+      ap (λ (s : State). turnedIs (x .answer) (x .start) (x .count) (withRoutines s after))
+      (both-stored y (x .file) (x .channel) mask (ap (λ (z : Change). z .file) e) (ap (λ (z : Change). z .channel) e) e₃)
+      ∙ ap (λ (r : Routines). turnedIs (x .answer) (x .start) (x .count) (withRoutines (withFile (withChannel t own (y .channel)) (fileNumber frame (t .files)) (y .file)) r))
+      (ea ∙ ap₂ (λ (c u : ℕ). postedIn (t .routines) (t .frozen) c u (x .post) (x .looks)) own-is unit-is)
+      ∙ ap (λ (z : Change). turnedIs (z .answer) (z .start) (z .count)
+      (withRoutines (withFile (withChannel t own (y .channel)) (fileNumber frame (t .files)) (y .file)) (postedIn (t .routines) (t .frozen) own unit (z .post) (z .looks)))) e
+      ∙ ap₂ (λ (f : File) (c : Channel). turn (requestOf unsound (t .m) (t .w) (t .frozen) frame f c stood area words)) file-concerned channel-concerned
+      ∙ ap (λ (p : Post). turn (requestOf unsound (t .m) (t .w) (t .frozen) frame (fileAt t (fileNumber frame (t .files))) (channelAt t own) p area words))
+      (ep ∙ ap₂ (λ (c u : ℕ). postAt (t .routines) c u) own-is unit-is)
 
   pub request-moved : (after : List ℕ) → after ≡ requestArea unsound (t .m) (t .w) frame (fileOr i old) (channelOr (channelFor frame i old) was) area words
       → after ≡ requestAreaOn unsound t area frame words

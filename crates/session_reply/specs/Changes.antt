@@ -1,9 +1,9 @@
--- The same by the calls' inner forms: what each call comes to for the one file f and the one channel c that it concerns. `unsound` stands for
--- the judgement of the state, m and w are its pool, `free` its free mask. Assumes nothing.
+-- The same by the calls' inner forms: what each call comes to for the one file f, the one channel c and the one post p that it concerns, or for the
+-- routines r. `unsound` stands for the judgement of the state, m and w are its pool, `free` its free mask. Assumes nothing.
 use Prim.Native.Nat.{ℕ, _*_}
-use mathlib.Core.Bool.{Bool, _||_}
+use mathlib.Core.Bool.{Bool, false, cond, _&&_, _||_}
 use mathlib.Core.List.{List}
-use lib.Dec.{leb, ltb}
+use lib.Dec.{leb, ltb, eqb}
 use lib.ListN.{length}
 use Rattle.session_frame.specs.declared.OpenFrame.{OpenFrame}
 use Rattle.session_frame.specs.declared.AskFrame.{AskFrame}
@@ -17,15 +17,23 @@ use Rattle.pool.specs.Free.{fileCount}
 use Rattle.pool.specs.Masks.{freeIn}
 use Rattle.pool.specs.Serving.{isBound}
 use Rattle.state.specs.Places.{channelCount}
+use Rattle.routines.specs.declared.Naming.{Naming}
+use Rattle.routines.specs.declared.Post.{Post}
+use Rattle.routines.specs.declared.Routines.{Routines}
+use Rattle.routines.specs.Ranks.{nothingDue, isDue}
+use Rattle.routines.specs.Posts.{dueOf}
 use Rattle.call_open.specs.Open.{allFlags, wishOf, openOn}
 use Rattle.call_open.specs.Close.{closeOn}
 use Rattle.call_request.specs.Ask.{askOn}
+use Rattle.call_request.specs.Named.{answersRequest}
 use Rattle.call_request.specs.Report.{reportOn, reportOnArea}
 use Rattle.call_record.specs.Get.{getOn}
 use Rattle.call_record.specs.Skip.{skipOn}
 use Rattle.call_record.specs.Put.{putOn, putOnArea}
 use Rattle.call_record.specs.Seal.{sealOn, sealOnArea}
+use Rattle.pack_routine.specs.Ons.{returnOn, runningOn}
 use Rattle.session_reply.specs.declared.Change.{Change}
+use Rattle.session_reply.specs.declared.RoutineTold.{RoutineTold}
 use Rattle.session_reply.specs.declared.Told.{Told}
 use Rattle.session_reply.specs.Replies.{answerOr, reportAnswer, gotAnswer}
 
@@ -57,18 +65,37 @@ openTold unsound w free files f c q =
 unfoldable pub closeTold : Bool → File → Channel → ℕ → Told
 closeTold unsound f c file = let x = closeOn (leb fileCount file || unsound) f c in quietTold (x .refusal) (x .file)
 
-unfoldable pub askChangeOn : Bool → Bool → File → Channel → AskFrame → Change
-askChangeOn unsound frozen f c q =
-    let x = askOn (unsound || leb fileCount (q .file)) f c (q .op) (q .priority) frozen in
-    record { answer = answerOr (x .refusal) (answer.Asked (x .working)); start = 0; count = 0; file = x .file; channel = x .channel }
+-- "An ask may name a routine" (document 02, M-110): the request of the unit names it, or none
+unfoldable pub askedPost : ℕ → Post → Naming → Post
+askedPost refusal p naming = cond (eqb refusal 0) (record { named = dueOf naming; due = p .due }) p
+
+unfoldable pub askChangeOn : Bool → Bool → File → Channel → Post → AskFrame → Change
+askChangeOn unsound frozen f c p q =
+    let x = askOn (unsound || leb fileCount (q .file)) f c (q .op) (q .priority) (q .naming) (isDue (p .due)) frozen in
+    record {
+      answer = answerOr (x .refusal) (answer.Asked (x .working));
+      start = 0;
+      count = 0;
+      file = x .file;
+      channel = x .channel;
+      post = askedPost (x .refusal) p (q .naming);
+      looks = false;
+    }
 
 unfoldable pub skipTold : Bool → File → ℕ → Told
 skipTold unsound f file = let x = skipOn (leb fileCount file || unsound) f in quietTold (x .refusal) (x .file)
 
 -- ---- the calls that move or show words
 
-unfoldable pub reportChangeOn : Bool → ℕ → ℕ → Bool → File → Channel → ReportFrame → List ℕ → List ℕ → Change
-reportChangeOn unsound m w frozen f c q area words =
+-- the routine that a request names "becomes due when the request is answered" (document 02, M-110), and the scheduler looks
+unfoldable pub isNamedAnswer : ℕ → Post → Bool
+isNamedAnswer result p = answersRequest result && isDue (p .named)
+
+unfoldable pub reportedPost : ℕ → Post → Post
+reportedPost result p = cond (isNamedAnswer result p) (record { named = nothingDue; due = p .named }) p
+
+unfoldable pub reportChangeOn : Bool → ℕ → ℕ → Bool → File → Channel → Post → ReportFrame → List ℕ → List ℕ → Change
+reportChangeOn unsound m w frozen f c p q area words =
     let x = reportOn (reportWrongBy unsound m w (length area) (q .channel)) f c (q .unit) (q .outcome) (q .length) w frozen area words in
     record {
       answer = answerOr (x .refusal) (reportAnswer (x .result) (x .delivery) (x .working));
@@ -76,6 +103,8 @@ reportChangeOn unsound m w frozen f c q area words =
       count = x .count;
       file = x .file;
       channel = x .channel;
+      post = reportedPost (x .result) p;
+      looks = isNamedAnswer (x .result) p;
     }
 
 unfoldable pub reportAreaOn : Bool → ℕ → ℕ → File → Channel → ReportFrame → List ℕ → List ℕ → List ℕ
@@ -105,3 +134,13 @@ sealTold unsound m w f file area =
 
 unfoldable pub sealAreaOn : Bool → ℕ → ℕ → File → ℕ → List ℕ → List ℕ
 sealAreaOn unsound m w f file area = sealOnArea (movesWrong unsound m w (length area) file) f w area
+
+-- ---- the calls on the routines (document 02, M-110)
+
+unfoldable pub returnTold : Bool → Bool → Routines → RoutineTold
+returnTold unsound frozen r =
+    let x = returnOn unsound frozen r in
+    record { answer = answerOr (x .refusal) (answer.Returned (x .entered) (x .program)); routines = x .routines }
+
+unfoldable pub runningTold : Bool → Routines → RoutineTold
+runningTold unsound r = let x = runningOn unsound r in record { answer = answerOr (x .refusal) (answer.Runs (x .program)); routines = x .routines }

@@ -1,10 +1,10 @@
 -- What a frame concerns, and where that stands in a state. Assumes nothing.
 use Prim.Native.Nat.{ℕ}
-use mathlib.Core.Bool.{cond}
+use mathlib.Core.Bool.{Bool, true, false, cond}
 use mathlib.Core.List.{List}
 use lib.Dec.{ltb}
 use Rattle.session_frame.specs.declared.Frame.{Frame}
-use Rattle.session_frame.specs.declared.Frame.the-variants.{Malformed, Fresh, Open, Close, Ask, Report, Get, Put, Seal, Skip, Freeze, Thaw}
+use Rattle.session_frame.specs.declared.Frame.the-variants.{Malformed, Fresh, Open, Close, Ask, Report, Get, Put, Seal, Skip, Freeze, Thaw, Return, Running}
 use Rattle.channel.specs.declared.Channel.{Channel}
 use Rattle.file.specs.declared.File.{File}
 use Rattle.file.specs.Sizes.{closedFile}
@@ -12,7 +12,8 @@ use Rattle.pool.specs.Free.{fileCount}
 use Rattle.pool.specs.Serving.{fileServing}
 use Rattle.state.specs.Places.{channelCount, noChannel}
 
--- ---- the group of a frame: 1 a file and a channel, 2 a file and what a channel says of its unit, 3 the whole state, 0 one file or none
+-- ---- the group of a frame: 1 a file, a channel and the post of a unit, 2 a file and what a channel says of its unit, 3 the whole state, 4 the routines,
+-- 0 one file or none
 
 abbrev pub groupOf : Frame → ℕ
 groupOf (Ask q) = 1
@@ -22,6 +23,8 @@ groupOf (Close file) = 2
 groupOf (Fresh q) = 3
 groupOf Freeze = 3
 groupOf Thaw = 3
+groupOf Return = 4
+groupOf Running = 4
 groupOf Malformed = 0
 groupOf (Get file) = 0
 groupOf (Put q) = 0
@@ -44,6 +47,8 @@ namedFile Malformed = fileCount
 namedFile (Fresh q) = fileCount
 namedFile Freeze = fileCount
 namedFile Thaw = fileCount
+namedFile Return = fileCount
+namedFile Running = fileCount
 
 -- the file that a frame names, or that serves the unit of a report
 abbrev pub fileNumber : Frame → List File → ℕ
@@ -59,6 +64,8 @@ fileNumber Malformed files = fileCount
 fileNumber (Fresh q) files = fileCount
 fileNumber Freeze files = fileCount
 fileNumber Thaw files = fileCount
+fileNumber Return files = fileCount
+fileNumber Running files = fileCount
 
 -- the frame's own channel, or that of its file
 abbrev pub channelNumber : Frame → ℕ → ℕ
@@ -74,6 +81,42 @@ channelNumber (Seal file) own = own
 channelNumber (Skip file) own = own
 channelNumber Freeze own = own
 channelNumber Thaw own = own
+channelNumber Return own = own
+channelNumber Running own = own
+
+-- the frame's own unit, or that of its file
+abbrev pub unitNumber : Frame → ℕ → ℕ
+unitNumber (Open q) own = q .unit
+unitNumber (Report q) own = q .unit
+unitNumber Malformed own = own
+unitNumber (Fresh q) own = own
+unitNumber (Close file) own = own
+unitNumber (Ask q) own = own
+unitNumber (Get file) own = own
+unitNumber (Put q) own = own
+unitNumber (Seal file) own = own
+unitNumber (Skip file) own = own
+unitNumber Freeze own = own
+unitNumber Thaw own = own
+unitNumber Return own = own
+unitNumber Running own = own
+
+-- which of the calls on the routines
+abbrev pub isReturn : Frame → Bool
+isReturn Return = true
+isReturn Running = false
+isReturn Malformed = false
+isReturn (Fresh q) = false
+isReturn (Open q) = false
+isReturn (Close file) = false
+isReturn (Ask q) = false
+isReturn (Report q) = false
+isReturn (Get file) = false
+isReturn (Put q) = false
+isReturn (Seal file) = false
+isReturn (Skip file) = false
+isReturn Freeze = false
+isReturn Thaw = false
 
 -- ---- places: those of the numbers below n, place 0 for any other, where nothing is changed then
 
@@ -93,6 +136,9 @@ channelOr j was = cond (ltb j channelCount) was noChannel
 unfoldable pub channelKept : ℕ → Channel → Channel → Channel
 channelKept j new was = cond (ltb j channelCount) new was
 
--- the channel of a frame, where `old` stands at the place of its file i
+-- the channel and the unit of a frame, where `old` stands at the place of its file i
 unfoldable pub channelFor : Frame → ℕ → File → ℕ
 channelFor frame i old = channelNumber frame (fileOr i old .channel)
+
+unfoldable pub unitFor : Frame → ℕ → File → ℕ
+unitFor frame i old = unitNumber frame (fileOr i old .unit)

@@ -1,4 +1,4 @@
--- What a line comes to (document 01, "The session program"): by the public definitions of the eleven calls. Assumes nothing.
+-- What a line comes to (document 01, "The session program"): by the public definitions of the thirteen calls. Assumes nothing.
 use Prim.Native.Nat.{ℕ}
 use mathlib.Core.Bool.{cond}
 use mathlib.Core.List.{List, []}
@@ -11,7 +11,7 @@ use Rattle.call_request.specs.declared.Delivery.{Delivery}
 use Rattle.call_request.specs.declared.Delivery.the-variants.{Without, With}
 use Rattle.session_frame.specs.declared.Masks as frame
 use Rattle.session_frame.specs.declared.Frame.{Frame}
-use Rattle.session_frame.specs.declared.Frame.the-variants.{Malformed, Fresh, Open, Close, Ask, Report, Get, Put, Seal, Skip, Freeze, Thaw}
+use Rattle.session_frame.specs.declared.Frame.the-variants.{Malformed, Fresh, Open, Close, Ask, Report, Get, Put, Seal, Skip, Freeze, Thaw, Return, Running}
 use Rattle.session_frame.specs.Frames.{wordsAt, frameOf}
 use Rattle.session_frame.specs.declared.Answer.{Answer}
 use Rattle.session_frame.specs.declared.Answer.the-variants as answer
@@ -26,6 +26,7 @@ use Rattle.pack_open.specs.Open.{openBy}
 use Rattle.pack_open.specs.Close.{closeBy}
 use Rattle.pack_start.specs.Freeze.{freezeBy, thawBy}
 use Rattle.pack_request.specs.Calls.{askBy, reportBy, reportByArea}
+use Rattle.pack_routine.specs.Calls.{returnBy, runningBy}
 use Rattle.pack_record.specs.Gets.{getBy, getWords}
 use Rattle.pack_record.specs.Skips.{skipBy}
 use Rattle.pack_record.specs.Puts.{putBy, putByArea}
@@ -77,6 +78,8 @@ givenWords (Seal file) line = []
 givenWords (Skip file) line = []
 givenWords Freeze line = []
 givenWords Thaw line = []
+givenWords Return line = []
+givenWords Running line = []
 
 -- a frame and its words against a state and an area
 unfoldable pub replyTo : State → List ℕ → List ℕ → Frame → Reply
@@ -89,7 +92,7 @@ replyTo s area words (Open q) =
 replyTo s area words (Close file) = let x = closeBy s file in quietly (x .refusal) (x .state) area
 -- "After 00: ask adds the channel's working unit, FF for none."
 replyTo s area words (Ask q) =
-    let x = askBy s (q .file) (q .op) (q .priority) in
+    let x = askBy s (q .file) (q .op) (q .priority) (q .naming) in
     record { state = x .state; area = area; answer = answerOr (x .refusal) (answer.Asked (x .working)); words = [] }
 -- "Report adds result, check error, working unit and, if it ends a write with 01 or 04, the block's words"
 replyTo s area words (Report q) =
@@ -109,6 +112,12 @@ replyTo s area words (Seal file) = let x = sealBy s area file in quietly (x .ref
 replyTo s area words (Skip file) = let x = skipBy s file in quietly (x .refusal) (x .state) area
 replyTo s area words Freeze = let x = freezeBy s in quietly (x .refusal) (x .state) area
 replyTo s area words Thaw = let x = thawBy s in quietly (x .refusal) (x .state) area
+-- return adds whether a waiting routine was entered and what runs now, and what runs adds that alone (document 02, M-110)
+replyTo s area words Return =
+    let x = returnBy s in
+    record { state = x .state; area = area; answer = answerOr (x .refusal) (answer.Returned (x .entered) (x .program)); words = [] }
+replyTo s area words Running =
+    let x = runningBy s in record { state = x .state; area = area; answer = answerOr (x .refusal) (answer.Runs (x .program)); words = [] }
 
 -- "Each line, an empty one too, gives one answer line."
 unfoldable pub answerTo : State → List ℕ → List ℕ → Reply

@@ -1,6 +1,8 @@
-// The calls, each on what it concerns, one file and for some a channel: those that move no words, and those that move words in the lent area or show them.
+// The calls, each on what it concerns, one file and for some a channel and the post of a unit, or the routines: those that move no words, and those that
+// move words in the lent area or show them.
 // `unsound` is what is known of the state, m and w are its pool, `free` its free mask.
 use crate::Change;
+use crate::RoutineTold;
 use crate::Told;
 use call_open::FLAGS;
 use call_open::close_on;
@@ -11,6 +13,7 @@ use call_record::put_on;
 use call_record::seal_on;
 use call_record::skip_on;
 use call_request::Delivery;
+use call_request::answers_request;
 use call_request::ask_on;
 use call_request::report_on;
 use channel::Channel;
@@ -19,9 +22,17 @@ use file::File;
 use file_input::Got;
 use file_input::got_number;
 use file_input::got_start;
+use pack_routine::return_on;
+use pack_routine::running_on;
 use pool::FILES;
 use pool::free_in;
 use pool::is_bound;
+use routines::Naming;
+use routines::Post;
+use routines::Routines;
+use routines::due_of;
+use routines::is_due;
+use routines::nothing_due;
 use session_frame::Answer;
 use session_frame::AskFrame;
 use session_frame::OpenFrame;
@@ -29,7 +40,7 @@ use session_frame::ReportFrame;
 use state::CHANNELS;
 ghost use mathlib.Core.Path.{_≡_};
 ghost use Rattle.session_reply.specs.Replies.{answerOr, gotAnswer, reportAnswer};
-ghost use Rattle.session_reply.specs.Changes.{quietTold, openTold, closeTold, askChangeOn, skipTold, reportChangeOn, reportAreaOn, getTold, putTold, putAreaOn, sealTold, sealAreaOn};
+ghost use Rattle.session_reply.specs.Changes.{quietTold, openTold, closeTold, askedPost, askChangeOn, skipTold, isNamedAnswer, reportedPost, reportChangeOn, reportAreaOn, getTold, putTold, putAreaOn, sealTold, sealAreaOn, returnTold, runningTold};
 ghost use Prim.Native.Nat.{_*_};
 ghost use lib.Dec.{ltb};
 
@@ -88,21 +99,40 @@ pub fn closed(unsound: bool, f: File, c: Channel, file: u8) -> Told
     quiet(x.refusal, g)
 }
 
-pub fn asked(unsound: bool, frozen: bool, f: File, c: Channel, q: AskFrame) -> Change
-    ensures { λ r. ⌜ r ≡ askChangeOn unsound frozen f c q ⌝ }
+// The post of a unit after an ask: its request names a routine, or none.
+fn asked_post(refusal: u8, p: Post, naming: Naming) -> Post
+    ensures { λ r. ⌜ r ≡ askedPost refusal p naming ⌝ }
+{
+    if refusal != 0 {
+        return p;
+    }
+    let named = due_of(naming);
+    let due = p.due;
+    Post { named, due }
+}
+
+pub fn asked(unsound: bool, frozen: bool, f: File, c: Channel, p: Post, q: AskFrame) -> Change
+    ensures { λ r. ⌜ r ≡ askChangeOn unsound frozen f c p q ⌝ }
 {
     let i = q.file as usize;
-    let x = ask_on(unsound | (FILES <= i), f, c, q.op, q.priority, frozen);
+    let naming = q.naming;
+    let due = p.due;
+    let waits = is_due(due);
+    let wrong = unsound | (FILES <= i);
+    let x = ask_on(wrong, f, c, q.op, q.priority, naming, waits, frozen);
     let g = x.file;
     let d = x.channel;
     let working = x.working;
     let answer = answer_or(x.refusal, Answer::Asked { working });
+    let post = asked_post(x.refusal, p, naming);
     Change {
         answer,
         start: 0,
         count: 0,
         file: g,
         channel: d,
+        post,
+        looks: false,
     }
 }
 
@@ -135,6 +165,28 @@ fn report_answer(result: u8, delivery: Delivery, working: u8) -> Answer
     }
 }
 
+// Whether a report with that result answers a request that names a routine.
+fn is_named_answer(result: u8, p: Post) -> bool
+    ensures { λ r. ⌜ r ≡ isNamedAnswer result p ⌝ }
+{
+    let named = p.named;
+    let answers = answers_request(result);
+    let due = is_due(named);
+    answers & due
+}
+
+// The post of a unit after a report: the routine that the answered request names waits.
+fn reported_post(result: u8, p: Post) -> Post
+    ensures { λ r. ⌜ r ≡ reportedPost result p ⌝ }
+{
+    let due = p.named;
+    if is_named_answer(result, p) {
+        let named = nothing_due();
+        return Post { named, due };
+    }
+    p
+}
+
 pub fn reported(
     unsound: bool,
     m: u8,
@@ -142,11 +194,12 @@ pub fn reported(
     frozen: bool,
     f: File,
     c: Channel,
+    p: Post,
     q: ReportFrame,
     area: &mut [u64],
     words: &[u64],
 ) -> Change
-    ensures { λ r. ⌜ r ≡ reportChangeOn unsound m w frozen f c q (now (area .entry)) (now (words .entry)) ⌝ }
+    ensures { λ r. ⌜ r ≡ reportChangeOn unsound m w frozen f c p q (now (area .entry)) (now (words .entry)) ⌝ }
     ensures { λ _. ⌜ now (area .exit) ≡ reportAreaOn unsound m w f c q (now (area .entry)) (now (words .entry)) ⌝ }
 {
     let short = is_short(m, w, area.len());
@@ -169,12 +222,16 @@ pub fn reported(
     let delivery = x.delivery;
     let told = report_answer(x.result, delivery, x.working);
     let answer = answer_or(x.refusal, told);
+    let post = reported_post(x.result, p);
+    let looks = is_named_answer(x.result, p);
     Change {
         answer,
         start: x.start,
         count: x.count,
         file: g,
         channel: d,
+        post,
+        looks,
     }
 }
 
@@ -243,4 +300,27 @@ pub fn sealed(unsound: bool, m: u8, w: u16, f: File, file: u8, area: &mut [u64])
     let x = seal_on((FILES <= file as usize) | (short | unsound), f, w, area);
     let g = x.file;
     quiet(x.refusal, g)
+}
+
+// A return of the routine that runs.
+pub fn given_back(unsound: bool, frozen: bool, r: Routines) -> RoutineTold
+    ensures { λ t. ⌜ t ≡ returnTold unsound frozen r ⌝ }
+{
+    let x = return_on(unsound, frozen, r);
+    let entered = x.entered;
+    let program = x.program;
+    let answer = answer_or(x.refusal, Answer::Returned { entered, program });
+    let routines = x.routines;
+    RoutineTold { answer, routines }
+}
+
+// The question what runs.
+pub fn running(unsound: bool, r: Routines) -> RoutineTold
+    ensures { λ t. ⌜ t ≡ runningTold unsound r ⌝ }
+{
+    let x = running_on(unsound, r);
+    let program = x.program;
+    let answer = answer_or(x.refusal, Answer::Runs(program));
+    let routines = x.routines;
+    RoutineTold { answer, routines }
 }

@@ -2,15 +2,19 @@
 use crate::BINDING;
 use crate::Change;
 use crate::REQUEST;
+use crate::ROUTINE;
+use crate::RoutineTold;
 use crate::Told;
 use crate::WHOLE;
 use crate::changes::asked;
 use crate::changes::closed;
 use crate::changes::filled;
+use crate::changes::given_back;
 use crate::changes::got;
 use crate::changes::opened;
 use crate::changes::quiet;
 use crate::changes::reported;
+use crate::changes::running;
 use crate::changes::sealed;
 use crate::changes::skipped;
 use area::row;
@@ -24,6 +28,11 @@ use pack_start::frozen_state;
 use pack_start::thawed_state;
 use pool::FILES;
 use pool::file_of;
+use routines::Post;
+use routines::Routines;
+use routines::looked;
+use routines::post_at;
+use routines::with_post;
 use session_frame::Answer;
 use session_frame::Frame;
 use session_frame::FreshFrame;
@@ -32,8 +41,9 @@ use state::State;
 ghost use mathlib.Core.Path.{_≡_};
 ghost use Prim.Native.Nat.{_<_};
 ghost use Rattle.state.specs.Places.{channelCount};
-ghost use Rattle.session_reply.specs.Places.{placeOf, fileOr, fileKept, channelOr, channelKept, groupOf, namedFile, fileNumber, channelNumber, channelFor};
-ghost use Rattle.session_reply.specs.Turns.{wholeRefusal, wholeState, recordOf, recordArea, bindingOf, unaskedChange, requestOf, requestArea, recordAt, bindingAt, requestAt};
+ghost use Rattle.session_reply.specs.Places.{placeOf, fileOr, fileKept, channelOr, channelKept, groupOf, namedFile, fileNumber, channelNumber, unitNumber, channelFor, unitFor, isReturn};
+ghost use Rattle.session_reply.specs.Turns.{wholeRefusal, wholeState, recordOf, recordArea, bindingOf, unaskedChange, requestOf, requestArea, recordAt, bindingAt, requestAt, postedIn, isStill, routineOf};
+ghost use Rattle.routines.specs.Posts.{postAt};
 ghost use Rattle.pack_start.specs.Fresh.{freshRefusal, freshState};
 ghost use Rattle.session_reply.specs.Replies.{masksOf};
 
@@ -108,6 +118,8 @@ pub fn file_number(f: Frame, files: [File; FILES]) -> usize
         Frame::Skip(file) => file as usize,
         Frame::Freeze => FILES,
         Frame::Thaw => FILES,
+        Frame::Return => FILES,
+        Frame::Running => FILES,
     }
 }
 
@@ -128,6 +140,52 @@ fn channel_number(f: Frame, own: u8) -> usize
         Frame::Skip(_) => own as usize,
         Frame::Freeze => own as usize,
         Frame::Thaw => own as usize,
+        Frame::Return => own as usize,
+        Frame::Running => own as usize,
+    }
+}
+
+// The number of the unit that a frame concerns, by the file that it concerns.
+fn unit_number(f: Frame, own: u8) -> usize
+    ensures { λ r. ⌜ r ≡ unitNumber f own ⌝ }
+{
+    match f {
+        Frame::Malformed => own as usize,
+        Frame::Fresh(_) => own as usize,
+        Frame::Open(q) => q.unit as usize,
+        Frame::Close(_) => own as usize,
+        Frame::Ask(_) => own as usize,
+        Frame::Report(q) => q.unit as usize,
+        Frame::Get(_) => own as usize,
+        Frame::Put(_) => own as usize,
+        Frame::Seal(_) => own as usize,
+        Frame::Skip(_) => own as usize,
+        Frame::Freeze => own as usize,
+        Frame::Thaw => own as usize,
+        Frame::Return => own as usize,
+        Frame::Running => own as usize,
+    }
+}
+
+// Whether a frame is a return.
+fn is_return(f: Frame) -> bool
+    ensures { λ r. ⌜ r ≡ isReturn f ⌝ }
+{
+    match f {
+        Frame::Malformed => false,
+        Frame::Fresh(_) => false,
+        Frame::Open(_) => false,
+        Frame::Close(_) => false,
+        Frame::Ask(_) => false,
+        Frame::Report(_) => false,
+        Frame::Get(_) => false,
+        Frame::Put(_) => false,
+        Frame::Seal(_) => false,
+        Frame::Skip(_) => false,
+        Frame::Freeze => false,
+        Frame::Thaw => false,
+        Frame::Return => true,
+        Frame::Running => false,
     }
 }
 
@@ -148,6 +206,8 @@ pub fn group_of(f: Frame) -> u8
         Frame::Skip(_) => 0,
         Frame::Freeze => WHOLE,
         Frame::Thaw => WHOLE,
+        Frame::Return => ROUTINE,
+        Frame::Running => ROUTINE,
     }
 }
 
@@ -168,6 +228,8 @@ pub fn named_file(f: Frame) -> u8
         Frame::Skip(file) => file,
         Frame::Freeze => NONE,
         Frame::Thaw => NONE,
+        Frame::Return => NONE,
+        Frame::Running => NONE,
     }
 }
 
@@ -219,6 +281,8 @@ pub fn whole_refusal(unsound: bool, n: usize, f: Frame) -> u8
         Frame::Skip(_) => 1,
         Frame::Freeze => row(1, unsound, 0),
         Frame::Thaw => row(1, unsound, 0),
+        Frame::Return => 1,
+        Frame::Running => 1,
     }
 }
 
@@ -239,6 +303,8 @@ pub fn whole_state(s: State, f: Frame) -> State
         Frame::Skip(_) => s,
         Frame::Freeze => frozen_state(s),
         Frame::Thaw => thawed_state(s),
+        Frame::Return => s,
+        Frame::Running => s,
     }
 }
 
@@ -268,6 +334,8 @@ fn record_of(
         Frame::Skip(file) => skipped(unsound, f, file),
         Frame::Freeze => quiet(1, f),
         Frame::Thaw => quiet(1, f),
+        Frame::Return => quiet(1, f),
+        Frame::Running => quiet(1, f),
     }
 }
 
@@ -296,12 +364,14 @@ fn binding_of(
         Frame::Skip(_) => quiet(1, f),
         Frame::Freeze => quiet(1, f),
         Frame::Thaw => quiet(1, f),
+        Frame::Return => quiet(1, f),
+        Frame::Running => quiet(1, f),
     }
 }
 
 // A request that is refused, with what was passed.
-fn unasked(f: File, c: Channel) -> Change
-    ensures { λ r. ⌜ r ≡ unaskedChange f c ⌝ }
+fn unasked(f: File, c: Channel, p: Post) -> Change
+    ensures { λ r. ⌜ r ≡ unaskedChange f c p ⌝ }
 {
     let answer = Answer::Refused(1);
     Change {
@@ -310,6 +380,8 @@ fn unasked(f: File, c: Channel) -> Change
         count: 0,
         file: f,
         channel: c,
+        post: p,
+        looks: false,
     }
 }
 
@@ -322,25 +394,28 @@ fn request_of(
     frame: Frame,
     f: File,
     c: Channel,
+    p: Post,
     area: &mut [u64],
     words: &[u64],
 ) -> Change
-    ensures { λ r. ⌜ r ≡ requestOf unsound m w frozen frame f c (now (area .entry)) (now (words .entry)) ⌝ }
+    ensures { λ r. ⌜ r ≡ requestOf unsound m w frozen frame f c p (now (area .entry)) (now (words .entry)) ⌝ }
     ensures { λ _. ⌜ now (area .exit) ≡ requestArea unsound m w frame f c (now (area .entry)) (now (words .entry)) ⌝ }
 {
     match frame {
-        Frame::Malformed => unasked(f, c),
-        Frame::Fresh(_) => unasked(f, c),
-        Frame::Open(_) => unasked(f, c),
-        Frame::Close(_) => unasked(f, c),
-        Frame::Ask(q) => asked(unsound, frozen, f, c, q),
-        Frame::Report(q) => reported(unsound, m, w, frozen, f, c, q, area, words),
-        Frame::Get(_) => unasked(f, c),
-        Frame::Put(_) => unasked(f, c),
-        Frame::Seal(_) => unasked(f, c),
-        Frame::Skip(_) => unasked(f, c),
-        Frame::Freeze => unasked(f, c),
-        Frame::Thaw => unasked(f, c),
+        Frame::Malformed => unasked(f, c, p),
+        Frame::Fresh(_) => unasked(f, c, p),
+        Frame::Open(_) => unasked(f, c, p),
+        Frame::Close(_) => unasked(f, c, p),
+        Frame::Ask(q) => asked(unsound, frozen, f, c, p, q),
+        Frame::Report(q) => reported(unsound, m, w, frozen, f, c, p, q, area, words),
+        Frame::Get(_) => unasked(f, c, p),
+        Frame::Put(_) => unasked(f, c, p),
+        Frame::Seal(_) => unasked(f, c, p),
+        Frame::Skip(_) => unasked(f, c, p),
+        Frame::Freeze => unasked(f, c, p),
+        Frame::Thaw => unasked(f, c, p),
+        Frame::Return => unasked(f, c, p),
+        Frame::Running => unasked(f, c, p),
     }
 }
 
@@ -424,29 +499,88 @@ pub fn request_on(
     i: usize,
     old: File,
     was: Channel,
+    p: Post,
     area: &mut [u64],
     words: &[u64],
 ) -> Change
-    ensures { λ r. ⌜ r ≡ requestAt unsound m w frozen frame i old was (now (area .entry)) (now (words .entry)) ⌝ }
+    ensures { λ r. ⌜ r ≡ requestAt unsound m w frozen frame i old was p (now (area .entry)) (now (words .entry)) ⌝ }
     ensures { λ _. ⌜ now (area .exit) ≡ requestArea unsound m w frame (fileOr i old) (channelOr (channelFor frame i old) was) (now (area .entry)) (now (words .entry)) ⌝ }
 {
     let f = file_or(i, old);
     let j = channel_number(frame, f.channel);
     if (i < FILES) & (j < CHANNELS) {
-        return request_of(unsound, m, w, frozen, frame, old, was, area, words);
+        return request_of(unsound, m, w, frozen, frame, old, was, p, area, words);
     }
     let c = channel_or(j, was);
-    let x = request_of(unsound, m, w, frozen, frame, f, c, area, words);
+    let x = request_of(unsound, m, w, frozen, frame, f, c, p, area, words);
     let g = x.file;
     let d = x.channel;
     let answer = x.answer;
     let file = file_kept(i, g, old);
     let channel = channel_kept(j, d, was);
+    let post = x.post;
     Change {
         answer,
         start: x.start,
         count: x.count,
         file,
         channel,
+        post,
+        looks: x.looks,
     }
+}
+
+// The post of the unit that a frame concerns, where `old` stands at the place of its file i.
+pub fn post_for(frame: Frame, i: usize, old: File, r: Routines) -> Post
+    ensures { λ p. ⌜ p ≡ postAt r (channelFor frame i old) (unitFor frame i old) ⌝ }
+{
+    let f = file_or(i, old);
+    let j = channel_number(frame, f.channel);
+    let u = unit_number(frame, f.unit);
+    post_at(r, j, u)
+}
+
+// Whether a request leaves the routines as they are: the post is as it was, and the scheduler does not look.
+pub fn is_still(old: Post, new: Post, looks: bool) -> bool
+    ensures { λ r. ⌜ r ≡ isStill old new looks ⌝ }
+{
+    let a = old.named;
+    let b = old.due;
+    let c = new.named;
+    let d = new.due;
+    ((a.rank == c.rank) & (a.routine == c.routine))
+        & (((b.rank == d.rank) & (b.routine == d.routine)) & !looks)
+}
+
+// The routines with that post at the unit that a frame concerns, and after a look if there is one.
+pub fn posted(
+    r: Routines,
+    frozen: bool,
+    frame: Frame,
+    i: usize,
+    old: File,
+    p: Post,
+    looks: bool,
+) -> Routines
+    ensures { λ t. ⌜ t ≡ postedIn r frozen (channelFor frame i old) (unitFor frame i old) p looks ⌝ }
+{
+    let f = file_or(i, old);
+    let j = channel_number(frame, f.channel);
+    let u = unit_number(frame, f.unit);
+    let t = with_post(r, j, u, p);
+    if looks {
+        return looked(t, frozen);
+    }
+    t
+}
+
+// Return; of every other frame, what runs.
+pub fn routine_on(unsound: bool, frozen: bool, r: Routines, frame: Frame) -> RoutineTold
+    ensures { λ t. ⌜ t ≡ routineOf unsound frozen r frame ⌝ }
+{
+    let back = is_return(frame);
+    if back {
+        return given_back(unsound, frozen, r);
+    }
+    running(unsound, r)
 }

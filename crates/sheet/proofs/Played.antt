@@ -20,7 +20,7 @@ use Rattle.session_frame.specs.declared.Frame.the-variants.{Malformed}
 use Rattle.session_frame.specs.Frames.{longest, isText, sized, freshFrom, kindBy, kindOf, frameOf}
 use Rattle.session_frame.proofs.Laws.Accepts.{frame-long}
 use Rattle.session_frame.specs.declared.Answer.{Answer}
-use Rattle.session_frame.specs.declared.Answer.the-variants.{Refused, Done, Asked, Reported, Delivered, Got, GotError}
+use Rattle.session_frame.specs.declared.Answer.the-variants.{Refused, Done, Asked, Reported, Delivered, Got, GotError, Returned, Runs}
 use Rattle.session_frame.specs.Answers.{answerBytes, answerText}
 use Rattle.session_line.specs.declared.Line.{Line}
 use Rattle.session_line.specs.declared.Step.{Step as LineStep}
@@ -148,6 +148,8 @@ text-some (Reported r w) ws = pair-some 0 _
 text-some (Delivered r x w) ws = pair-some 0 _
 text-some (Got n) ws = pair-some 0 _
 text-some (GotError n x) ws = pair-some 0 _
+text-some (Returned e p) ws = pair-some 0 _
+text-some (Runs p) ws = pair-some 0 _
 
 answer-some : (s : State) (area line : List ℕ) → 3 ≤ length (textOf (answerTo s area line))
 unfolding textOf

@@ -8,7 +8,7 @@ use lib.ListN.{getD}
 use Rattle.session_frame.specs.declared.AskFrame.{AskFrame}
 use Rattle.session_frame.specs.declared.ReportFrame.{ReportFrame}
 use Rattle.session_frame.specs.declared.Frame.{Frame}
-use Rattle.session_frame.specs.declared.Frame.the-variants.{Malformed, Fresh, Open, Close, Ask, Report, Get, Put, Seal, Skip, Freeze, Thaw}
+use Rattle.session_frame.specs.declared.Frame.the-variants.{Malformed, Fresh, Open, Close, Ask, Report, Get, Put, Seal, Skip, Freeze, Thaw, Return, Running}
 use Rattle.state.specs.declared.State.{State}
 use Rattle.state.specs.Places.{fileAt}
 use Rattle.sheet.specs.declared.Event.{Event}
@@ -70,3 +70,5 @@ eventOf s (Seal file) text = noEvent
 eventOf s (Skip file) text = noEvent
 eventOf s Freeze text = noEvent
 eventOf s Thaw text = noEvent
+eventOf s Return text = noEvent
+eventOf s Running text = noEvent

@@ -122,5 +122,7 @@ pub fn event_of(s: State, f: Frame, text: &[u8]) -> Event
         Frame::Skip(_) => no_event(),
         Frame::Freeze => no_event(),
         Frame::Thaw => no_event(),
+        Frame::Return => no_event(),
+        Frame::Running => no_event(),
     }
 }

@@ -10,14 +10,15 @@ use lib.ListN.{length}
 use Rattle.area.specs.Lists.{allOf}
 use Rattle.area.proofs.Walks.{by-test, and-left, and-right, and-both}
 use Rattle.channel_outcomes.specs.Rules.{redundancy, noLength}
+use Rattle.routines.specs.Posts.{noNaming}
 use Rattle.session_frame.specs.Digits.{isDigit, bytesOf, byteDigits, isByte, concatMap}
 use Rattle.session_frame.specs.Fields.{byteAt, sizeAt}
 use Rattle.session_frame.proofs.Laws.Writes.{length-byte, length-concat}
 use Rattle.session_frame.proofs.Laws.Trips.{bytes-back, digits-are}
 use Rattle.session_frame.specs.declared.Frame.{Frame}
-use Rattle.session_frame.specs.declared.Frame.the-variants.{Malformed, Close, Report, Get, Put, Seal, Skip, Freeze, Thaw}
-use Rattle.session_frame.specs.Frames.{longest, isText, sized, worded, wordCount, freshFrom, openFrom, askFrom, reportHead, lengthHead, showsLength, reportWith, reportFrom, putFrom, kindBy, kindOf, frameOf}
-use Rattle.session_frame.specs.Formed.{Kind, fresh, opens, close, ask, report, measured, get, put, seal, skip, freeze, thaw, WellFormed, Accepted}
+use Rattle.session_frame.specs.declared.Frame.the-variants.{Malformed, Close, Report, Get, Put, Seal, Skip, Freeze, Thaw, Return, Running}
+use Rattle.session_frame.specs.Frames.{longest, isText, sized, worded, wordCount, freshFrom, openFrom, askWith, namingIn, plainAsk, namingAsk, askFrom, reportHead, lengthHead, showsLength, reportWith, reportFrom, putFrom, kindBy, kindOf, frameOf}
+use Rattle.session_frame.specs.Formed.{Kind, fresh, opens, close, ask, naming, report, measured, get, put, seal, skip, freeze, thaw, returning, running, WellFormed, Accepted}
 use Rattle.session_frame.proofs.Laws.Sizes.{worded-yes, report-plain, report-measured, text-long, frame-text, frame-other}
 
 -- the frame is not Malformed
@@ -56,20 +57,28 @@ report-exact k n b e =
     (λ r a. kind-at e (worded-exact n lengthHead _ a) (measured (wordCount n lengthHead) (eqb-true (byteAt b 3) redundancy r))) (λ a. absurd (a refl)))
     (λ a. kind-at e (worded-exact n reportHead _ a) (report (wordCount n reportHead)))
 
+ask-exact : (k n : ℕ) (b : List ℕ) → k ≡ 3 → Decoded (askFrom n b) → Kind (byteAt b 3) k n
+unfolding askFrom
+ask-exact k n b e =
+    either (eqb n namingAsk) (askWith (namingIn b) b) (sized n plainAsk (askWith noNaming b)) (λ s a. kind-at e (eqb-true n namingAsk s) naming)
+    (λ a. kind-at e (sized-exact n plainAsk _ a) ask)
+
 kind-exact : (k n : ℕ) (b : List ℕ) → Decoded (kindBy k n b) → Kind (byteAt b 3) k n
-unfolding kindBy freshFrom openFrom askFrom putFrom
+unfolding kindBy freshFrom openFrom putFrom
 kind-exact k n b =
     either (eqb k 0) (freshFrom n b) _ (λ e a. kind-at (eqb-true k 0 e) (sized-exact n 14 _ a) fresh)
     (either (eqb k 1) (openFrom n b) _ (λ e a. kind-at (eqb-true k 1 e) (sized-exact n 9 _ a) opens)
     (either (eqb k 2) (sized n 2 (Close (byteAt b 1))) _ (λ e a. kind-at (eqb-true k 2 e) (sized-exact n 2 _ a) close)
-    (either (eqb k 3) (askFrom n b) _ (λ e a. kind-at (eqb-true k 3 e) (sized-exact n 4 _ a) ask)
+    (either (eqb k 3) (askFrom n b) _ (λ e a. ask-exact k n b (eqb-true k 3 e) a)
     (either (eqb k 4) (reportFrom n b) _ (λ e a. report-exact k n b (eqb-true k 4 e) a)
     (either (eqb k 5) (sized n 2 (Get (byteAt b 1))) _ (λ e a. kind-at (eqb-true k 5 e) (sized-exact n 2 _ a) get)
     (either (eqb k 6) (putFrom n b) _ (λ e a. kind-at (eqb-true k 6 e) (worded-exact n 2 _ a) (put (wordCount n 2)))
     (either (eqb k 7) (sized n 2 (Seal (byteAt b 1))) _ (λ e a. kind-at (eqb-true k 7 e) (sized-exact n 2 _ a) seal)
     (either (eqb k 8) (sized n 2 (Skip (byteAt b 1))) _ (λ e a. kind-at (eqb-true k 8 e) (sized-exact n 2 _ a) skip)
     (either (eqb k 9) (sized n 1 Freeze) _ (λ e a. kind-at (eqb-true k 9 e) (sized-exact n 1 _ a) freeze)
-    (either (eqb k 10) (sized n 1 Thaw) Malformed (λ e a. kind-at (eqb-true k 10 e) (sized-exact n 1 _ a) thaw) (λ a. absurd (a refl))))))))))))
+    (either (eqb k 10) (sized n 1 Thaw) _ (λ e a. kind-at (eqb-true k 10 e) (sized-exact n 1 _ a) thaw)
+    (either (eqb k 11) (sized n 1 Return) _ (λ e a. kind-at (eqb-true k 11 e) (sized-exact n 1 _ a) returning)
+    (either (eqb k 12) (sized n 1 Running) Malformed (λ e a. kind-at (eqb-true k 12 e) (sized-exact n 1 _ a) running) (λ a. absurd (a refl))))))))))))))
 
 -- ---- what is of its kind and size is accepted
 
@@ -97,11 +106,12 @@ module _ (words : ℕ) (b : List ℕ) where
       ∙ worded-whole (lengthHead + 5 * words) lengthHead words _ refl
 
 kind-accepted : (k n : ℕ) (b : List ℕ) → Kind (byteAt b 3) k n → Decoded (kindBy k n b)
-unfolding kindBy freshFrom openFrom askFrom putFrom sized frame-with
+unfolding kindBy freshFrom openFrom askFrom askWith putFrom sized frame-with
 kind-accepted k n b fresh e = let z : _≡_ {A = ℕ} 0 1 = cc in omega arith
 kind-accepted k n b opens e = let z : _≡_ {A = ℕ} 0 1 = cc in omega arith
 kind-accepted k n b close e = let z : _≡_ {A = ℕ} 0 1 = cc in omega arith
 kind-accepted k n b ask e = let z : _≡_ {A = ℕ} 0 1 = cc in omega arith
+kind-accepted k n b naming e = let z : _≡_ {A = ℕ} 0 1 = cc in omega arith
 kind-accepted k n b (report words) e =
     let g = sym (report-whole words b) ∙ e in
     let z : _≡_ {A = ℕ} 0 1 = cc in omega arith
@@ -116,6 +126,8 @@ kind-accepted k n b seal e = let z : _≡_ {A = ℕ} 0 1 = cc in omega arith
 kind-accepted k n b skip e = let z : _≡_ {A = ℕ} 0 1 = cc in omega arith
 kind-accepted k n b freeze e = let z : _≡_ {A = ℕ} 0 1 = cc in omega arith
 kind-accepted k n b thaw e = let z : _≡_ {A = ℕ} 0 1 = cc in omega arith
+kind-accepted k n b returning e = let z : _≡_ {A = ℕ} 0 1 = cc in omega arith
+kind-accepted k n b running e = let z : _≡_ {A = ℕ} 0 1 = cc in omega arith
 
 -- ---- the theorem
 

@@ -16,8 +16,8 @@ use Rattle.session_frame.proofs.Laws.Bytes.{length-bytes, length-words,
 use Rattle.session_frame.specs.declared.Frame.{Frame}
 use Rattle.session_frame.specs.declared.ReportFrame.{ReportFrame}
 use Rattle.session_frame.specs.declared.PutFrame.{PutFrame}
-use Rattle.session_frame.specs.declared.Frame.the-variants.{Malformed, Fresh, Open, Close, Ask, Report, Get, Put, Seal, Skip, Freeze, Thaw}
-use Rattle.session_frame.specs.Frames.{longest, isText, sized, worded, wordCount, freshFrom, openFrom, askFrom, reportHead, lengthHead, showsLength, reportWith, reportFrom, wordsAt, putFrom, kindBy, kindOf, frameOf, wordsFrom}
+use Rattle.session_frame.specs.declared.Frame.the-variants.{Malformed, Fresh, Open, Close, Ask, Report, Get, Put, Seal, Skip, Freeze, Thaw, Return, Running}
+use Rattle.session_frame.specs.Frames.{longest, isText, sized, worded, wordCount, freshFrom, openFrom, askWith, namingAsk, askFrom, reportHead, lengthHead, showsLength, reportWith, reportFrom, wordsAt, putFrom, kindBy, kindOf, frameOf, wordsFrom}
 use Rattle.session_frame.proofs.Laws.Sizes.{words-plain, words-measured, frame-text, frame-other}
 
 -- the count of words that a frame holds is exact, in a line of n bytes
@@ -34,6 +34,8 @@ Exact (Seal f) n = Unit {0}
 Exact (Skip f) n = Unit {0}
 Exact Freeze n = Unit {0}
 Exact Thaw n = Unit {0}
+Exact Return n = Unit {0}
+Exact Running n = Unit {0}
 
 either : (t : Bool) (x y : Frame) (n : ℕ) → Exact x n → Exact y n → Exact (cond t x y) n
 either true x y n p q = p
@@ -61,19 +63,21 @@ exact-report n b small =
     (exact-worded n reportHead (Report plain) (λ x. omega (arith, x, words-plain plain refl)))
 
 exact-kind : (k n : ℕ) (b : List ℕ) → sizeAt b 4 < noLength → Exact (kindBy k n b) n
-unfolding kindBy freshFrom openFrom askFrom putFrom sized Exact
+unfolding kindBy freshFrom openFrom askFrom askWith putFrom sized Exact
 exact-kind k n b small =
     either (eqb k 0) _ _ n (either (eqb n 14) _ _ n tt tt)
     (either (eqb k 1) _ _ n (either (eqb n 9) _ _ n tt tt)
     (either (eqb k 2) _ _ n (either (eqb n 2) _ _ n tt tt)
-    (either (eqb k 3) _ _ n (either (eqb n 4) _ _ n tt tt)
+    (either (eqb k 3) _ _ n (either (eqb n namingAsk) _ _ n tt (either (eqb n 4) _ _ n tt tt))
     (either (eqb k 4) _ _ n (exact-report n b small)
     (either (eqb k 5) _ _ n (either (eqb n 2) _ _ n tt tt)
     (either (eqb k 6) _ _ n (exact-worded n 2 (Put (record { file = byteAt b 1; words = wordCount n 2 })) (λ x. x))
     (either (eqb k 7) _ _ n (either (eqb n 2) _ _ n tt tt)
     (either (eqb k 8) _ _ n (either (eqb n 2) _ _ n tt tt)
     (either (eqb k 9) _ _ n (either (eqb n 1) _ _ n tt tt)
-    (either (eqb k 10) _ _ n (either (eqb n 1) _ _ n tt tt) tt))))))))))
+    (either (eqb k 10) _ _ n (either (eqb n 1) _ _ n tt tt)
+    (either (eqb k 11) _ _ n (either (eqb n 1) _ _ n tt tt)
+    (either (eqb k 12) _ _ n (either (eqb n 1) _ _ n tt tt) tt))))))))))))
 
 -- of a whole line: exact, and a line that holds a frame is not too long
 exact-frame : (line : List ℕ) → Exact (frameOf line) (length line / 2) × ((frameOf line ≡ Malformed → ⊥) → length line ≤ longest)

@@ -9,13 +9,14 @@ use lib.Dec.{eqb}
 use lib.ListN.{length}
 use Rattle.area.specs.Lists.{allOf}
 use Rattle.channel_outcomes.specs.Rules.{redundancy, noLength}
+use Rattle.routines.specs.Posts.{noNaming}
 use Rattle.session_frame.specs.Digits.{isDigit, bytesOf}
 use Rattle.session_frame.specs.Fields.{byteAt, sizeAt}
 use Rattle.session_frame.proofs.Laws.Bytes.{length-bytes}
 use Rattle.session_frame.specs.declared.ReportFrame.{ReportFrame}
 use Rattle.session_frame.specs.declared.Frame.{Frame}
 use Rattle.session_frame.specs.declared.Frame.the-variants.{Malformed}
-use Rattle.session_frame.specs.Frames.{longest, isText, sized, worded, wordCount, reportHead, lengthHead, showsLength, reportWith, reportFrom, wordsAt, kindBy, kindOf, frameOf}
+use Rattle.session_frame.specs.Frames.{longest, isText, sized, worded, wordCount, askWith, namingIn, plainAsk, namingAsk, askFrom, reportHead, lengthHead, showsLength, reportWith, reportFrom, wordsAt, kindBy, kindOf, frameOf}
 
 module _ (n size : ℕ) (f : Frame) where
   pub sized-yes : n ≡ size → sized n size f ≡ f
@@ -41,6 +42,17 @@ module _ (n size : ℕ) (f : Frame) where
 pub words-none : (n head : ℕ) → n < head → wordCount n head ≡ 0
 unfolding wordCount
 words-none n head h = let e : n - head ≡ 0 = omega arith in rw e
+
+-- ---- whether an ask names a routine
+
+module _ (n : ℕ) (b : List ℕ) where
+  pub ask-named : n ≡ namingAsk → askFrom n b ≡ askWith (namingIn b) b
+  unfolding askFrom
+  ask-named h = rw (eq-eqb n namingAsk h)
+
+  pub ask-plain : (n ≡ namingAsk → ⊥) → askFrom n b ≡ sized n plainAsk (askWith noNaming b)
+  unfolding askFrom
+  ask-plain h = rw (ne-eqb n namingAsk h)
 
 -- ---- the length of a report
 
@@ -86,9 +98,10 @@ unfolding kindOf
 kind-is k n b h = rw h
 
 pub kind-none : (k n : ℕ) (b : List ℕ) → (k ≡ 0 → ⊥) → (k ≡ 1 → ⊥) → (k ≡ 2 → ⊥) → (k ≡ 3 → ⊥) → (k ≡ 4 → ⊥) → (k ≡ 5 → ⊥)
-    → (k ≡ 6 → ⊥) → (k ≡ 7 → ⊥) → (k ≡ 8 → ⊥) → (k ≡ 9 → ⊥) → (k ≡ 10 → ⊥) → kindBy k n b ≡ Malformed
+    → (k ≡ 6 → ⊥) → (k ≡ 7 → ⊥) → (k ≡ 8 → ⊥) → (k ≡ 9 → ⊥) → (k ≡ 10 → ⊥) → (k ≡ 11 → ⊥)
+    → (k ≡ 12 → ⊥) → kindBy k n b ≡ Malformed
 unfolding kindBy
-kind-none k n b h0 h1 h2 h3 h4 h5 h6 h7 h8 h9 h10 =
+kind-none k n b h0 h1 h2 h3 h4 h5 h6 h7 h8 h9 h10 h11 h12 =
     rw (
       ne-eqb k 0 h0,
       ne-eqb k 1 h1,
@@ -101,6 +114,8 @@ kind-none k n b h0 h1 h2 h3 h4 h5 h6 h7 h8 h9 h10 =
       ne-eqb k 8 h8,
       ne-eqb k 9 h9,
       ne-eqb k 10 h10,
+      ne-eqb k 11 h11,
+      ne-eqb k 12 h12,
     )
 
 -- ---- a whole line

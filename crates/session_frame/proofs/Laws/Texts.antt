@@ -17,7 +17,7 @@ use Rattle.session_frame.specs.Writes.{placeAfter}
 use Rattle.session_frame.proofs.Laws.Writes.{length-byte, length-word, length-concat, written, unwritten, paste-more, words-left}
 use Rattle.session_frame.proofs.Laws.Trips.{concat-append, words-by-bytes}
 use Rattle.session_frame.specs.declared.Answer.{Answer}
-use Rattle.session_frame.specs.declared.Answer.the-variants.{Refused, Done, Asked, Reported, Delivered, Got, GotError}
+use Rattle.session_frame.specs.declared.Answer.the-variants.{Refused, Done, Asked, Reported, Delivered, Got, GotError, Returned, Runs}
 use Rattle.session_frame.specs.declared.Lead.{Lead}
 use Rattle.session_frame.specs.Answers.{answerBytes, answerText}
 use Rattle.session_frame.specs.Leads.{leadOf, leadBytes, shownOf}
@@ -40,6 +40,8 @@ leads-is (Reported r u) = record { some = omega arith; most = omega arith; worde
 leads-is (Delivered r c u) = record { some = omega arith; most = omega arith; worded-most = λ e. true-not-false e refl; long = refl; counts = refl; whole = λ ws. refl }
 leads-is (Got n) = record { some = omega arith; most = omega arith; worded-most = λ e. omega arith; long = refl; counts = refl; whole = λ ws. refl }
 leads-is (GotError n c) = record { some = omega arith; most = omega arith; worded-most = λ e. true-not-false e refl; long = refl; counts = refl; whole = λ ws. refl }
+leads-is (Returned e p) = record { some = omega arith; most = omega arith; worded-most = λ e. true-not-false e refl; long = refl; counts = refl; whole = λ ws. refl }
+leads-is (Runs p) = record { some = omega arith; most = omega arith; worded-most = λ e. true-not-false e refl; long = refl; counts = refl; whole = λ ws. refl }
 
 pub leads : (a : Answer) (l : Lead) → l ≡ leadOf a → Leads a l
 leads a l e = subst (λ (x : Lead). Leads a x) (sym e) (leads-is a)

@@ -20,6 +20,9 @@ has-full-requires c κs = search needs
 has-unsent-requires : tie.Need-has-unsent-requires
 has-unsent-requires c κs = search needs
 
+naming-wrong-requires : tie.Need-naming-wrong-requires
+naming-wrong-requires c κs = search needs
+
 row-requires : tie.Need-row-requires
 row-requires c κs = search needs
 
@@ -43,7 +46,7 @@ row-requires-7 c κs = search needs
 
 returns : tie.Need-returns
 unfolding lowest askRefusal
-returns c = simp (c .row7 .ensures, c .before .row6 .ensures, c .before .before .row5 .ensures, c .before .before .before .row4 .ensures, c .before .before .before .before .row3 .ensures, c .before .before .before .before .before .row2 .ensures, c .before .before .before .before .before .before .row .ensures, c .before .before .before .before .before .before .before .before .before .before .before .before .before .before .has-request .ensures, c .before .before .before .before .before .before .before .before .before .before .before .before .before .has-empty .ensures, c .before .before .before .before .before .before .before .before .before .before .before .before .has-full .ensures, c .before .before .before .before .before .before .before .before .before .before .before .has-unsent .ensures)
+returns c = simp (c .row7 .ensures, c .before .row6 .ensures, c .before .before .row5 .ensures, c .before .before .before .row4 .ensures, c .before .before .before .before .row3 .ensures, c .before .before .before .before .before .row2 .ensures, c .before .before .before .before .before .before .row .ensures, c .before .before .before .before .before .before .before .before .before .before .before .before .before .before .before .has-request .ensures, c .before .before .before .before .before .before .before .before .before .before .before .before .before .before .has-empty .ensures, c .before .before .before .before .before .before .before .before .before .before .before .before .before .has-full .ensures, c .before .before .before .before .before .before .before .before .before .before .before .before .has-unsent .ensures, c .before .before .before .before .before .before .before .before .before .before .before .naming-wrong .ensures)
 
 pub ask-refusal-spec : {M : Type 1} → statement M
 ask-refusal-spec =
@@ -54,6 +57,7 @@ ask-refusal-spec =
     has-empty-requires
     has-full-requires
     has-unsent-requires
+    naming-wrong-requires
     row-requires
     row-requires-2
     row-requires-3

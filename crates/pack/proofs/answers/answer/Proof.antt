@@ -2,7 +2,7 @@
 use mathlib.Core.Path.{refl}
 use Rattle.pack.specs.Calls.{answerOf}
 use Rattle.pack_record.specs.Gets.{getWords}
-use Rattle.pack.proofs.Answering.{plain-as, asked-as, told-as, given-as}
+use Rattle.pack.proofs.Answering.{plain-as, asked-as, told-as, given-as, returned-as, runs-as}
 use borrow.Author.Needs.{needs}
 use Rattle.pack.proofs.answers.answer.Statement.{statement}
 use Rattle.pack.proofs.answers.answer.Tie as tie
@@ -106,6 +106,24 @@ thaw-requires c κs = search needs
 plain-requires-8 : tie.Need-plain-requires-8
 plain-requires-8 c κs = search needs
 
+enum-told-3 : tie.Need-enum-told-3
+enum-told-3 c = search needs
+
+give-back-requires : tie.Need-give-back-requires
+give-back-requires c κs = search needs
+
+returned-requires : tie.Need-returned-requires
+returned-requires c κs = search needs
+
+enum-told-4 : tie.Need-enum-told-4
+enum-told-4 c = search needs
+
+what-runs-requires : tie.Need-what-runs-requires
+what-runs-requires c κs = search needs
+
+runs-requires : tie.Need-runs-requires
+runs-requires c κs = search needs
+
 same-length : tie.Need-same-length
 same-length c = search needs
 
@@ -165,6 +183,14 @@ returns-11 : tie.Need-returns-11
 unfolding answerOf
 returns-11 c = rw (c .before .before .enum-told2 .given .1) (plain-as _ _ _ refl _ _ (c .plain8 .ensures) (c .before .thaw .ensures))
 
+returns-12 : tie.Need-returns-12
+unfolding answerOf
+returns-12 c = rw (c .before .before .enum-told3 .given .1) (returned-as _ _ _ refl _ _ (c .returned .ensures) (c .before .give-back .ensures))
+
+returns-13 : tie.Need-returns-13
+unfolding answerOf
+returns-13 c = rw (c .before .before .enum-told4 .given .1) (runs-as _ _ _ refl _ _ (c .runs .ensures) (c .before .what-runs .ensures))
+
 pub answer-spec : {M : Type 1} → statement M
 answer-spec =
     tie.close
@@ -202,6 +228,12 @@ answer-spec =
     enum-told-2
     thaw-requires
     plain-requires-8
+    enum-told-3
+    give-back-requires
+    returned-requires
+    enum-told-4
+    what-runs-requires
+    runs-requires
     same-length
     returns
     returns-2
@@ -217,4 +249,6 @@ answer-spec =
     returns-8
     returns-9
     returns-10
-    returns-11)
+    returns-11
+    returns-12
+    returns-13)

@@ -23,6 +23,9 @@ channel-at-requires c κs = search needs
 report-on-requires : tie.Need-report-on-requires
 report-on-requires c κs = search needs
 
+reported-routines-requires : tie.Need-reported-routines-requires
+reported-routines-requires c κs = search needs
+
 changed-state-requires : tie.Need-changed-state-requires
 changed-state-requires c κs = search needs
 
@@ -31,9 +34,9 @@ same-length c = search needs
 
 returns : tie.Need-returns
 returns c =
-    let a = c .before .before .before .before .before .before .before .before .before .before .before .before .before .before .before .args in (
-      report-whole (a .s) (a .area .now) (a .channel) (a .unit) (a .outcome) (a .length) (a .words .now) _ _ _ _ _ (c .before .before .before .before .before .before .before .before .before .file-of .ensures) (c .before .before .before .before .before .before .before .before .file-at .ensures) (c .before .before .before .before .before .before .before .channel-at .ensures) (c .before .before .before .before .before .before .before .before .before .before .before .is-sound .ensures) (c .before .before .before .before .before .before .before .before .before .before .before .before .area-short .ensures) _ _ (c .before .before .before .before .before .report-on .ensures .0) (c .changed-state .ensures),
-      c .before .before .before .before .before .report-on .ensures .1 ∙ report-area (a .s) (a .area .now) (a .channel) (a .unit) (a .outcome) (a .length) (a .words .now) _ _ _ _ _ (c .before .before .before .before .before .before .before .before .before .file-of .ensures) (c .before .before .before .before .before .before .before .before .file-at .ensures) (c .before .before .before .before .before .before .before .channel-at .ensures) (c .before .before .before .before .before .before .before .before .before .before .before .is-sound .ensures) (c .before .before .before .before .before .before .before .before .before .before .before .before .area-short .ensures),
+    let a = c .before .before .before .before .before .before .before .before .before .before .before .before .before .before .before .before .before .args in (
+      report-whole (a .s) (a .area .now) (a .channel) (a .unit) (a .outcome) (a .length) (a .words .now) _ _ _ _ _ (c .before .before .before .before .before .before .before .before .before .before .before .file-of .ensures) (c .before .before .before .before .before .before .before .before .before .before .file-at .ensures) (c .before .before .before .before .before .before .before .before .before .channel-at .ensures) (c .before .before .before .before .before .before .before .before .before .before .before .before .before .is-sound .ensures) (c .before .before .before .before .before .before .before .before .before .before .before .before .before .before .area-short .ensures) _ _ _ (c .before .before .before .before .before .before .before .report-on .ensures .0) (c .before .reported-routines .ensures) (c .changed-state .ensures),
+      c .before .before .before .before .before .before .before .report-on .ensures .1 ∙ report-area (a .s) (a .area .now) (a .channel) (a .unit) (a .outcome) (a .length) (a .words .now) _ _ _ _ _ (c .before .before .before .before .before .before .before .before .before .before .before .file-of .ensures) (c .before .before .before .before .before .before .before .before .before .before .file-at .ensures) (c .before .before .before .before .before .before .before .before .before .channel-at .ensures) (c .before .before .before .before .before .before .before .before .before .before .before .before .before .is-sound .ensures) (c .before .before .before .before .before .before .before .before .before .before .before .before .before .before .area-short .ensures),
     )
 
 pub report-spec : {M : Type 1} → statement M
@@ -46,6 +49,7 @@ report-spec =
     file-at-requires
     channel-at-requires
     report-on-requires
+    reported-routines-requires
     changed-state-requires
     same-length
     returns)

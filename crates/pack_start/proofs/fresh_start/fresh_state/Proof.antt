@@ -1,4 +1,4 @@
--- `pack_start::fresh_state` meets its contract, from the contracts of `fresh` and `closed_file`. Assumes nothing.
+-- `pack_start::fresh_state` meets its contract, from the contracts of `fresh`, `closed_file`, `all_free` and `no_routines`. Assumes nothing.
 use Rattle.pack_start.specs.Fresh.{freshState}
 use borrow.Author.Needs.{needs}
 use Rattle.pack_start.proofs.fresh_start.fresh_state.Statement.{statement}
@@ -25,9 +25,12 @@ closed-file-requires c κs = search needs
 all-free-requires : tie.Need-all-free-requires
 all-free-requires c κs = search needs
 
+no-routines-requires : tie.Need-no-routines-requires
+no-routines-requires c κs = search needs
+
 returns : tie.Need-returns
 unfolding freshState
-returns c = simp (c .before .before .before .before .before .before .fresh .ensures, c .before .before .before .before .before .fresh2 .ensures, c .before .before .before .before .fresh3 .ensures, c .before .before .before .fresh4 .ensures, c .before .before .fresh5 .ensures, c .before .closed-file .ensures, c .all-free .ensures)
+returns c = simp (c .before .before .before .before .before .before .before .fresh .ensures, c .before .before .before .before .before .before .fresh2 .ensures, c .before .before .before .before .before .fresh3 .ensures, c .before .before .before .before .fresh4 .ensures, c .before .before .before .fresh5 .ensures, c .before .before .closed-file .ensures, c .before .all-free .ensures, c .no-routines .ensures)
 
 pub fresh-state-spec : {M : Type 1} → statement M
 fresh-state-spec =
@@ -40,4 +43,5 @@ fresh-state-spec =
     fresh-requires-5
     closed-file-requires
     all-free-requires
+    no-routines-requires
     returns)

@@ -55,6 +55,12 @@ enum-told-10 c = search needs
 enum-told-11 : tie.Need-enum-told-11
 enum-told-11 c = search needs
 
+enum-told-12 : tie.Need-enum-told-12
+enum-told-12 c = search needs
+
+enum-told-13 : tie.Need-enum-told-13
+enum-told-13 c = search needs
+
 returns : tie.Need-returns
 unfolding givenIn
 returns c = (rw (c .enum-told .given .1), rw (c .enum-told .given .1) (sym (paste-nothing 0 (c .before .before .before .before .args .room .now))))
@@ -113,6 +119,14 @@ returns-12 : tie.Need-returns-12
 unfolding givenIn
 returns-12 c = (rw (c .enum-told11 .given .1), rw (c .enum-told11 .given .1) (sym (paste-nothing 0 (c .before .before .before .before .args .room .now))))
 
+returns-13 : tie.Need-returns-13
+unfolding givenIn
+returns-13 c = (rw (c .enum-told12 .given .1), rw (c .enum-told12 .given .1) (sym (paste-nothing 0 (c .before .before .before .before .args .room .now))))
+
+returns-14 : tie.Need-returns-14
+unfolding givenIn
+returns-14 c = (rw (c .enum-told13 .given .1), rw (c .enum-told13 .given .1) (sym (paste-nothing 0 (c .before .before .before .before .args .room .now))))
+
 pub given-spec : {M : Type 1} → statement M
 given-spec =
     tie.close
@@ -132,6 +146,8 @@ given-spec =
     enum-told-9
     enum-told-10
     enum-told-11
+    enum-told-12
+    enum-told-13
     returns
     returns-2
     returns-3
@@ -145,4 +161,6 @@ given-spec =
     returns-9
     returns-10
     returns-11
-    returns-12)
+    returns-12
+    returns-13
+    returns-14)

@@ -47,6 +47,18 @@ enum-known-a-6 c = search needs
 full-requires-2 : tie.Need-full-requires-2
 full-requires-2 c κs = search needs
 
+enum-known-a-7 : tie.Need-enum-known-a-7
+enum-known-a-7 c = search needs
+
+returned-requires : tie.Need-returned-requires
+returned-requires c κs = search needs
+
+enum-known-a-8 : tie.Need-enum-known-a-8
+enum-known-a-8 c = search needs
+
+runs-requires : tie.Need-runs-requires
+runs-requires c κs = search needs
+
 returns : tie.Need-returns
 returns c = c .brief .ensures ∙ sym (ap leadOf (c .before .before .a .given .1))
 
@@ -68,6 +80,12 @@ returns-6 c = c .brief5 .ensures ∙ sym (ap leadOf (c .before .before .a5 .give
 returns-7 : tie.Need-returns-7
 returns-7 c = c .full2 .ensures ∙ sym (ap leadOf (c .before .before .a6 .given .1))
 
+returns-8 : tie.Need-returns-8
+returns-8 c = c .returned .ensures ∙ sym (ap leadOf (c .before .before .a7 .given .1))
+
+returns-9 : tie.Need-returns-9
+returns-9 c = c .runs .ensures ∙ sym (ap leadOf (c .before .before .a8 .given .1))
+
 pub lead-of-spec : {M : Type 1} → statement M
 lead-of-spec =
     tie.close
@@ -86,10 +104,16 @@ lead-of-spec =
     brief-requires-5
     enum-known-a-6
     full-requires-2
+    enum-known-a-7
+    returned-requires
+    enum-known-a-8
+    runs-requires
     returns
     returns-2
     returns-3
     returns-4
     returns-5
     returns-6
-    returns-7)
+    returns-7
+    returns-8
+    returns-9)

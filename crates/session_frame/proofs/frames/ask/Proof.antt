@@ -1,27 +1,51 @@
--- `session_frame::frames::ask` meets its contract: each number is the field that its definition names. Assumes nothing.
+-- `session_frame::frames::ask` meets its contract, by whether its size is that of one that names a routine. Assumes nothing.
 use borrow.Author.Needs.{needs}
-use mathlib.Core.Path.{_∙_}
-use Rattle.session_frame.specs.Frames.{askFrom}
+use mathlib.Core.Path.{sym, ap, _∙_}
+use Rattle.routines.specs.declared.Naming.{Naming}
+use Rattle.session_frame.specs.Digits.{bytesOf}
+use Rattle.session_frame.specs.declared.Frame.{Frame}
+use Rattle.session_frame.specs.Frames.{sized, plainAsk, askWith}
+use Rattle.session_frame.proofs.Laws.Sizes.{ask-named, ask-plain}
 use Rattle.session_frame.proofs.frames.ask.Statement.{statement}
 use Rattle.session_frame.proofs.frames.ask.Tie as tie
 
-byte-at-requires : tie.Need-byte-at-requires
-byte-at-requires c κs = search needs
+naming-in-requires : tie.Need-naming-in-requires
+naming-in-requires c κs = search needs
 
-byte-at-requires-2 : tie.Need-byte-at-requires-2
-byte-at-requires-2 c κs = search needs
+ask-with-requires : tie.Need-ask-with-requires
+ask-with-requires c κs = search needs
 
-byte-at-requires-3 : tie.Need-byte-at-requires-3
-byte-at-requires-3 c κs = search needs
+returns : tie.Need-returns
+returns c =
+    let a = c .before .before .before .before .args in
+    c .ask-with .ensures ∙ ap (λ (q : Naming). askWith q (bytesOf (a .line .now))) (c .before .naming-in .ensures)
+    ∙ sym (ask-named (a .n) (bytesOf (a .line .now)) (c .before .before .if1 .taken))
+
+no-naming-requires : tie.Need-no-naming-requires
+no-naming-requires c κs = search needs
+
+ask-with-requires-2 : tie.Need-ask-with-requires-2
+ask-with-requires-2 c κs = search needs
 
 if-sized-requires : tie.Need-if-sized-requires
 if-sized-requires c κs = search needs
 
-returns : tie.Need-returns
-unfolding askFrom
-returns c = c .if-sized .ensures ∙ rw (c .before .before .before .byte-at .ensures, c .before .before .byte-at2 .ensures, c .before .byte-at3 .ensures)
+returns-2 : tie.Need-returns-2
+returns-2 c =
+    let a = c .before .before .before .before .before .args in
+    c .if-sized .ensures
+    ∙ ap (λ (f : Frame). sized (a .n) plainAsk f)
+    (c .before .ask-with2 .ensures ∙ ap (λ (q : Naming). askWith q (bytesOf (a .line .now))) (c .before .before .no-naming .ensures))
+    ∙ sym (ask-plain (a .n) (bytesOf (a .line .now)) (c .before .before .before .if1 .left))
 
 pub ask-spec : {M : Type 1} → statement M
 ask-spec =
     tie.close
-    (tie.spec byte-at-requires byte-at-requires-2 byte-at-requires-3 if-sized-requires returns)
+    (tie.spec
+    naming-in-requires
+    ask-with-requires
+    returns
+    no-naming-requires
+    ask-with-requires-2
+    if-sized-requires
+    returns-2)

@@ -48,6 +48,12 @@ if-sized-requires-5 c κs = search needs
 if-sized-requires-6 : tie.Need-if-sized-requires-6
 if-sized-requires-6 c κs = search needs
 
+if-sized-requires-7 : tie.Need-if-sized-requires-7
+if-sized-requires-7 c κs = search needs
+
+if-sized-requires-8 : tie.Need-if-sized-requires-8
+if-sized-requires-8 c κs = search needs
+
 returns : tie.Need-returns
 unfolding kindBy
 returns c =
@@ -115,10 +121,22 @@ returns-11 c =
     c .if-sized6 .ensures ∙ sym (kind-is 10 (a .n) (bytesOf (a .line .now)) (sym (c .before .before .before .byte-at .ensures) ∙ c .before .match .keys11))
 
 returns-12 : tie.Need-returns-12
+unfolding kindBy
 returns-12 c =
+    let a = c .before .before .before .before .before .args in
+    c .if-sized7 .ensures ∙ sym (kind-is 11 (a .n) (bytesOf (a .line .now)) (sym (c .before .before .before .byte-at .ensures) ∙ c .before .match .keys12))
+
+returns-13 : tie.Need-returns-13
+unfolding kindBy
+returns-13 c =
+    let a = c .before .before .before .before .before .args in
+    c .if-sized8 .ensures ∙ sym (kind-is 12 (a .n) (bytesOf (a .line .now)) (sym (c .before .before .before .byte-at .ensures) ∙ c .before .match .keys13))
+
+returns-14 : tie.Need-returns-14
+returns-14 c =
     let a = c .before .before .before .before .args in
     let byte-at = c .before .before .byte-at in
-    sym (kind-is (byte-at .result) (a .n) (bytesOf (a .line .now)) (sym (byte-at .ensures)) ∙ kind-none _ _ _ (c .match .rest .0 .0 .0 .0 .0 .0 .0 .0 .0 .0 .1) (c .match .rest .0 .0 .0 .0 .0 .0 .0 .0 .0 .1) (c .match .rest .0 .0 .0 .0 .0 .0 .0 .0 .1) (c .match .rest .0 .0 .0 .0 .0 .0 .0 .1) (c .match .rest .0 .0 .0 .0 .0 .0 .1) (c .match .rest .0 .0 .0 .0 .0 .1) (c .match .rest .0 .0 .0 .0 .1) (c .match .rest .0 .0 .0 .1) (c .match .rest .0 .0 .1) (c .match .rest .0 .1) (c .match .rest .1))
+    sym (kind-is (byte-at .result) (a .n) (bytesOf (a .line .now)) (sym (byte-at .ensures)) ∙ kind-none _ _ _ (c .match .rest .0 .0 .0 .0 .0 .0 .0 .0 .0 .0 .0 .0 .1) (c .match .rest .0 .0 .0 .0 .0 .0 .0 .0 .0 .0 .0 .1) (c .match .rest .0 .0 .0 .0 .0 .0 .0 .0 .0 .0 .1) (c .match .rest .0 .0 .0 .0 .0 .0 .0 .0 .0 .1) (c .match .rest .0 .0 .0 .0 .0 .0 .0 .0 .1) (c .match .rest .0 .0 .0 .0 .0 .0 .0 .1) (c .match .rest .0 .0 .0 .0 .0 .0 .1) (c .match .rest .0 .0 .0 .0 .0 .1) (c .match .rest .0 .0 .0 .0 .1) (c .match .rest .0 .0 .0 .1) (c .match .rest .0 .0 .1) (c .match .rest .0 .1) (c .match .rest .1))
 
 pub kind-of-spec : {M : Type 1} → statement M
 kind-of-spec =
@@ -137,6 +155,8 @@ kind-of-spec =
     if-sized-requires-4
     if-sized-requires-5
     if-sized-requires-6
+    if-sized-requires-7
+    if-sized-requires-8
     returns
     returns-2
     returns-3
@@ -148,4 +168,6 @@ kind-of-spec =
     returns-9
     returns-10
     returns-11
-    returns-12)
+    returns-12
+    returns-13
+    returns-14)

@@ -76,6 +76,18 @@ enum-told-10 c = search needs
 quiet-requires-10 : tie.Need-quiet-requires-10
 quiet-requires-10 c κs = search needs
 
+enum-told-11 : tie.Need-enum-told-11
+enum-told-11 c = search needs
+
+quiet-requires-11 : tie.Need-quiet-requires-11
+quiet-requires-11 c κs = search needs
+
+enum-told-12 : tie.Need-enum-told-12
+enum-told-12 c = search needs
+
+quiet-requires-12 : tie.Need-quiet-requires-12
+quiet-requires-12 c κs = search needs
+
 returns : tie.Need-returns
 unfolding bindingOf
 returns c = rw (c .before .enum-told .given .1) (c .quiet .ensures)
@@ -124,6 +136,14 @@ returns-12 : tie.Need-returns-12
 unfolding bindingOf
 returns-12 c = rw (c .before .enum-told10 .given .1) (c .quiet10 .ensures)
 
+returns-13 : tie.Need-returns-13
+unfolding bindingOf
+returns-13 c = rw (c .before .enum-told11 .given .1) (c .quiet11 .ensures)
+
+returns-14 : tie.Need-returns-14
+unfolding bindingOf
+returns-14 c = rw (c .before .enum-told12 .given .1) (c .quiet12 .ensures)
+
 pub binding-of-spec : {M : Type 1} → statement M
 binding-of-spec =
     tie.close
@@ -152,6 +172,10 @@ binding-of-spec =
     quiet-requires-9
     enum-told-10
     quiet-requires-10
+    enum-told-11
+    quiet-requires-11
+    enum-told-12
+    quiet-requires-12
     returns
     returns-2
     returns-3
@@ -163,4 +187,6 @@ binding-of-spec =
     returns-9
     returns-10
     returns-11
-    returns-12)
+    returns-12
+    returns-13
+    returns-14)

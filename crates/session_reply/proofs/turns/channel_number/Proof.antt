@@ -45,6 +45,12 @@ enum-told-9 c = search needs
 enum-told-10 : tie.Need-enum-told-10
 enum-told-10 c = search needs
 
+enum-told-11 : tie.Need-enum-told-11
+enum-told-11 c = search needs
+
+enum-told-12 : tie.Need-enum-told-12
+enum-told-12 c = search needs
+
 returns : tie.Need-returns
 returns c = search needs
 
@@ -81,6 +87,12 @@ returns-11 c = search needs
 returns-12 : tie.Need-returns-12
 returns-12 c = search needs
 
+returns-13 : tie.Need-returns-13
+returns-13 c = search needs
+
+returns-14 : tie.Need-returns-14
+returns-14 c = search needs
+
 pub channel-number-spec : {M : Type 1} → statement M
 channel-number-spec =
     tie.close
@@ -99,6 +111,8 @@ channel-number-spec =
     enum-told-8
     enum-told-9
     enum-told-10
+    enum-told-11
+    enum-told-12
     returns
     returns-2
     returns-3
@@ -110,4 +124,6 @@ channel-number-spec =
     returns-9
     returns-10
     returns-11
-    returns-12)
+    returns-12
+    returns-13
+    returns-14)

@@ -76,6 +76,18 @@ enum-told-8 c = search needs
 quiet-requires-8 : tie.Need-quiet-requires-8
 quiet-requires-8 c κs = search needs
 
+enum-told-9 : tie.Need-enum-told-9
+enum-told-9 c = search needs
+
+quiet-requires-9 : tie.Need-quiet-requires-9
+quiet-requires-9 c κs = search needs
+
+enum-told-10 : tie.Need-enum-told-10
+enum-told-10 c = search needs
+
+quiet-requires-10 : tie.Need-quiet-requires-10
+quiet-requires-10 c κs = search needs
+
 returns : tie.Need-returns
 unfolding recordOf recordArea
 returns c = (rw (c .before .enum-told .given .1) (c .quiet .ensures), rw (c .before .enum-told .given .1))
@@ -133,6 +145,14 @@ returns-12 : tie.Need-returns-12
 unfolding recordOf recordArea
 returns-12 c = (rw (c .before .enum-told8 .given .1) (c .quiet8 .ensures), rw (c .before .enum-told8 .given .1))
 
+returns-13 : tie.Need-returns-13
+unfolding recordOf recordArea
+returns-13 c = (rw (c .before .enum-told9 .given .1) (c .quiet9 .ensures), rw (c .before .enum-told9 .given .1))
+
+returns-14 : tie.Need-returns-14
+unfolding recordOf recordArea
+returns-14 c = (rw (c .before .enum-told10 .given .1) (c .quiet10 .ensures), rw (c .before .enum-told10 .given .1))
+
 pub record-of-spec : {M : Type 1} → statement M
 record-of-spec =
     tie.close
@@ -161,6 +181,10 @@ record-of-spec =
     quiet-requires-7
     enum-told-8
     quiet-requires-8
+    enum-told-9
+    quiet-requires-9
+    enum-told-10
+    quiet-requires-10
     returns
     returns-2
     returns-3
@@ -175,4 +199,6 @@ record-of-spec =
     returns-9
     returns-10
     returns-11
-    returns-12)
+    returns-12
+    returns-13
+    returns-14)

@@ -76,6 +76,18 @@ enum-told-10 c = search needs
 unasked-requires-10 : tie.Need-unasked-requires-10
 unasked-requires-10 c κs = search needs
 
+enum-told-11 : tie.Need-enum-told-11
+enum-told-11 c = search needs
+
+unasked-requires-11 : tie.Need-unasked-requires-11
+unasked-requires-11 c κs = search needs
+
+enum-told-12 : tie.Need-enum-told-12
+enum-told-12 c = search needs
+
+unasked-requires-12 : tie.Need-unasked-requires-12
+unasked-requires-12 c κs = search needs
+
 returns : tie.Need-returns
 unfolding requestOf requestArea
 returns c = (rw (c .before .enum-told .given .1) (c .unasked .ensures), rw (c .before .enum-told .given .1))
@@ -127,6 +139,14 @@ returns-12 : tie.Need-returns-12
 unfolding requestOf requestArea
 returns-12 c = (rw (c .before .enum-told10 .given .1) (c .unasked10 .ensures), rw (c .before .enum-told10 .given .1))
 
+returns-13 : tie.Need-returns-13
+unfolding requestOf requestArea
+returns-13 c = (rw (c .before .enum-told11 .given .1) (c .unasked11 .ensures), rw (c .before .enum-told11 .given .1))
+
+returns-14 : tie.Need-returns-14
+unfolding requestOf requestArea
+returns-14 c = (rw (c .before .enum-told12 .given .1) (c .unasked12 .ensures), rw (c .before .enum-told12 .given .1))
+
 pub request-of-spec : {M : Type 1} → statement M
 request-of-spec =
     tie.close
@@ -155,6 +175,10 @@ request-of-spec =
     unasked-requires-9
     enum-told-10
     unasked-requires-10
+    enum-told-11
+    unasked-requires-11
+    enum-told-12
+    unasked-requires-12
     returns
     returns-2
     returns-3
@@ -167,4 +191,6 @@ request-of-spec =
     returns-9
     returns-10
     returns-11
-    returns-12)
+    returns-12
+    returns-13
+    returns-14)

@@ -49,6 +49,12 @@ enum-told-11 c = search needs
 row-requires-2 : tie.Need-row-requires-2
 row-requires-2 c κs = search needs
 
+enum-told-12 : tie.Need-enum-told-12
+enum-told-12 c = search needs
+
+enum-told-13 : tie.Need-enum-told-13
+enum-told-13 c = search needs
+
 returns : tie.Need-returns
 unfolding wholeRefusal
 returns c = rw (c .enum-told .given .1)
@@ -97,6 +103,14 @@ returns-12 : tie.Need-returns-12
 unfolding wholeRefusal
 returns-12 c = rw (c .before .enum-told11 .given .1) (c .row2 .ensures)
 
+returns-13 : tie.Need-returns-13
+unfolding wholeRefusal
+returns-13 c = rw (c .enum-told12 .given .1)
+
+returns-14 : tie.Need-returns-14
+unfolding wholeRefusal
+returns-14 c = rw (c .enum-told13 .given .1)
+
 pub whole-refusal-spec : {M : Type 1} → statement M
 whole-refusal-spec =
     tie.close
@@ -116,6 +130,8 @@ whole-refusal-spec =
     row-requires
     enum-told-11
     row-requires-2
+    enum-told-12
+    enum-told-13
     returns
     returns-2
     returns-3
@@ -127,4 +143,6 @@ whole-refusal-spec =
     returns-9
     returns-10
     returns-11
-    returns-12)
+    returns-12
+    returns-13
+    returns-14)

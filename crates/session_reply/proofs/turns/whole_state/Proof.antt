@@ -49,6 +49,12 @@ enum-told-11 c = search needs
 thawed-state-requires : tie.Need-thawed-state-requires
 thawed-state-requires c κs = search needs
 
+enum-told-12 : tie.Need-enum-told-12
+enum-told-12 c = search needs
+
+enum-told-13 : tie.Need-enum-told-13
+enum-told-13 c = search needs
+
 returns : tie.Need-returns
 unfolding wholeState
 returns c = rw (c .enum-told .given .1)
@@ -97,6 +103,14 @@ returns-12 : tie.Need-returns-12
 unfolding wholeState
 returns-12 c = rw (c .before .enum-told11 .given .1) (c .thawed-state .ensures)
 
+returns-13 : tie.Need-returns-13
+unfolding wholeState
+returns-13 c = rw (c .enum-told12 .given .1)
+
+returns-14 : tie.Need-returns-14
+unfolding wholeState
+returns-14 c = rw (c .enum-told13 .given .1)
+
 pub whole-state-spec : {M : Type 1} → statement M
 whole-state-spec =
     tie.close
@@ -116,6 +130,8 @@ whole-state-spec =
     frozen-state-requires
     enum-told-11
     thawed-state-requires
+    enum-told-12
+    enum-told-13
     returns
     returns-2
     returns-3
@@ -127,4 +143,6 @@ whole-state-spec =
     returns-9
     returns-10
     returns-11
-    returns-12)
+    returns-12
+    returns-13
+    returns-14)

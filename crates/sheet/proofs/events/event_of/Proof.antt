@@ -84,6 +84,18 @@ enum-told-10 c = search needs
 no-event-requires-9 : tie.Need-no-event-requires-9
 no-event-requires-9 c κs = search needs
 
+enum-told-11 : tie.Need-enum-told-11
+enum-told-11 c = search needs
+
+no-event-requires-10 : tie.Need-no-event-requires-10
+no-event-requires-10 c κs = search needs
+
+enum-told-12 : tie.Need-enum-told-12
+enum-told-12 c = search needs
+
+no-event-requires-11 : tie.Need-no-event-requires-11
+no-event-requires-11 c κs = search needs
+
 returns : tie.Need-returns
 returns c = rw (c .before .enum-told .given .1) (c .no-event .ensures)
 
@@ -120,5 +132,11 @@ returns-11 c = rw (c .before .enum-told9 .given .1) (c .no-event8 .ensures)
 returns-12 : tie.Need-returns-12
 returns-12 c = rw (c .before .enum-told10 .given .1) (c .no-event9 .ensures)
 
+returns-13 : tie.Need-returns-13
+returns-13 c = rw (c .before .enum-told11 .given .1) (c .no-event10 .ensures)
+
+returns-14 : tie.Need-returns-14
+returns-14 c = rw (c .before .enum-told12 .given .1) (c .no-event11 .ensures)
+
 pub event-of-spec : {M : Type 1} → statement M
-event-of-spec = tie.close (tie.spec is-pair-requires is-repeated-requires enum-told no-event-requires enum-told-2 start-event-requires enum-told-3 no-event-requires-2 enum-told-4 no-event-requires-3 enum-known-f ask-event-requires enum-known-f-2 report-event-requires enum-told-5 no-event-requires-4 enum-told-6 no-event-requires-5 enum-told-7 no-event-requires-6 enum-told-8 no-event-requires-7 enum-told-9 no-event-requires-8 enum-told-10 no-event-requires-9 returns returns-2 returns-3 returns-4 returns-5 returns-6 returns-7 returns-8 returns-9 returns-10 returns-11 returns-12)
+event-of-spec = tie.close (tie.spec is-pair-requires is-repeated-requires enum-told no-event-requires enum-told-2 start-event-requires enum-told-3 no-event-requires-2 enum-told-4 no-event-requires-3 enum-known-f ask-event-requires enum-known-f-2 report-event-requires enum-told-5 no-event-requires-4 enum-told-6 no-event-requires-5 enum-told-7 no-event-requires-6 enum-told-8 no-event-requires-7 enum-told-9 no-event-requires-8 enum-told-10 no-event-requires-9 enum-told-11 no-event-requires-10 enum-told-12 no-event-requires-11 returns returns-2 returns-3 returns-4 returns-5 returns-6 returns-7 returns-8 returns-9 returns-10 returns-11 returns-12 returns-13 returns-14)

@@ -1,0 +1,2 @@
+pub mod OnLaws
+pub mod Theorems
