@@ -13,24 +13,24 @@ use Rattle.area.proofs.Joins.{paste-paste}
 use Rattle.codec.proofs.Codecs.{each-length, first-long}
 use Rattle.codec.specs.Codecs.{Codec, writeEach, readEach, padded}
 
--- ---- reading n values, from byte `start` on, into a list as long as `most`; some bytes more follow them
+-- ---- reading n values, from byte `start` on, into a list as long as `most`
 
 pub drop-blanks : {A : Type 0} (blank : A) (n m : ℕ) → drop n (replicate m blank) ≡ replicate (m - n) blank
 drop-blanks blank zero m = ap (λ (k : ℕ). replicate k blank) (let z : m ≡ m - 0 = omega arith in z)
 drop-blanks blank (suc n) zero = ap (λ (k : ℕ). replicate k blank) (let z : 0 ≡ 0 - suc n = omega arith in z)
 drop-blanks blank (suc n) (suc m) = drop-blanks blank n m ∙ ap (λ (k : ℕ). replicate k blank) (let z : m - n ≡ suc m - suc n = omega arith in z)
 
-module _ {A : Type 0} (c : Codec A) (most n start more : ℕ) (bs : List ℕ) (xs₀ : List A) where
+module _ {A : Type 0} (c : Codec A) (most n start : ℕ) (bs : List ℕ) (xs₀ : List A) where
   pub record HasRead (i at : ℕ) (xs : List A) : Type 0 where
     pub within : i ≤ n
     pub fits : n ≤ most
-    pub holds : start + n * c .size + more ≤ length bs
+    pub holds : start + n * c .size ≤ length bs
     pub place : at ≡ start + i * c .size
     pub long : length xs ≡ most
     pub far : take i xs ++ readEach c (n - i) (drop at bs) ≡ readEach c n (drop start bs)
     pub rest : drop i xs ≡ drop i xs₀
 
-  pub read-none : n ≤ most → start + n * c .size + more ≤ length bs → length xs₀ ≡ most → HasRead 0 start xs₀
+  pub read-none : n ≤ most → start + n * c .size ≤ length bs → length xs₀ ≡ most → HasRead 0 start xs₀
   read-none f h l = record {
     within = omega arith;
     fits = f;
@@ -42,7 +42,7 @@ module _ {A : Type 0} (c : Codec A) (most n start more : ℕ) (bs : List ℕ) (x
   }
 
   -- there is room for one value more
-  pub read-room : (i at : ℕ) (xs : List A) → HasRead i at xs → i < n → at + c .size + more ≤ length bs
+  pub read-room : (i at : ℕ) (xs : List A) → HasRead i at xs → i < n → at + c .size ≤ length bs
   read-room i at xs r h =
       let e : suc i * c .size ≡ i * c .size + c .size = suc-mul i (c .size) in
       let f : suc i * c .size ≤ n * c .size = mul-le-mul-right (c .size) h in

@@ -10,8 +10,7 @@ use lib.Dec.{eqb}
 use Rattle.codec.specs.Codecs.{Codec, Keeps, All, writeEach, readEach}
 use lib.ListN.{length, take, drop, length-drop, take-append-drop}
 use lib.Seq.{drop-drop}
-use Rattle.codec.specs.declared.Row.{Row}
-use Rattle.codec.specs.Rows.{two, four, eight, eightOf, eightBytes, wordCodec, onesOf, twosOf, foursOf, rowOf}
+use Rattle.codec.specs.Rows.{two, four, eight, eightOf, eightBytes, wordCodec}
 use Rattle.codec.proofs.Codecs.{any, all-drop}
 
 -- a truth, as its byte
@@ -79,11 +78,3 @@ words-tight (suc n) bs e g =
     ap (λ (l : List ℕ). l ++ writeEach wordCodec (readEach wordCodec n (drop 8 bs))) (word-tight bs long g)
     ∙ ap (λ (l : List ℕ). take 8 bs ++ l) (words-tight n (drop 8 bs) left (all-drop (λ (b : ℕ). b < 256) 8 bs g))
     ∙ take-append-drop 8 bs
-
--- ---- a row, from its three kinds of numbers
-
-pub row-from : (x y z : List ℕ) (at ones twos : ℕ) (bs : List ℕ) → x ≡ onesOf (drop at bs) → y ≡ twosOf (drop (at + ones) bs) → z ≡ foursOf (drop (at + ones + 2 * twos) bs)
-    → _≡_ {A = Row} (record { ones = x; twos = y; fours = z }) (rowOf ones twos (drop at bs))
-row-from x y z at ones twos bs e f g =
-    let far : at + (ones + 2 * twos) ≡ at + ones + 2 * twos = omega arith in
-    rw (e, f, g, drop-drop ones at bs, drop-drop (ones + 2 * twos) at bs, far)

@@ -5,16 +5,10 @@ mod rows;
 ghost use Rattle.area.specs.Parts.{pastedIn};
 ghost use Rattle.codec.specs.Codecs.{same};
 ghost use mathlib.Core.Path.{_≡_};
-pub use rows::row_at;
+pub use rows::four_at;
+pub use rows::two_at;
 pub use rows::word_at;
 pub use rows::word_bytes;
-
-// Numbers that stand at one place: of one byte each, of two, and of four. What lies past those that are meant has no meaning.
-pub struct Row {
-    pub ones: [u8; 16],
-    pub twos: [u16; 8],
-    pub fours: [u32; 4],
-}
 
 // Puts bytes into a lent area from byte `at` on; bytes that do not fit there change nothing.
 pub fn put_bytes(out: &mut [u8], at: usize, bytes: &[u8])

@@ -1,23 +1,30 @@
 -- Calls lead from one good image to another: what it stands for after a call is what the line leaves of what it stood for before. Assumes nothing.
-use borrow.Author.Tests.{le-ltb, lt-ltb, ltb-false, ltb-true}
+use borrow.Author.Tests.{eqb-true, ltb-false, ltb-true}
 use mathlib.Core.Path.{_≡_, refl, sym, ap, _∙_, subst}
 use mathlib.Core.Bool.{Bool, true, false, cond}
 use mathlib.Core.List.{List, [], _∷_}
-use Prim.Native.Nat.{ℕ, _-_, _≤_, _<_}
+use Prim.Native.Nat.{ℕ, suc, _≤_, _<_}
 use native.Mathlib.Omega.{arith}
-use lib.Dec.{ltb}
+use lib.Dec.{eqb, ltb}
 use lib.IntN.{pos}
 use Rattle.area.specs.Parts.{paste}
-use lib.ListN.{length, drop, replicate, length-replicate, drop-of-length-le}
-use Rattle.area.proofs.Walks.{by-test}
+use lib.ListN.{length, getD, replicate, length-replicate, drop-of-length-le}
+use Rattle.area.proofs.Walks.{by-test, and-left}
 use Rattle.channel.specs.declared.Channel.{Channel}
 use Rattle.channel.specs.Units.{unitCount, idleUnit}
 use Rattle.state.specs.declared.State.{State}
 use Rattle.state.specs.Places.{channelCount, beforeStart}
 use Rattle.state_sound.specs.Soundness.{sound}
+use Rattle.routines.specs.declared.Programs.{Programs}
+use Rattle.routines.specs.declared.Posts.{Posts}
+use Rattle.routines.specs.Ranks.{depth}
+use Rattle.routines.specs.Posts.{noPosts}
+use Rattle.routines.specs.Right.{programsRight}
+use Rattle.pool.specs.Free.{fileCount}
+use Rattle.state_sound.proofs.Facts.{sound-facts}
 use Rattle.state_sound.proofs.Wholes.{before-start-sound}
 use Rattle.codec.specs.Codecs.{All}
-use Rattle.state_image.specs.Images.{imageSize, imageWords, imageOf, stateIn, areaIn, isImage, UnitsTo, Whole}
+use Rattle.state_image.specs.Images.{imageSize, imageWords, imageOf, stateIn, areaIn, isImage, UnitsTo, PostsTo, Whole}
 use Rattle.state_image.proofs.Theorems.{image-good, state-back, area-back, good-sound, whole-read, area-read}
 use Rattle.session_reply.specs.Replies.{Reply, answerTo, textOf}
 use Rattle.session_reply.proofs.Stores.{Counts}
@@ -42,6 +49,31 @@ unfolding All
 to-units [] g = g
 to-units (x ∷ xs) g = (g .0 .0, to-units xs (g .1))
 
+-- a sound state has a post for each unit, and a list of four places
+posts-to : (xs : List Posts) → ((c : ℕ) → c < length xs → length (getD xs c noPosts .units) ≡ unitCount) → All (PostsTo unitCount) xs
+unfolding All
+posts-to [] h = tt
+posts-to (x ∷ xs) h =
+    let long : length (x .units) ≡ unitCount = h 0 (omega arith) in
+    let far : length (x .units) ≤ unitCount = omega (arith, long) in
+    ((long, drop-of-length-le (x .units) far), posts-to xs (λ c l. h (suc c) (omega (arith, l))))
+
+programs-places : (p : Programs) → programsRight p ≡ true → length (p .pushed) ≡ depth
+unfolding programsRight
+programs-places p e = eqb-true (length (p .pushed)) depth (and-left (eqb (length (p .pushed)) depth) _ e)
+
+sound-whole : (s : State) → length (s .channels) ≡ channelCount → All HasUnits (s .channels) → length (s .files) ≡ fileCount → sound s ≡ true → Whole unitCount s
+sound-whole s channels units files e =
+    let r = sound-facts s e .routines .ready in
+    record {
+      channels = channels;
+      units = units-to (s .channels) units;
+      files = files;
+      pushed = programs-places (s .routines .programs) (r .programs);
+      posts = r .table;
+      unitPosts = posts-to (s .routines .posts) (r .rows);
+    }
+
 module _ (state : List ℕ) (good : isImage unitCount state ≡ true) (frame : List ℕ) where
   abbrev s : State
   s = stateIn unitCount state
@@ -58,13 +90,13 @@ module _ (state : List ℕ) (good : isImage unitCount state ≡ true) (frame : L
   counts : Counts s
   counts = record { files = whole .files; channels = whole .channels }
 
+  sound-after : sound (reply .state) ≡ true
+  sound-after = answer-kept s area frame counts (good-sound unitCount units-all state good)
+
   whole-after : Whole unitCount (reply .state)
   whole-after =
       let k = answer-counts s area frame counts in
-      record { channels = k .channels; units = units-to (reply .state .channels) (answer-full s area frame (to-units (s .channels) (whole .units))); files = k .files }
-
-  sound-after : sound (reply .state) ≡ true
-  sound-after = answer-kept s area frame counts (good-sound unitCount units-all state good)
+      sound-whole (reply .state) (k .channels) (answer-full s area frame (to-units (s .channels) (whole .units))) (k .files) sound-after
 
   words-after : length (reply .area) ≡ imageWords
   words-after = answer-area s area frame counts ∙ area-read unitCount units-all state
@@ -118,8 +150,7 @@ call-good state frame answer good =
 
 before-whole : Whole unitCount beforeStart
 unfolding beforeStart All
-before-whole =
-    record { channels = refl; units = units-to (beforeStart .channels) (fresh-size 0, (fresh-size 0, (fresh-size 0, (fresh-size 0, (fresh-size 0, tt))))); files = refl }
+before-whole = sound-whole beforeStart refl (fresh-size 0, (fresh-size 0, (fresh-size 0, (fresh-size 0, (fresh-size 0, tt))))) refl before-start-sound
 
 pub record Starts (state : List ℕ) : Type 0 where
   pub good : isImage unitCount (startCall state .state) ≡ true

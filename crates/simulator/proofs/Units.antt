@@ -18,9 +18,12 @@ use Rattle.channel_turns.specs.declared.Asked.{Asked}
 use Rattle.channel_turns.specs.Starts.{newRequest, startOf, thawOf, askOf}
 use Rattle.channel_turns.specs.Turns.{judgeOf, repeatOf, endOf, bookOf}
 use Rattle.file.specs.declared.File.{File}
+use Rattle.routines.specs.declared.Naming.{Naming}
+use Rattle.routines.specs.declared.Post.{Post}
+use Rattle.routines.specs.declared.Routines.{Routines}
 use Rattle.state.specs.declared.State.{State}
 use Rattle.state.specs.Places.{channelCount, noChannel, channelAt}
-use Rattle.state.specs.Stores.{withFile, withChannel}
+use Rattle.state.specs.Stores.{withFile, withChannel, withRoutines}
 use Rattle.state_sound.proofs.ChannelCalls.{start-mark}
 use Rattle.pack_start.specs.Fresh.{freshState}
 use Rattle.pack_start.specs.Freeze.{frozenState, thawedState}
@@ -29,12 +32,12 @@ use Rattle.call_request.specs.declared.ReportChange.{ReportChange}
 use Rattle.call_request.specs.Ask.{opOf, isPriority, askRefusal, askedChannel, askOn}
 use Rattle.call_request.specs.Report.{reportRefusal, reportOn}
 use Rattle.session_frame.specs.declared.Frame.{Frame}
-use Rattle.session_frame.specs.declared.Frame.the-variants.{Malformed, Fresh, Open, Close, Ask, Report, Get, Put, Seal, Skip, Freeze, Thaw}
+use Rattle.session_frame.specs.declared.Frame.the-variants.{Malformed, Fresh, Open, Close, Ask, Report, Get, Put, Seal, Skip, Freeze, Thaw, Return, Running}
 use Rattle.session_frame.specs.Frames.{frameOf}
 use Rattle.session_reply.specs.Changes.{askChangeOn, reportChangeOn}
 use Rattle.session_reply.specs.Places.{groupOf}
 use Rattle.session_reply.specs.Replies.{Reply, givenWords, answerTo}
-use Rattle.session_reply.specs.Turns.{wholeState, wholeRefusal, requestOf, recordTurn, bindingTurn, requestTurn, wholeTurn, Turned, turnedOn, replyOn}
+use Rattle.session_reply.specs.Turns.{wholeState, wholeRefusal, requestOf, recordTurn, bindingTurn, requestTurn, wholeTurn, routineTurn, Turned, turnedOn, replyOn}
 use Rattle.session_reply.proofs.Agrees.{turned-right}
 use Rattle.state_sound.specs.Soundness.{sound}
 use Rattle.codec.specs.Codecs.{All}
@@ -80,30 +83,32 @@ report-either false x y n p q = q
 
 module _ (f : File) (c : Channel) where
   -- a call that is accepted, or refused
-  asked-size : (wrong : Bool) (op priority : ℕ) (frozen : Bool) → size (askOn wrong f c op priority frozen .channel) ≡ size c
+  asked-size : (wrong : Bool) (op priority : ℕ) (naming : Naming) (waits frozen : Bool) → size (askOn wrong f c op priority naming waits frozen .channel) ≡ size c
   unfolding askOn askedChannel
-  asked-size wrong op priority frozen =
-      ask-either (eqb (askRefusal wrong f c op priority) 0) _ _ (size c) (ask-size c (f .unit) (opOf op) (isPriority priority) frozen) refl
+  asked-size wrong op priority naming waits frozen =
+      ask-either (eqb (askRefusal wrong f c op priority naming waits) 0) _ _ (size c) (ask-size c (f .unit) (opOf op) (isPriority priority) frozen) refl
 
   reported-size : (wrong : Bool) (u outcome len w : ℕ) (frozen : Bool) (area words : List ℕ) → size (reportOn wrong f c u outcome len w frozen area words .channel) ≡ size c
   unfolding reportOn
   reported-size wrong u outcome len w frozen area words =
       report-either (eqb (reportRefusal wrong f c u outcome len w area words) 0) _ _ (size c) (book-size c u (judgeOf c u outcome len) frozen) refl
 
-  request-size : (unsound : Bool) (m w : ℕ) (frozen : Bool) (frame : Frame) (area words : List ℕ) → size (requestOf unsound m w frozen frame f c area words .channel) ≡ size c
+  request-size : (unsound : Bool) (m w : ℕ) (frozen : Bool) (frame : Frame) (p : Post) (area words : List ℕ) → size (requestOf unsound m w frozen frame f c p area words .channel) ≡ size c
   unfolding requestOf askChangeOn reportChangeOn
-  request-size unsound m w frozen (Ask q) area words = asked-size _ (q .op) (q .priority) frozen
-  request-size unsound m w frozen (Report q) area words = reported-size _ (q .unit) (q .outcome) (q .length) w frozen area words
-  request-size unsound m w frozen Malformed area words = refl
-  request-size unsound m w frozen (Fresh q) area words = refl
-  request-size unsound m w frozen (Open q) area words = refl
-  request-size unsound m w frozen (Close file) area words = refl
-  request-size unsound m w frozen (Get file) area words = refl
-  request-size unsound m w frozen (Put q) area words = refl
-  request-size unsound m w frozen (Seal file) area words = refl
-  request-size unsound m w frozen (Skip file) area words = refl
-  request-size unsound m w frozen Freeze area words = refl
-  request-size unsound m w frozen Thaw area words = refl
+  request-size unsound m w frozen (Ask q) p area words = asked-size _ (q .op) (q .priority) (q .naming) _ frozen
+  request-size unsound m w frozen (Report q) p area words = reported-size _ (q .unit) (q .outcome) (q .length) w frozen area words
+  request-size unsound m w frozen Malformed p area words = refl
+  request-size unsound m w frozen (Fresh q) p area words = refl
+  request-size unsound m w frozen (Open q) p area words = refl
+  request-size unsound m w frozen (Close file) p area words = refl
+  request-size unsound m w frozen (Get file) p area words = refl
+  request-size unsound m w frozen (Put q) p area words = refl
+  request-size unsound m w frozen (Seal file) p area words = refl
+  request-size unsound m w frozen (Skip file) p area words = refl
+  request-size unsound m w frozen Freeze p area words = refl
+  request-size unsound m w frozen Thaw p area words = refl
+  request-size unsound m w frozen Return p area words = refl
+  request-size unsound m w frozen Running p area words = refl
 
 -- ---- a state
 
@@ -135,6 +140,10 @@ file-full : (s : State) (i : ℕ) (f : File) → Full s → Full (withFile s i f
 unfolding withFile
 file-full s i f g = g
 
+routines-full : (s : State) (r : Routines) → Full s → Full (withRoutines s r)
+unfolding withRoutines
+routines-full s r g = g
+
 channel-full : (s : State) (j : ℕ) (c : Channel) → HasUnits c → Full s → Full (withChannel s j c)
 unfolding withChannel
 channel-full s j c h g = all-set (s .channels) j c h g
@@ -153,6 +162,8 @@ whole-full s (Get file) g = g
 whole-full s (Put q) g = g
 whole-full s (Seal file) g = g
 whole-full s (Skip file) g = g
+whole-full s Return g = g
+whole-full s Running g = g
 
 either-full : (b : Bool) (x y : State) → Full x → Full y → Full (cond b x y)
 either-full true x y p q = p
@@ -163,12 +174,13 @@ full-turned true x y p q = p
 full-turned false x y p q = q
 
 turned-full : (unsound : Bool) (s : State) (area words : List ℕ) (frame : Frame) → Full s → Full (turnedOn unsound s area frame words .state)
-unfolding turnedOn requestTurn wholeTurn bindingTurn recordTurn
+unfolding turnedOn requestTurn wholeTurn routineTurn bindingTurn recordTurn
 turned-full unsound s area words frame g =
     full-turned (eqb (groupOf frame) 1) _ _
-    (file-full _ _ _ (channel-full s _ _ (request-size _ _ unsound (s .m) (s .w) (s .frozen) frame area words ∙ all-at (s .channels) _ g) g))
+    (routines-full _ _ (file-full _ _ _ (channel-full s _ _ (request-size _ _ unsound (s .m) (s .w) (s .frozen) frame _ area words ∙ all-at (s .channels) _ g) g)))
     (full-turned (eqb (groupOf frame) 3) _ _ (either-full (eqb (wholeRefusal unsound (length area) frame) 0) (wholeState s frame) s (whole-full s frame g) g)
-    (full-turned (eqb (groupOf frame) 2) _ _ (file-full s _ _ g) (file-full s _ _ g)))
+    (full-turned (eqb (groupOf frame) 4) _ _ (routines-full s _ g)
+    (full-turned (eqb (groupOf frame) 2) _ _ (file-full s _ _ g) (file-full s _ _ g))))
 
 on-full : (unsound : Bool) (s : State) (area words : List ℕ) (frame : Frame) → Full s → Full (replyOn unsound s area words frame .state)
 unfolding replyOn

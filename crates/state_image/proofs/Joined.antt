@@ -1,15 +1,16 @@
 -- Pieces of an image put one after the other, and read one after the other, are the whole. Assumes nothing.
 use borrow.Author.Tests.{eq-eqb, ne-eqb}
-use mathlib.Core.Path.{_≡_, refl, sym, ap, _∙_}
+use mathlib.Core.Path.{_≡_, refl, sym, ap, ap₂, _∙_}
 use mathlib.Core.Bool.{Bool, true, false, cond, _&&_, and-false}
 use mathlib.Core.List.{List, [], _∷_, _++_, append-assoc, append-nil}
 use Prim.Native.Nat.{ℕ, _+_, _*_, _≤_}
 use native.Mathlib.Omega.{arith}
-use lib.ListN.{length, take, drop, length-append, drop-of-length-le}
-use lib.Seq.{drop-drop}
+use lib.ListN.{length, take, drop, getD, length-append, drop-of-length-le}
+use lib.Seq.{drop-drop, getD-drop}
 use Rattle.area.specs.Parts.{paste, pastedIn}
 use Rattle.channel.specs.declared.Channel.{Channel}
 use Rattle.channel.specs.Units.{unitCount}
+use Rattle.file.specs.declared.Buffer.{Buffer}
 use Rattle.file.specs.declared.File.{File}
 use Rattle.pool.specs.Free.{fileCount}
 use Rattle.state.specs.declared.State.{State}
@@ -17,30 +18,91 @@ use Rattle.state.specs.Places.{channelCount, noChannel, beforeStart}
 use Rattle.state_sound.specs.Soundness.{sound}
 use lib.Dec.{eqb}
 use Rattle.codec.specs.Codecs.{Codec, same}
-use Rattle.codec.specs.Rows.{rowOf}
+use Rattle.codec.specs.Rows.{two, twoAt, fourAt}
 use Rattle.codec.proofs.Codecs.{each-length, first-length}
 use Rattle.codec.proofs.Loops.{put-fits, put-then}
-use Rattle.state_image.specs.Units.{channelOnes, channelTwos, channelHead, channelRow, channelFrom, unitsCodec, channelCodec}
-use Rattle.state_image.specs.Files.{bufferBytes, bufferSize, bufferCodec, fileOnes, fileTwos, fileHead, fileSize, fileRow, fileFrom, fileCodec, filesCodec}
+use Rattle.state_image.specs.Units.{channelHead, channelRow, unitsCodec, channelCodec}
+use Rattle.state_image.specs.Files.{bufferBytes, bufferSize, bufferCodec, fileHead, fileSize, fileRow, fileFrom, fileCodec, filesCodec}
 use Rattle.state_image.specs.Routines.{routinesCodec}
 use Rattle.state_image.specs.Images.{stateHead, stateRow, channelsCodec, stateSize, stateCodec, wordsCodec, imageWords, imageSize, imageOf, stateIn, isImage, imageIn, imageFits}
 use Rattle.state_image.specs.declared.Image.{Image}
 use Rattle.state_image.proofs.Keeps.{channels-sized, files-keep, state-sized}
 
+-- ---- numbers at their places
+
+pub first-there : (bs : List ℕ) (at : ℕ) → getD bs at 0 ≡ getD (drop at bs) 0 0
+first-there bs at =
+    let z : at ≡ at + 0 = omega arith in
+    ap (λ (j : ℕ). getD bs j 0) z ∙ sym (getD-drop at bs 0 0)
+
+pub byte-there : (bs : List ℕ) (at k : ℕ) → getD bs (at + k) 0 ≡ getD (drop at bs) k 0
+byte-there bs at k = sym (getD-drop at bs k 0)
+
+pub two-there : (bs : List ℕ) (at k : ℕ) → twoAt bs (at + k) ≡ twoAt (drop at bs) k
+two-there bs at k =
+    let z : at + k + 1 ≡ at + (k + 1) = omega arith in
+    sym (ap₂ two (getD-drop at bs k 0) (getD-drop at bs (k + 1) 0 ∙ ap (λ (j : ℕ). getD bs j 0) (sym z)))
+
+pub four-there : (bs : List ℕ) (at k : ℕ) → fourAt bs (at + k) ≡ fourAt (drop at bs) k
+four-there bs at k =
+    let x : at + (k + 1) ≡ at + k + 1 = omega arith in
+    let y : at + (k + 2) ≡ at + k + 2 = omega arith in
+    let z : at + (k + 3) ≡ at + k + 3 = omega arith in
+    sym (rw (getD-drop at bs k 0, getD-drop at bs (k + 1) 0, getD-drop at bs (k + 2) 0, getD-drop at bs (k + 3) 0, x, y, z))
+
 -- ---- a file: its own numbers and its two buffers
 
-pub file-there : (at : ℕ) (bs : List ℕ)
-    → fileFrom (rowOf fileOnes fileTwos (drop at bs)) (bufferCodec .read (drop (at + fileHead) bs)) (bufferCodec .read (drop (at + fileHead + bufferSize) bs))
-    ≡ fileCodec .read (drop at bs)
+file-there : (at : ℕ) (bs : List ℕ)
+    → fileFrom (drop at bs) (bufferCodec .read (drop (at + fileHead) bs)) (bufferCodec .read (drop (at + fileHead + bufferSize) bs)) ≡ fileCodec .read (drop at bs)
 file-there at bs =
-    let r = rowOf fileOnes fileTwos (drop at bs) in
     let e : drop fileHead (drop at bs) ≡ drop (at + fileHead) bs = drop-drop fileHead at bs in
     let z : at + (fileHead + bufferSize) ≡ at + fileHead + bufferSize = omega arith in
     let f : drop (fileHead + bufferSize) (drop at bs) ≡ drop (at + fileHead + bufferSize) bs =
     drop-drop (fileHead + bufferSize) at bs ∙ ap (λ (k : ℕ). drop k bs) z in
-    sym
-    (ap (λ (l : List ℕ). fileFrom r (bufferCodec .read l) (bufferCodec .read (drop (fileHead + bufferSize) (drop at bs)))) e
-    ∙ ap (λ (l : List ℕ). fileFrom r (bufferCodec .read (drop (at + fileHead) bs)) (bufferCodec .read l)) f)
+    sym (ap₂ (λ (l m : List ℕ). fileFrom (drop at bs) (bufferCodec .read l) (bufferCodec .read m)) e f)
+
+file-own : (bs : List ℕ) (at : ℕ) (low high : Buffer)
+    → record {
+      opened = eqb (getD bs at 0) 1;
+      channel = getD bs (at + 1) 0;
+      unit = getD bs (at + 2) 0;
+      output = eqb (getD bs (at + 3) 0) 1;
+      double = eqb (getD bs (at + 4) 0) 1;
+      sequence = eqb (getD bs (at + 5) 0) 1;
+      check = eqb (getD bs (at + 6) 0) 1;
+      size = twoAt bs (at + 9);
+      rlen = twoAt bs (at + 11);
+      low = low;
+      high = high;
+      turned = eqb (getD bs (at + 7) 0) 1;
+      block = twoAt bs (at + 13);
+      marked = eqb (getD bs (at + 8) 0) 1;
+    }
+    ≡ fileFrom (drop at bs) low high
+file-own bs at low high =
+    rw (two-there bs at 9, two-there bs at 11, two-there bs at 13, first-there bs at, byte-there bs at 1, byte-there bs at 2, byte-there bs at 3, byte-there bs at 4, byte-there bs at 5, byte-there bs at 6, byte-there bs at 7, byte-there bs at 8)
+
+pub file-read : (bs : List ℕ) (at : ℕ) (low high : Buffer) (size rlen block : ℕ) → low ≡ bufferCodec .read (drop (at + fileHead) bs)
+    → high ≡ bufferCodec .read (drop (at + fileHead + bufferSize) bs) → size ≡ twoAt bs (at + 9) → rlen ≡ twoAt bs (at + 11) → block ≡ twoAt bs (at + 13)
+    → record {
+      opened = eqb (getD bs at 0) 1;
+      channel = getD bs (at + 1) 0;
+      unit = getD bs (at + 2) 0;
+      output = eqb (getD bs (at + 3) 0) 1;
+      double = eqb (getD bs (at + 4) 0) 1;
+      sequence = eqb (getD bs (at + 5) 0) 1;
+      check = eqb (getD bs (at + 6) 0) 1;
+      size = size;
+      rlen = rlen;
+      low = low;
+      high = high;
+      turned = eqb (getD bs (at + 7) 0) 1;
+      block = block;
+      marked = eqb (getD bs (at + 8) 0) 1;
+    }
+    ≡ fileCodec .read (drop at bs)
+file-read bs at low high size rlen block el eh es er eb =
+    rw (es, er, eb) (file-own bs at low high) ∙ ap₂ (fileFrom (drop at bs)) el eh ∙ file-there at bs
 
 pub file-put : (at : ℕ) (f : File) (xs o p q : List ℕ) → at + fileSize ≤ length xs → o ≡ pastedIn at (fileRow f (f .block)) xs
     → p ≡ paste (at + fileHead) (bufferBytes (f .low)) o → q ≡ paste (at + fileHead + bufferSize) (bufferBytes (f .high)) p → q ≡ paste at (fileCodec .write f) xs
@@ -52,11 +114,6 @@ file-put at f xs o p q room e g h =
     put-then at (fileHead + bufferSize) (at + fileHead + bufferSize) (fileRow f (f .block) ++ bufferBytes (f .low)) (bufferBytes (f .high)) xs p q z refl (omega arith) two h
 
 -- ---- a channel: its own numbers and its units
-
-pub channel-there : (n at : ℕ) (bs : List ℕ)
-    → channelFrom (rowOf channelOnes channelTwos (drop at bs)) (unitsCodec n .read (drop (at + channelHead) bs)) ≡ channelCodec n .read (drop at bs)
-channel-there n at bs =
-    ap (λ (l : List ℕ). channelFrom (rowOf channelOnes channelTwos (drop at bs)) (unitsCodec n .read l)) (sym (drop-drop channelHead at bs))
 
 pub channel-put : (n at : ℕ) (c : Channel) (xs o p : List ℕ) → at + channelCodec n .size ≤ length xs → o ≡ pastedIn at (channelRow c) xs
     → p ≡ paste (at + channelHead) (unitsCodec n .write (c .units)) o → p ≡ paste at (channelCodec n .write c) xs

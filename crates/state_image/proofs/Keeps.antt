@@ -5,6 +5,8 @@ use mathlib.Core.Bool.{Bool, true, false}
 use mathlib.Core.List.{List, [], _∷_, _++_, append-assoc}
 use Prim.Native.Nat.{ℕ, _+_, _*_, _-_, _/_, _%_, _≤_}
 use native.Mathlib.Omega.{arith}
+use lib.Dec.{eqb}
+use mir.Val.{boolByte}
 use lib.ListN.{length, take, drop, replicate, length-append, getD, drop-of-length-le}
 use lib.Seq.{drop-at, drop-drop, take-all}
 use Rattle.channel.specs.declared.Op.{Op}
@@ -23,19 +25,18 @@ use Rattle.file.specs.Slots.{slotKind, fullPlace, fullArrival}
 use Rattle.file.specs.Sizes.{closedFile}
 use Rattle.routines.specs.declared.Routines.{Routines}
 use Rattle.pool.specs.Free.{fileCount}
-use Rattle.codec.specs.declared.Row.{Row}
 use Rattle.pool.specs.Masks.{freeMask}
 use Rattle.state.specs.declared.State.{State}
 use Rattle.state.specs.Places.{channelCount, noChannel}
 use Rattle.codec.specs.Codecs.{Codec, Keeps, Padded, All, firstOf}
-use Rattle.codec.specs.Rows.{rowOf, wordCodec}
+use Rattle.codec.specs.Rows.{wordCodec}
 use Rattle.codec.proofs.Codecs.{any, all-any, padded-keeps, each-length, first-length}
 use Rattle.codec.proofs.Numbers.{flag-back, two-back, word-keeps}
-use Rattle.state_image.specs.Units.{turnByte, requestIn, turnOf, opByte, opOf, unitOnes, unitTwos, unitRow, unitBytes, requestFrom, unitWith, unitCodec, unitsCodec, channelRow, channelCodec}
-use Rattle.state_image.specs.Files.{slotWords, bufferOnes, bufferTwos, bufferRow, bufferBytes, fullFrom, slotOf, bufferFrom, bufferCodec, fileOnes, fileTwos, fileRow, fileFrom, fileCodec, filesCodec}
+use Rattle.state_image.specs.Units.{turnByte, requestIn, turnOf, opByte, opOf, unitRow, unitBytes, requestFrom, positionFrom, unitCodec, unitsCodec, channelRow, channelCodec}
+use Rattle.state_image.specs.Files.{slotWords, bufferRow, bufferBytes, fullFrom, slotOf, bufferFrom, bufferCodec, fileRow, fileFrom, fileCodec, filesCodec}
 use Rattle.state_image.specs.Routines.{routinesCodec}
 use Rattle.state_image.proofs.Posts.{HasPosts, routines-sized, routines-keep}
-use Rattle.state_image.specs.Images.{UnitsTo, Whole, stateOnes, stateTwos, stateHead, stateRow, stateWith, stateFrom, channelsCodec, stateSize, stateCodec, imageWords, wordsCodec}
+use Rattle.state_image.specs.Images.{UnitsTo, Whole, stateHead, stateRow, stateWith, stateFrom, channelsCodec, stateSize, stateCodec, imageWords, wordsCodec}
 
 -- ---- a unit
 
@@ -50,20 +51,13 @@ turn-back (Waiting q) = refl
 turn-back (Displaced q) = refl
 turn-back (Working q) = refl
 
-abbrev unitThere : Unit.Unit → List ℕ → Row
-unitThere u rest = rowOf unitOnes unitTwos (unitBytes u ++ rest)
-
-request-back : (u : Unit.Unit) (rest : List ℕ) → requestFrom (unitThere u rest) (requestIn (u .turn) .op) ≡ requestIn (u .turn)
-request-back u rest = simp flag-back
-
-own-unit-back : (u : Unit.Unit) (rest : List ℕ) → unitWith (unitThere u rest) (u .turn) ≡ u
-own-unit-back u rest = simp (flag-back, two-back)
+request-back : (u : Unit.Unit) (rest : List ℕ) → requestFrom (unitBytes u ++ rest) ≡ requestIn (u .turn)
+request-back u rest = simp (flag-back, op-back)
 
 unit-back : (u : Unit.Unit) (rest : List ℕ) → unitCodec .read (unitBytes u ++ rest) ≡ u
 unit-back u rest =
-    let q = requestIn (u .turn) in
-    let e : requestFrom (unitThere u rest) (opOf (opByte (q .op))) ≡ q = ap (requestFrom (unitThere u rest)) (op-back (q .op)) ∙ request-back u rest in
-    ap (unitWith (unitThere u rest)) (ap (turnOf (turnByte (u .turn))) e ∙ turn-back (u .turn)) ∙ own-unit-back u rest
+    ap (λ (q : Request). record { declared = eqb (boolByte (u .declared)) 1; turn = turnOf (turnByte (u .turn)) q; position = positionFrom (unitBytes u ++ rest) }) (request-back u rest)
+    ∙ simp (turn-back, flag-back, two-back)
 
 pub unit-keeps : Keeps unitCodec any
 unit-keeps = record { sized = λ u. refl; back = λ u rest g. unit-back u rest }
@@ -85,7 +79,7 @@ channel-keeps n h = record {
 -- ---- a buffer, a file
 
 slot-back : (number : ℕ) (x : Slot) (rest : List ℕ)
-    → bufferFrom (rowOf bufferOnes bufferTwos (bufferRow number (slotKind x) (slotWords x) (fullPlace x) (fullArrival x .failed) (fullArrival x .check) ++ rest))
+    → bufferFrom (bufferRow number (slotKind x) (slotWords x) (fullPlace x) (fullArrival x .failed) (fullArrival x .check) ++ rest)
     ≡ record { number = number; slot = x }
 slot-back number Empty rest = refl
 slot-back number Taken rest = refl
@@ -95,12 +89,12 @@ slot-back number (Full n at a) rest = simp two-back
 pub buffer-keeps : Keeps bufferCodec any
 buffer-keeps = record { sized = λ b. refl; back = λ b rest g. slot-back (b .number) (b .slot) rest }
 
-own-file-back : (f : File) (rest : List ℕ) → fileFrom (rowOf fileOnes fileTwos (fileRow f (f .block) ++ rest)) (f .low) (f .high) ≡ f
+own-file-back : (f : File) (rest : List ℕ) → fileFrom (fileRow f (f .block) ++ rest) (f .low) (f .high) ≡ f
 own-file-back f rest = simp (flag-back, two-back)
 
 file-back : (f : File) (rest : List ℕ) → fileCodec .read (fileCodec .write f ++ rest) ≡ f
 file-back f rest =
-    let r = rowOf fileOnes fileTwos (fileRow f (f .block) ++ (bufferBytes (f .low) ++ (bufferBytes (f .high) ++ rest))) in
+    let r = fileRow f (f .block) ++ (bufferBytes (f .low) ++ (bufferBytes (f .high) ++ rest)) in
     ap (λ (b : Buffer). fileFrom r b (bufferCodec .read (bufferBytes (f .high) ++ rest))) (slot-back (f .low .number) (f .low .slot) (bufferBytes (f .high) ++ rest))
     ∙ ap (fileFrom r (f .low)) (slot-back (f .high .number) (f .high .slot) rest)
     ∙ own-file-back f (bufferBytes (f .low) ++ (bufferBytes (f .high) ++ rest))
@@ -148,7 +142,7 @@ whole-files n s w =
 whole-routines : (n : ℕ) (s : State) → Whole n s → HasPosts n (s .routines)
 whole-routines n s w = record { pushed = w .pushed; posts = w .posts; units = w .unitPosts }
 
-own-state-back : (s : State) (rest : List ℕ) → stateWith (rowOf stateOnes stateTwos (stateRow s ++ rest)) (s .channels) (s .files) (s .free) (s .routines) ≡ s
+own-state-back : (s : State) (rest : List ℕ) → stateWith (stateRow s ++ rest) (s .channels) (s .files) (s .free) (s .routines) ≡ s
 own-state-back s rest = simp (flag-back, two-back)
 
 module _ (n : ℕ) (h : n ≤ unitCount) (s : State) (rest : List ℕ) (g : Kept n s) where
@@ -191,7 +185,7 @@ module _ (n : ℕ) (h : n ≤ unitCount) (s : State) (rest : List ℕ) (g : Kept
 
   kept-back : stateCodec n .read there ≡ s
   kept-back =
-      let r = rowOf stateOnes stateTwos there in
+      let r = there in
       ap (λ (x : List Channel).
       stateFrom r x (filesCodec .read (drop (stateHead + channelsCodec n .size) there)) (routinesCodec n .read (drop (stateHead + (channelsCodec n .size + filesCodec .size)) there)))
       channels-there

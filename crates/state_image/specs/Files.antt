@@ -14,9 +14,8 @@ use Rattle.file.specs.declared.File.{File}
 use Rattle.file.specs.Slots.{slotKind, fullPlace, fullArrival}
 use Rattle.file.specs.Sizes.{closedFile}
 use Rattle.pool.specs.Free.{fileCount}
-use Rattle.codec.specs.declared.Row.{Row}
 use Rattle.codec.specs.Codecs.{Codec, padded}
-use Rattle.codec.specs.Rows.{rowOf, rowSize, twoBytes, fourBytes}
+use Rattle.codec.specs.Rows.{twoBytes, fourBytes, twoAt, fourAt}
 
 -- ---- a buffer: its number, 0 empty, 1 taken, 2 part-filled or 3 full, how many words, and of a full block the place of get and how it arrived
 
@@ -26,17 +25,8 @@ slotWords Taken = 0
 slotWords (Part n) = n
 slotWords (Full n at a) = n
 
-abbrev pub bufferOnes : ℕ
-bufferOnes = 4
-
-abbrev pub bufferTwos : ℕ
-bufferTwos = 4
-
-abbrev pub bufferFours : ℕ
-bufferFours = 2
-
 abbrev pub bufferSize : ℕ
-bufferSize = rowSize bufferOnes bufferTwos bufferFours
+bufferSize = 20
 
 abbrev pub bufferRow : ℕ → ℕ → ℕ → ℕ → ℕ → Checked → List ℕ
 bufferRow number kind words at failed found =
@@ -56,42 +46,34 @@ abbrev pub bufferBytes : Buffer → List ℕ
 bufferBytes b =
     bufferRow (b .number) (slotKind (b .slot)) (slotWords (b .slot)) (fullPlace (b .slot)) (fullArrival (b .slot) .failed) (fullArrival (b .slot) .check)
 
-abbrev pub fullFrom : Row → Slot
-fullFrom r =
-    Full (getD (r .twos) 0 0) (getD (r .twos) 1 0)
-    (record {
-      failed = getD (r .ones) 2 0;
-      check = record {
-        error = getD (r .ones) 3 0;
-        sum = getD (r .fours) 0 0;
-        number = getD (r .twos) 2 0;
-        sumread = getD (r .fours) 1 0;
-        numberread = getD (r .twos) 3 0;
-      };
-    })
+abbrev pub arrivalFrom : List ℕ → Arrival
+arrivalFrom bs = record {
+  failed = getD bs 2 0;
+  check = record {
+    error = getD bs 3 0;
+    sum = fourAt bs 12;
+    number = twoAt bs 8;
+    sumread = fourAt bs 16;
+    numberread = twoAt bs 10;
+  };
+}
+
+abbrev pub fullFrom : List ℕ → Slot
+fullFrom bs = Full (twoAt bs 4) (twoAt bs 6) (arrivalFrom bs)
 
 abbrev pub slotOf : ℕ → ℕ → Slot → Slot
 slotOf kind words full = cond (eqb kind 0) Empty (cond (eqb kind 1) Taken (cond (eqb kind 2) (Part words) full))
 
-abbrev pub bufferFrom : Row → Buffer
-bufferFrom r = record { number = getD (r .ones) 0 0; slot = slotOf (getD (r .ones) 1 0) (getD (r .twos) 0 0) (fullFrom r) }
+abbrev pub bufferFrom : List ℕ → Buffer
+bufferFrom bs = record { number = getD bs 0 0; slot = slotOf (getD bs 1 0) (twoAt bs 4) (fullFrom bs) }
 
 abbrev pub bufferCodec : Codec Buffer
-bufferCodec = record { size = bufferSize; write = bufferBytes; read = λ bs. bufferFrom (rowOf bufferOnes bufferTwos bs) }
+bufferCodec = record { size = bufferSize; write = bufferBytes; read = bufferFrom }
 
 -- ---- a file: its own numbers, then its two buffers
 
-abbrev pub fileOnes : ℕ
-fileOnes = 9
-
-abbrev pub fileTwos : ℕ
-fileTwos = 3
-
-abbrev pub fileFours : ℕ
-fileFours = 0
-
 abbrev pub fileHead : ℕ
-fileHead = rowSize fileOnes fileTwos fileFours
+fileHead = 15
 
 abbrev pub fileRow : File → ℕ → List ℕ
 fileRow f block =
@@ -109,22 +91,22 @@ fileRow f block =
     (twoBytes block
     []))
 
-abbrev pub fileFrom : Row → Buffer → Buffer → File
-fileFrom r low high = record {
-  opened = eqb (getD (r .ones) 0 0) 1;
-  channel = getD (r .ones) 1 0;
-  unit = getD (r .ones) 2 0;
-  output = eqb (getD (r .ones) 3 0) 1;
-  double = eqb (getD (r .ones) 4 0) 1;
-  sequence = eqb (getD (r .ones) 5 0) 1;
-  check = eqb (getD (r .ones) 6 0) 1;
-  size = getD (r .twos) 0 0;
-  rlen = getD (r .twos) 1 0;
+abbrev pub fileFrom : List ℕ → Buffer → Buffer → File
+fileFrom bs low high = record {
+  opened = eqb (getD bs 0 0) 1;
+  channel = getD bs 1 0;
+  unit = getD bs 2 0;
+  output = eqb (getD bs 3 0) 1;
+  double = eqb (getD bs 4 0) 1;
+  sequence = eqb (getD bs 5 0) 1;
+  check = eqb (getD bs 6 0) 1;
+  size = twoAt bs 9;
+  rlen = twoAt bs 11;
   low = low;
   high = high;
-  turned = eqb (getD (r .ones) 7 0) 1;
-  block = getD (r .twos) 2 0;
-  marked = eqb (getD (r .ones) 8 0) 1;
+  turned = eqb (getD bs 7 0) 1;
+  block = twoAt bs 13;
+  marked = eqb (getD bs 8 0) 1;
 }
 
 abbrev pub fileSize : ℕ
@@ -134,7 +116,7 @@ abbrev pub fileCodec : Codec File
 fileCodec = record {
   size = fileSize;
   write = λ f. fileRow f (f .block) ++ (bufferBytes (f .low) ++ bufferBytes (f .high));
-  read = λ bs. fileFrom (rowOf fileOnes fileTwos bs) (bufferCodec .read (drop fileHead bs)) (bufferCodec .read (drop (fileHead + bufferSize) bs));
+  read = λ bs. fileFrom bs (bufferCodec .read (drop fileHead bs)) (bufferCodec .read (drop (fileHead + bufferSize) bs));
 }
 
 abbrev pub filesCodec : Codec (List File)

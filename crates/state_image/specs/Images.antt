@@ -18,9 +18,8 @@ use Rattle.pool.specs.Masks.{freeMask}
 use Rattle.state.specs.declared.State.{State}
 use Rattle.state.specs.Places.{channelCount, noChannel, beforeStart}
 use Rattle.state_sound.specs.Soundness.{sound}
-use Rattle.codec.specs.declared.Row.{Row}
 use Rattle.codec.specs.Codecs.{Codec, padded, All, same}
-use Rattle.codec.specs.Rows.{rowOf, rowSize, twoBytes, wordCodec}
+use Rattle.codec.specs.Rows.{twoBytes, twoAt, wordCodec}
 use Rattle.state_image.specs.Units.{unitsCodec, channelCodec}
 use Rattle.state_image.specs.Files.{filesCodec}
 use Rattle.state_image.specs.Routines.{routinesCodec}
@@ -28,17 +27,8 @@ use Rattle.state_image.specs.declared.Image.{Image}
 
 -- ---- a state: its own numbers, the channels, the files, the routines. The free mask follows from the files and has no bytes.
 
-abbrev pub stateOnes : ℕ
-stateOnes = 2
-
-abbrev pub stateTwos : ℕ
-stateTwos = 1
-
-abbrev pub stateFours : ℕ
-stateFours = 0
-
 abbrev pub stateHead : ℕ
-stateHead = rowSize stateOnes stateTwos stateFours
+stateHead = 4
 
 abbrev pub stateRow : State → List ℕ
 stateRow s =
@@ -47,19 +37,19 @@ stateRow s =
     ∷ twoBytes (s .w)
     []
 
-abbrev pub stateWith : Row → List Channel → List File → ℕ → Routines → State
-stateWith r channels files free routines = record {
-  m = getD (r .ones) 0 0;
-  w = getD (r .twos) 0 0;
-  frozen = eqb (getD (r .ones) 1 0) 1;
+abbrev pub stateWith : List ℕ → List Channel → List File → ℕ → Routines → State
+stateWith bs channels files free routines = record {
+  m = getD bs 0 0;
+  w = twoAt bs 2;
+  frozen = eqb (getD bs 1 0) 1;
   channels = channels;
   files = files;
   free = free;
   routines = routines;
 }
 
-abbrev pub stateFrom : Row → List Channel → List File → Routines → State
-stateFrom r channels files routines = stateWith r channels files (freeMask (getD (r .ones) 0 0) files) routines
+abbrev pub stateFrom : List ℕ → List Channel → List File → Routines → State
+stateFrom bs channels files routines = stateWith bs channels files (freeMask (getD bs 0 0) files) routines
 
 abbrev pub channelsCodec : ℕ → Codec (List Channel)
 channelsCodec n = padded (channelCodec n) noChannel channelCount channelCount
@@ -72,7 +62,7 @@ stateCodec n = record {
   size = stateSize n;
   write = λ s. stateRow s ++ (channelsCodec n .write (s .channels) ++ (filesCodec .write (s .files) ++ routinesCodec n .write (s .routines)));
   read = λ bs.
-      stateFrom (rowOf stateOnes stateTwos bs) (channelsCodec n .read (drop stateHead bs)) (filesCodec .read (drop (stateHead + channelsCodec n .size) bs))
+      stateFrom bs (channelsCodec n .read (drop stateHead bs)) (filesCodec .read (drop (stateHead + channelsCodec n .size) bs))
       (routinesCodec n .read (drop (stateHead + (channelsCodec n .size + filesCodec .size)) bs));
 }
 

@@ -14,9 +14,8 @@ use Rattle.channel.specs.declared.Position.{Position}
 use Rattle.channel.specs.declared.Unit.{Unit}
 use Rattle.channel.specs.declared.Channel.{Channel}
 use Rattle.channel.specs.Units.{unitCount, idleUnit}
-use Rattle.codec.specs.declared.Row.{Row}
 use Rattle.codec.specs.Codecs.{Codec, padded}
-use Rattle.codec.specs.Rows.{rowOf, rowSize, twoBytes}
+use Rattle.codec.specs.Rows.{twoBytes, twoAt}
 
 -- ---- how a unit stands: 0 idle, 1 waiting, 2 displaced, 3 working; and its request, all zero where it has none
 
@@ -47,19 +46,10 @@ opByte Mark = 2
 abbrev pub opOf : ℕ → Op
 opOf n = cond (eqb n 0) Read (cond (eqb n 1) Write Mark)
 
--- ---- a unit: how many numbers of one byte, of two and of four; its bytes in that order; and the unit of such a row
-
-abbrev pub unitOnes : ℕ
-unitOnes = 8
-
-abbrev pub unitTwos : ℕ
-unitTwos = 2
-
-abbrev pub unitFours : ℕ
-unitFours = 0
+-- ---- a unit: its bytes, numbers of one byte first, and the unit of such bytes
 
 abbrev pub unitSize : ℕ
-unitSize = rowSize unitOnes unitTwos unitFours
+unitSize = 12
 
 abbrev pub unitRow : Unit → ℕ → ℕ → Request → Position → List ℕ
 unitRow u kind op q p =
@@ -78,58 +68,34 @@ unitRow u kind op q p =
 abbrev pub unitBytes : Unit → List ℕ
 unitBytes u = unitRow u (turnByte (u .turn)) (opByte (requestIn (u .turn) .op)) (requestIn (u .turn)) (u .position)
 
-abbrev pub requestFrom : Row → Op → Request
-requestFrom r op = record {
-  op = op;
-  priority = eqb (getD (r .ones) 3 0) 1;
-  attempts = getD (r .ones) 4 0;
-  incomplete = getD (r .ones) 5 0;
-  noise = getD (r .ones) 6 0;
+abbrev pub requestFrom : List ℕ → Request
+requestFrom bs = record {
+  op = opOf (getD bs 2 0);
+  priority = eqb (getD bs 3 0) 1;
+  attempts = getD bs 4 0;
+  incomplete = getD bs 5 0;
+  noise = getD bs 6 0;
 }
 
-abbrev pub unitWith : Row → Turn → Unit
-unitWith r turn = record {
-  declared = eqb (getD (r .ones) 0 0) 1;
-  turn = turn;
-  position = record {
-    marks = getD (r .twos) 0 0;
-    records = getD (r .twos) 1 0;
-    noisy = eqb (getD (r .ones) 7 0) 1;
-  };
-}
+abbrev pub positionFrom : List ℕ → Position
+positionFrom bs = record { marks = twoAt bs 8; records = twoAt bs 10; noisy = eqb (getD bs 7 0) 1 }
 
-abbrev pub unitFrom : Row → Unit
-unitFrom r = unitWith r (turnOf (getD (r .ones) 1 0) (requestFrom r (opOf (getD (r .ones) 2 0))))
+abbrev pub unitFrom : List ℕ → Unit
+unitFrom bs = record { declared = eqb (getD bs 0 0) 1; turn = turnOf (getD bs 1 0) (requestFrom bs); position = positionFrom bs }
 
 abbrev pub unitCodec : Codec Unit
-unitCodec = record { size = unitSize; write = unitBytes; read = λ bs. unitFrom (rowOf unitOnes unitTwos bs) }
+unitCodec = record { size = unitSize; write = unitBytes; read = unitFrom }
 
 -- ---- a channel of n units: its own numbers, then the units; units from n on are not declared, and their reels stand at the start
 
-abbrev pub channelOnes : ℕ
-channelOnes = 2
-
-abbrev pub channelTwos : ℕ
-channelTwos = 0
-
-abbrev pub channelFours : ℕ
-channelFours = 0
-
 abbrev pub channelHead : ℕ
-channelHead = rowSize channelOnes channelTwos channelFours
+channelHead = 2
 
 abbrev pub channelRow : Channel → List ℕ
 channelRow c =
     c .mark
     ∷ c .urgent
     ∷ []
-
-abbrev pub channelFrom : Row → List Unit → Channel
-channelFrom r units = record {
-  units = units;
-  mark = getD (r .ones) 0 0;
-  urgent = getD (r .ones) 1 0;
-}
 
 abbrev pub unitsCodec : ℕ → Codec (List Unit)
 unitsCodec n = padded unitCodec (idleUnit false) unitCount n
@@ -138,5 +104,5 @@ abbrev pub channelCodec : ℕ → Codec Channel
 channelCodec n = record {
   size = channelHead + n * unitSize;
   write = λ c. channelRow c ++ unitsCodec n .write (c .units);
-  read = λ bs. channelFrom (rowOf channelOnes channelTwos bs) (unitsCodec n .read (drop channelHead bs));
+  read = λ bs. record { units = unitsCodec n .read (drop channelHead bs); mark = getD bs 0 0; urgent = getD bs 1 0 };
 }

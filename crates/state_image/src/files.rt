@@ -1,7 +1,7 @@
 // A buffer and a file as bytes of an image.
-use codec::Row;
+use codec::four_at;
 use codec::put_bytes;
-use codec::row_at;
+use codec::two_at;
 use file::Arrival;
 use file::Buffer;
 use file::File;
@@ -16,28 +16,14 @@ ghost use Prim.Native.Nat.{_+_, _*_, _≤_};
 ghost use lib.ListN.{length, drop};
 ghost use Rattle.area.specs.Parts.{paste};
 ghost use Rattle.file.specs.Slots.{slotKind};
-ghost use Rattle.codec.specs.Rows.{rowRoom};
-ghost use Rattle.state_image.specs.Files.{slotWords, bufferSize, bufferRow, bufferBytes, fullFrom, slotOf, bufferCodec, fileRow, fileFrom, fileSize, fileCodec, filesCodec};
+ghost use Rattle.state_image.specs.Files.{slotWords, bufferSize, bufferRow, bufferBytes, arrivalFrom, fullFrom, slotOf, bufferCodec, fileRow, fileFrom, fileSize, fileCodec, filesCodec};
 
-// How many numbers of one byte, of two and of four a buffer has, and its bytes.
-const ONES: usize = 4;
+// The bytes of a buffer, of a file's own numbers, and of a file.
+const BUFFER: usize = 20;
 
-const TWOS: usize = 4;
+const OWN: usize = 15;
 
-const FOURS: usize = 2;
-
-const BUFFER: usize = ONES + 2 * TWOS + 4 * FOURS;
-
-// The same of a file's own numbers.
-const OWN_ONES: usize = 9;
-
-const OWN_TWOS: usize = 3;
-
-const OWN_FOURS: usize = 0;
-
-const OWN: usize = OWN_ONES + 2 * OWN_TWOS + 4 * OWN_FOURS;
-
-const FILE: usize = OWN + (BUFFER + BUFFER);
+pub const FILE: usize = OWN + (BUFFER + BUFFER);
 
 // The bytes of all files.
 pub const FILE_BYTES: usize = FILES * FILE;
@@ -101,24 +87,39 @@ fn buffer_row(number: u8, kind: u8, words: u16, at: u16, failed: u8, found: Chec
     ]
 }
 
-// The full block of a row.
-fn full_from(r: Row) -> Slot
-    ensures { λ x. ⌜ x ≡ fullFrom r ⌝ }
+// How the full block whose buffer stands at byte `at` arrived.
+fn arrival_at(b: &[u8], at: usize) -> Arrival
+    requires { ⌜ at + bufferSize ≤ length (now b) ⌝ }
+    ensures { λ x. ⌜ x ≡ arrivalFrom (drop at (now (b .entry))) ⌝ }
 {
+    let sum = four_at(b, at + 12);
+    let number = two_at(b, at + 8);
+    let sumread = four_at(b, at + 16);
+    let numberread = two_at(b, at + 10);
     let check = Checked {
-        error: r.ones[3],
-        sum: r.fours[0],
-        number: r.twos[2],
-        sumread: r.fours[1],
-        numberread: r.twos[3],
+        error: b[at + 3],
+        sum,
+        number,
+        sumread,
+        numberread,
     };
-    let arrival = Arrival {
-        failed: r.ones[2],
+    Arrival {
+        failed: b[at + 2],
         check,
-    };
+    }
+}
+
+// What a buffer at byte `at` holds if it is full.
+fn full_at(b: &[u8], at: usize) -> Slot
+    requires { ⌜ at + bufferSize ≤ length (now b) ⌝ }
+    ensures { λ x. ⌜ x ≡ fullFrom (drop at (now (b .entry))) ⌝ }
+{
+    let words = two_at(b, at + 4);
+    let place = two_at(b, at + 6);
+    let arrival = arrival_at(b, at);
     Slot::Full {
-        words: r.twos[0],
-        at: r.twos[1],
+        words,
+        at: place,
         arrival,
     }
 }
@@ -155,14 +156,14 @@ fn put_buffer(out: &mut [u8], at: usize, b: Buffer)
 
 // The buffer that stands at byte `at`.
 fn buffer_at(b: &[u8], at: usize) -> Buffer
-    requires { ⌜ at + rowRoom ≤ length (now b) ⌝ }
+    requires { ⌜ at + bufferSize ≤ length (now b) ⌝ }
     ensures { λ x. ⌜ x ≡ bufferCodec .read (drop at (now (b .entry))) ⌝ }
 {
-    let r = row_at(b, at, ONES, TWOS);
-    let full = full_from(r);
-    let slot = slot_of(r.ones[1], r.twos[0], full);
+    let words = two_at(b, at + 4);
+    let full = full_at(b, at);
+    let slot = slot_of(b[at + 1], words, full);
     Buffer {
-        number: r.ones[0],
+        number: b[at],
         slot,
     }
 }
@@ -190,29 +191,8 @@ fn file_row(f: File, block: u16) -> [u8; OWN]
     ]
 }
 
-fn file_from(r: Row, low: Buffer, high: Buffer) -> File
-    ensures { λ x. ⌜ x ≡ fileFrom r low high ⌝ }
-{
-    File {
-        opened: r.ones[0] == 1,
-        channel: r.ones[1],
-        unit: r.ones[2],
-        output: r.ones[3] == 1,
-        double: r.ones[4] == 1,
-        sequence: r.ones[5] == 1,
-        check: r.ones[6] == 1,
-        size: r.twos[0],
-        rlen: r.twos[1],
-        low,
-        high,
-        turned: r.ones[7] == 1,
-        block: r.twos[2],
-        marked: r.ones[8] == 1,
-    }
-}
-
 // Puts the bytes of a file into the area from byte `at` on.
-fn put_file(out: &mut [u8], at: usize, f: File)
+pub fn put_file(out: &mut [u8], at: usize, f: File)
     requires { ⌜ at + fileSize ≤ length (now out) ⌝ }
     ensures { λ _. ⌜ now (out .exit) ≡ paste at (fileCodec .write f) (now (out .entry)) ⌝ }
 {
@@ -225,14 +205,31 @@ fn put_file(out: &mut [u8], at: usize, f: File)
 }
 
 // The file that stands at byte `at`.
-fn file_at(b: &[u8], at: usize) -> File
-    requires { ⌜ at + fileSize + rowRoom ≤ length (now b) ⌝ }
+pub fn file_at(b: &[u8], at: usize) -> File
+    requires { ⌜ at + fileSize ≤ length (now b) ⌝ }
     ensures { λ x. ⌜ x ≡ fileCodec .read (drop at (now (b .entry))) ⌝ }
 {
-    let r = row_at(b, at, OWN_ONES, OWN_TWOS);
     let low = buffer_at(b, at + OWN);
     let high = buffer_at(b, at + OWN + BUFFER);
-    file_from(r, low, high)
+    let size = two_at(b, at + 9);
+    let rlen = two_at(b, at + 11);
+    let block = two_at(b, at + 13);
+    File {
+        opened: b[at] == 1,
+        channel: b[at + 1],
+        unit: b[at + 2],
+        output: b[at + 3] == 1,
+        double: b[at + 4] == 1,
+        sequence: b[at + 5] == 1,
+        check: b[at + 6] == 1,
+        size,
+        rlen,
+        low,
+        high,
+        turned: b[at + 7] == 1,
+        block,
+        marked: b[at + 8] == 1,
+    }
 }
 
 // Puts the bytes of the files into the area from byte `at` on.
@@ -252,7 +249,7 @@ pub fn put_files(out: &mut [u8], at: usize, files: [File; FILES])
 
 // The files from byte `start` on.
 pub fn files_at(b: &[u8], start: usize) -> [File; FILES]
-    requires { ⌜ start + filesCodec .size + rowRoom ≤ length (now b) ⌝ }
+    requires { ⌜ start + filesCodec .size ≤ length (now b) ⌝ }
     ensures { λ x. ⌜ x ≡ filesCodec .read (drop start (now (b .entry))) ⌝ }
 {
     let closed = closed_file();

@@ -13,16 +13,11 @@ use crate::words::ALL_WORDS;
 use crate::words::WORDS;
 use crate::words::put_words;
 use crate::words::read_words;
-use channel::Channel;
 use channel::UNITS;
-use codec::Row;
 use codec::are_same;
 use codec::put_bytes;
-use codec::row_at;
-use file::File;
-use pool::FILES;
+use codec::two_at;
 use pool::free_mask;
-use routines::Routines;
 use state::CHANNELS;
 use state::State;
 use state::before_start;
@@ -34,17 +29,10 @@ ghost use lib.ListN.{length, take};
 ghost use Rattle.area.specs.Parts.{paste};
 ghost use Rattle.channel.specs.Units.{unitCount};
 ghost use Rattle.codec.specs.Codecs.{same};
-ghost use Rattle.codec.specs.Rows.{rowRoom};
-ghost use Rattle.state_image.specs.Images.{stateRow, stateWith, stateCodec, stateSize, stateIn, areaIn, imageOf, imageIn, imageFits};
+ghost use Rattle.state_image.specs.Images.{stateRow, stateCodec, stateSize, stateIn, areaIn, imageOf, imageIn, imageFits};
 
-// How many numbers of one byte, of two and of four a state has of its own, and their bytes.
-const ONES: usize = 2;
-
-const TWOS: usize = 1;
-
-const FOURS: usize = 0;
-
-const OWN: usize = ONES + 2 * TWOS + 4 * FOURS;
+// The bytes of a state's own numbers.
+const OWN: usize = 4;
 
 // The bytes of a state, and of its image with the area.
 const STATE: usize = OWN + (CHANNELS * CHANNEL + (FILE_BYTES + ROUTINE_BYTES));
@@ -56,26 +44,6 @@ fn state_row(s: State) -> [u8; OWN]
     ensures { λ r. ⌜ r ≡ stateRow s ⌝ }
 {
     [s.m, s.frozen as u8, (s.w % 256) as u8, (s.w / 256) as u8]
-}
-
-fn state_with(
-    r: Row,
-    channels: [Channel; CHANNELS],
-    files: [File; FILES],
-    free: u32,
-    routines: Routines,
-) -> State
-    ensures { λ x. ⌜ x ≡ stateWith r channels files free routines ⌝ }
-{
-    State {
-        m: r.ones[0],
-        w: r.twos[0],
-        frozen: r.ones[1] == 1,
-        channels,
-        files,
-        free,
-        routines,
-    }
 }
 
 // Puts the bytes of a state with n units on each channel at the front of the area.
@@ -104,10 +72,10 @@ fn put_state(out: &mut [u8], s: State, n: usize)
 
 // The state with n units on each channel that stands at the front of the area.
 fn state_at(b: &[u8], n: usize) -> State
-    requires { ⌜ (n ≤ unitCount) × (stateSize n + rowRoom ≤ length (now b)) ⌝ }
+    requires { ⌜ (n ≤ unitCount) × (stateSize n ≤ length (now b)) ⌝ }
     ensures { λ x. ⌜ x ≡ stateCodec n .read (now (b .entry)) ⌝ }
 {
-    let r = row_at(b, 0, ONES, TWOS);
+    let w = two_at(b, 2);
     let channels = channels_at(b, OWN, n);
     let files = files_at(
         b,
@@ -118,8 +86,16 @@ fn state_at(b: &[u8], n: usize) -> State
         OWN + (CHANNELS * (crate::units::OWN + n * crate::units::UNIT) + FILE_BYTES),
         n,
     );
-    let free = free_mask(r.ones[0], files);
-    state_with(r, channels, files, free, routines)
+    let free = free_mask(b[0], files);
+    State {
+        m: b[0],
+        w,
+        frozen: b[1] == 1,
+        channels,
+        files,
+        free,
+        routines,
+    }
 }
 
 // Whether the state's bytes are these.

@@ -6,9 +6,8 @@ use channel::Request;
 use channel::Turn;
 use channel::UNITS;
 use channel::Unit;
-use codec::Row;
 use codec::put_bytes;
-use codec::row_at;
+use codec::two_at;
 use state::CHANNELS;
 ghost use mathlib.Core.Path.{_≡_};
 ghost use mathlib.Core.Bool.{false};
@@ -16,27 +15,13 @@ ghost use Prim.Native.Nat.{_+_, _*_, _≤_};
 ghost use lib.ListN.{length, drop};
 ghost use Rattle.area.specs.Parts.{paste};
 ghost use Rattle.channel.specs.Units.{unitCount};
-ghost use Rattle.codec.specs.Rows.{rowRoom};
-ghost use Rattle.state_image.specs.Units.{turnByte, requestIn, turnOf, opByte, opOf, unitSize, unitRow, unitBytes, requestFrom, unitWith, unitCodec, channelRow, channelFrom, unitsCodec, channelCodec};
+ghost use Rattle.state_image.specs.Units.{turnByte, requestIn, turnOf, opByte, opOf, unitSize, unitRow, unitBytes, requestFrom, positionFrom, unitCodec, channelRow, unitsCodec, channelCodec};
 ghost use Rattle.state_image.specs.Images.{channelsCodec};
 
-// How many numbers of one byte, of two and of four a unit has, and its bytes.
-const ONES: usize = 8;
+// The bytes of a unit, and of a channel's own numbers.
+pub const UNIT: usize = 12;
 
-const TWOS: usize = 2;
-
-const FOURS: usize = 0;
-
-pub const UNIT: usize = ONES + 2 * TWOS + 4 * FOURS;
-
-// The same of a channel's own numbers.
-const OWN_ONES: usize = 2;
-
-const OWN_TWOS: usize = 0;
-
-const OWN_FOURS: usize = 0;
-
-pub const OWN: usize = OWN_ONES + 2 * OWN_TWOS + 4 * OWN_FOURS;
+pub const OWN: usize = 2;
 
 // The bytes of a channel with all its units.
 pub const CHANNEL: usize = OWN + UNITS * UNIT;
@@ -127,33 +112,6 @@ fn unit_row(u: Unit, kind: u8, op: u8, q: Request, p: Position) -> [u8; UNIT]
     ]
 }
 
-fn request_from(r: Row, op: Op) -> Request
-    ensures { λ x. ⌜ x ≡ requestFrom r op ⌝ }
-{
-    Request {
-        op,
-        priority: r.ones[3] == 1,
-        attempts: r.ones[4],
-        incomplete: r.ones[5],
-        noise: r.ones[6],
-    }
-}
-
-fn unit_with(r: Row, turn: Turn) -> Unit
-    ensures { λ x. ⌜ x ≡ unitWith r turn ⌝ }
-{
-    let position = Position {
-        marks: r.twos[0],
-        records: r.twos[1],
-        noisy: r.ones[7] == 1,
-    };
-    Unit {
-        declared: r.ones[0] == 1,
-        turn,
-        position,
-    }
-}
-
 // Puts the bytes of a unit into the area from byte `at` on.
 fn put_unit(out: &mut [u8], at: usize, u: Unit)
     requires { ⌜ at + unitSize ≤ length (now out) ⌝ }
@@ -169,16 +127,48 @@ fn put_unit(out: &mut [u8], at: usize, u: Unit)
     put_bytes(out, at, &bytes);
 }
 
+// The request of the unit that stands at byte `at`.
+fn request_at(b: &[u8], at: usize) -> Request
+    requires { ⌜ at + unitSize ≤ length (now b) ⌝ }
+    ensures { λ x. ⌜ x ≡ requestFrom (drop at (now (b .entry))) ⌝ }
+{
+    let op = op_of(b[at + 2]);
+    Request {
+        op,
+        priority: b[at + 3] == 1,
+        attempts: b[at + 4],
+        incomplete: b[at + 5],
+        noise: b[at + 6],
+    }
+}
+
+// Where the reel of that unit stands.
+fn position_at(b: &[u8], at: usize) -> Position
+    requires { ⌜ at + unitSize ≤ length (now b) ⌝ }
+    ensures { λ x. ⌜ x ≡ positionFrom (drop at (now (b .entry))) ⌝ }
+{
+    let marks = two_at(b, at + 8);
+    let records = two_at(b, at + 10);
+    Position {
+        marks,
+        records,
+        noisy: b[at + 7] == 1,
+    }
+}
+
 // The unit that stands at byte `at`.
-fn unit_at(b: &[u8], at: usize) -> Unit
-    requires { ⌜ at + rowRoom ≤ length (now b) ⌝ }
+pub fn unit_at(b: &[u8], at: usize) -> Unit
+    requires { ⌜ at + unitSize ≤ length (now b) ⌝ }
     ensures { λ x. ⌜ x ≡ unitCodec .read (drop at (now (b .entry))) ⌝ }
 {
-    let r = row_at(b, at, ONES, TWOS);
-    let op = op_of(r.ones[2]);
-    let q = request_from(r, op);
-    let turn = turn_of(r.ones[1], q);
-    unit_with(r, turn)
+    let q = request_at(b, at);
+    let position = position_at(b, at);
+    let turn = turn_of(b[at + 1], q);
+    Unit {
+        declared: b[at] == 1,
+        turn,
+        position,
+    }
 }
 
 // Puts the bytes of the first n units into the area from byte `at` on.
@@ -198,7 +188,7 @@ fn put_units(out: &mut [u8], at: usize, units: [Unit; UNITS], n: usize)
 
 // The first n units from byte `start` on; those from n on are not declared, and their reels stand at the start.
 fn units_at(b: &[u8], start: usize, n: usize) -> [Unit; UNITS]
-    requires { ⌜ (n ≤ unitCount) × (start + n * unitSize + rowRoom ≤ length (now b)) ⌝ }
+    requires { ⌜ (n ≤ unitCount) × (start + n * unitSize ≤ length (now b)) ⌝ }
     ensures { λ x. ⌜ x ≡ unitsCodec n .read (drop start (now (b .entry))) ⌝ }
 {
     let position = Position {
@@ -230,18 +220,8 @@ fn channel_row(c: Channel) -> [u8; OWN]
     [c.mark, c.urgent]
 }
 
-fn channel_from(r: Row, units: [Unit; UNITS]) -> Channel
-    ensures { λ x. ⌜ x ≡ channelFrom r units ⌝ }
-{
-    Channel {
-        units,
-        mark: r.ones[0],
-        urgent: r.ones[1],
-    }
-}
-
 // Puts the bytes of a channel of n units into the area from byte `at` on.
-fn put_channel(out: &mut [u8], at: usize, c: Channel, n: usize)
+pub fn put_channel(out: &mut [u8], at: usize, c: Channel, n: usize)
     requires { ⌜ (n ≤ unitCount) × (at + channelCodec n .size ≤ length (now out)) ⌝ }
     ensures { λ _. ⌜ now (out .exit) ≡ paste at (channelCodec n .write c) (now (out .entry)) ⌝ }
 {
@@ -252,13 +232,16 @@ fn put_channel(out: &mut [u8], at: usize, c: Channel, n: usize)
 }
 
 // The channel of n units that stands at byte `at`.
-fn channel_at(b: &[u8], at: usize, n: usize) -> Channel
-    requires { ⌜ (n ≤ unitCount) × (at + channelCodec n .size + rowRoom ≤ length (now b)) ⌝ }
+pub fn channel_at(b: &[u8], at: usize, n: usize) -> Channel
+    requires { ⌜ (n ≤ unitCount) × (at + channelCodec n .size ≤ length (now b)) ⌝ }
     ensures { λ x. ⌜ x ≡ channelCodec n .read (drop at (now (b .entry))) ⌝ }
 {
-    let r = row_at(b, at, OWN_ONES, OWN_TWOS);
     let units = units_at(b, at + OWN, n);
-    channel_from(r, units)
+    Channel {
+        units,
+        mark: b[at],
+        urgent: b[at + 1],
+    }
 }
 
 // Puts the bytes of the channels into the area from byte `at` on.
@@ -279,7 +262,7 @@ pub fn put_channels(out: &mut [u8], at: usize, channels: [Channel; CHANNELS], n:
 
 // The channels of n units each from byte `start` on.
 pub fn channels_at(b: &[u8], start: usize, n: usize) -> [Channel; CHANNELS]
-    requires { ⌜ (n ≤ unitCount) × (start + channelsCodec n .size + rowRoom ≤ length (now b)) ⌝ }
+    requires { ⌜ (n ≤ unitCount) × (start + channelsCodec n .size ≤ length (now b)) ⌝ }
     ensures { λ x. ⌜ x ≡ channelsCodec n .read (drop start (now (b .entry))) ⌝ }
 {
     let none = channel::fresh(0);

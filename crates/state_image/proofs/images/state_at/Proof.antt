@@ -3,8 +3,8 @@ use borrow.Author.Needs.{needs}
 use Rattle.state_image.proofs.images.state_at.Statement.{statement}
 use Rattle.state_image.proofs.images.state_at.Tie as tie
 
-row-at-requires : tie.Need-row-at-requires
-row-at-requires c κs = search needs
+two-at-requires : tie.Need-two-at-requires
+two-at-requires c κs = search needs
 
 channels-at-requires : tie.Need-channels-at-requires
 channels-at-requires c κs = search needs
@@ -42,23 +42,26 @@ add-routines-at-3 c = search needs
 routines-at-requires : tie.Need-routines-at-requires
 routines-at-requires c κs = search needs
 
-element-copy-out-free-mask : tie.Need-element-copy-out-free-mask
-element-copy-out-free-mask c = search needs
+shared-slice-read-free-mask : tie.Need-shared-slice-read-free-mask
+shared-slice-read-free-mask c = search needs
 
 free-mask-requires : tie.Need-free-mask-requires
 free-mask-requires c κs = search needs
 
-state-with-requires : tie.Need-state-with-requires
-state-with-requires c κs = search needs
+shared-slice-read-t14 : tie.Need-shared-slice-read-t14
+shared-slice-read-t14 c = search needs
+
+shared-slice-read-t17 : tie.Need-shared-slice-read-t17
+shared-slice-read-t17 c = search needs
 
 returns : tie.Need-returns
-returns c = rw (c .state-with .ensures, c .before .free-mask .ensures, c .before .before .before .routines-at .ensures, c .before .before .before .before .files-at .ensures, c .before .before .before .before .before .channels-at .ensures, c .before .before .before .before .before .before .row-at .ensures)
+returns c = rw (c .before .before .free-mask .ensures, c .before .before .before .before .routines-at .ensures, c .before .before .before .before .before .files-at .ensures, c .before .before .before .before .before .before .channels-at .ensures, c .before .before .before .before .before .before .before .two-at .ensures)
 
 pub state-at-spec : {M : Type 1} → statement M
 state-at-spec =
     tie.close
     (tie.spec
-    row-at-requires
+    two-at-requires
     channels-at-requires
     mul-files-at
     add-files-at
@@ -71,7 +74,8 @@ state-at-spec =
     add-routines-at-2
     add-routines-at-3
     routines-at-requires
-    element-copy-out-free-mask
+    shared-slice-read-free-mask
     free-mask-requires
-    state-with-requires
+    shared-slice-read-t14
+    shared-slice-read-t17
     returns)
