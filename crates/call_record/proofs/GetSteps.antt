@@ -1,5 +1,5 @@
 -- What get and skip do on one file, step by step as their code goes, comes to their definitions. Assumes nothing.
-use mathlib.Core.Path.{_≡_, ap, _∙_}
+use mathlib.Core.Path.{_≡_, sym, ap, _∙_}
 use mathlib.Core.Bool.{Bool, false, not, _&&_}
 use mathlib.Core.List.{List, [], _∷_}
 use Prim.Native.Nat.{ℕ}
@@ -12,7 +12,7 @@ use Rattle.file.specs.Fills.{withoutOldest}
 use Rattle.file_input.specs.Delivers.{hasFull}
 use Rattle.file_input.specs.declared.Got.{Got}
 use Rattle.file_input.specs.declared.Finding.{Finding}
-use Rattle.file_input.specs.Gets.{getFrom}
+use Rattle.file_input.specs.Gets.{afterGet, getFrom}
 use Rattle.file_input.specs.Histories.{shown}
 use Rattle.call_record.specs.Get.{getRows, getRefusal, noAnswer, getOn}
 use Rattle.call_record.specs.Skip.{skipRows, skipRefusal, skipOn}
@@ -23,13 +23,25 @@ module _ (wrong : Bool) (f : File) (w : ℕ) (area : List ℕ) (x : Finding) (ex
   refusal-is : no ≡ getRefusal wrong f (getFrom w f .got) area
   refusal-is = e ∙ ap (λ (y : Finding). getRefusal wrong f (y .got) area) ex
 
-  pub get-refused : (no ≡ 0 → ⊥) → record { refusal = no; got = noAnswer; file = f } ≡ getOn wrong f w area
+  pub get-refused : (no ≡ 0 → ⊥) → (no ≡ getOn wrong f w area .refusal) × (noAnswer ≡ getOn wrong f w area .got)
   unfolding getOn
-  get-refused h = rw (← refusal-is, ne-eqb no 0 h)
+  get-refused h = (refusal-is, rw (← refusal-is, ne-eqb no 0 h))
 
-  pub get-taken : no ≡ 0 → record { refusal = 0; got = x .got; file = x .file } ≡ getOn wrong f w area
+  pub get-taken : no ≡ 0 → (0 ≡ getOn wrong f w area .refusal) × (x .got ≡ getOn wrong f w area .got)
   unfolding getOn
-  get-taken z = ap (λ (y : Finding). record { refusal = 0; got = y .got; file = y .file }) ex ∙ rw (← refusal-is, z)
+  get-taken z = (sym z ∙ refusal-is, ap (λ (y : Finding). y .got) ex ∙ rw (← refusal-is, z))
+
+-- with the file after it
+module _ (wrong : Bool) (f : File) (w : ℕ) (area : List ℕ) (no : ℕ) (g : Got) (e : no ≡ getOn wrong f w area .refusal) (eg : g ≡ getOn wrong f w area .got) where
+  pub get-keeps : (no ≡ 0 → ⊥) → record { refusal = no; got = g; file = f } ≡ getOn wrong f w area
+  unfolding getOn
+  get-keeps h =
+      let n = ne-eqb no 0 h in
+      rw (eg, ← e, n)
+
+  pub get-changes : no ≡ 0 → (after : File) → after ≡ afterGet f → record { refusal = 0; got = g; file = after } ≡ getOn wrong f w area
+  unfolding getOn getFrom afterGet
+  get-changes z after ea = rw (eg, ea, ← e, z)
 
 -- ---- skip on one file
 

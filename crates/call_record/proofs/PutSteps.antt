@@ -19,35 +19,50 @@ use Rattle.call_record.specs.Seal.{sealSums, sealRows, sealRefusal, seal
 -- ---- put on one file
 
 module _ (wrong : Bool) (f : File) (w : ℕ) (area words : List ℕ) (no : ℕ) (e : no ≡ putRefusal wrong f w area words) where
-  pub put-refused : (no ≡ 0 → ⊥) → (record { refusal = no; file = f } ≡ putOn wrong f w area words) × (area ≡ putOnArea wrong f w area words)
-  unfolding putOn putOnArea
-  put-refused h = (rw (← e, ne-eqb no 0 h), rw (← e, ne-eqb no 0 h))
+  pub put-refused : (no ≡ 0 → ⊥) → area ≡ putOnArea wrong f w area words
+  unfolding putOnArea
+  put-refused h = rw (← e, ne-eqb no 0 h)
 
   module _ (z : no ≡ 0) (g : File) (b : Bool) (filled : List ℕ) (ef : filled ≡ filledArea w f words area) (eg : g ≡ added f) (eb : b ≡ isComplete g) where
     -- the block is complete, and sealed at once
-    pub put-complete : b ≡ true → (h : File) (zs : List ℕ) → zs ≡ sealedArea w g filled → h ≡ sealedFile g
-        → (record { refusal = 0; file = h } ≡ putOn wrong f w area words) × (zs ≡ putOnArea wrong f w area words)
-    unfolding putOn putOnArea afterPut putArea
-    put-complete t h zs ez eh =
+    pub put-complete : b ≡ true → (zs : List ℕ) → zs ≡ sealedArea w g filled → zs ≡ putOnArea wrong f w area words
+    unfolding putOnArea putArea
+    put-complete t zs ez =
         let c : isComplete (added f) ≡ true = sym (eb ∙ ap isComplete eg) ∙ t in
-        let k : h ≡ sealedFile (added f) = eh ∙ ap sealedFile eg in
-        (rw (← e, z, c, k), rw (← e, z, c) (ez ∙ ap₂ (sealedArea w) eg ef))
+        rw (← e, z, c) (ez ∙ ap₂ (sealedArea w) eg ef)
 
     -- more words fit
-    pub put-open : b ≡ false → (record { refusal = 0; file = g } ≡ putOn wrong f w area words) × (filled ≡ putOnArea wrong f w area words)
-    unfolding putOn putOnArea afterPut putArea
+    pub put-open : b ≡ false → filled ≡ putOnArea wrong f w area words
+    unfolding putOnArea putArea
     put-open t =
         let c : isComplete (added f) ≡ false = sym (eb ∙ ap isComplete eg) ∙ t in
-        (rw (← e, z, c, eg), rw (← e, z, c) ef)
+        rw (← e, z, c) ef
+
+  -- with the file after it
+  pub put-keeps : (no ≡ 0 → ⊥) → record { refusal = no; file = f } ≡ putOn wrong f w area words
+  unfolding putOn
+  put-keeps h = rw (← e, ne-eqb no 0 h)
+
+  pub put-changes : no ≡ 0 → (g : File) → g ≡ afterPut f → record { refusal = 0; file = g } ≡ putOn wrong f w area words
+  unfolding putOn
+  put-changes z g eg = rw (← e, z, eg)
 
 -- ---- seal on one file
 
 module _ (wrong : Bool) (f : File) (w : ℕ) (area : List ℕ) (no : ℕ) (e : no ≡ sealRefusal wrong f w area) where
-  pub seal-refused : (no ≡ 0 → ⊥) → (record { refusal = no; file = f } ≡ sealOn wrong f w area) × (area ≡ sealOnArea wrong f w area)
-  unfolding sealOn sealOnArea
-  seal-refused h = (rw (← e, ne-eqb no 0 h), rw (← e, ne-eqb no 0 h))
+  pub seal-refused : (no ≡ 0 → ⊥) → area ≡ sealOnArea wrong f w area
+  unfolding sealOnArea
+  seal-refused h = rw (← e, ne-eqb no 0 h)
 
-  pub seal-taken : no ≡ 0 → (g : File) (zs : List ℕ) → g ≡ sealedFile f → zs ≡ sealedArea w f area
-      → (record { refusal = 0; file = g } ≡ sealOn wrong f w area) × (zs ≡ sealOnArea wrong f w area)
-  unfolding sealOn sealOnArea
-  seal-taken z g zs eg ez = (rw (← e, z, eg), rw (← e, z) ez)
+  pub seal-taken : no ≡ 0 → (zs : List ℕ) → zs ≡ sealedArea w f area → zs ≡ sealOnArea wrong f w area
+  unfolding sealOnArea
+  seal-taken z zs ez = rw (← e, z) ez
+
+  -- with the file after it
+  pub seal-keeps : (no ≡ 0 → ⊥) → record { refusal = no; file = f } ≡ sealOn wrong f w area
+  unfolding sealOn
+  seal-keeps h = rw (← e, ne-eqb no 0 h)
+
+  pub seal-changes : no ≡ 0 → (g : File) → g ≡ sealedFile f → record { refusal = 0; file = g } ≡ sealOn wrong f w area
+  unfolding sealOn
+  seal-changes z g eg = rw (← e, z, eg)

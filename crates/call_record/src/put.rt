@@ -5,10 +5,10 @@ use area::row;
 use file::File;
 use file::FileChange;
 use file_output::added;
+use file_output::after_put;
 use file_output::has_room;
 use file_output::is_complete;
 use file_output::put_start;
-use file_output::sealed;
 ghost use mathlib.Core.Path.{_≡_};
 ghost use Rattle.call_record.specs.Put.{sums, putRefusal, filledArea, putOn, putOnArea};
 
@@ -52,28 +52,37 @@ fn fill(f: File, w: u16, area: &mut [u64], words: &[u64])
     area::copy_in(area, at, words);
 }
 
-// Put on one file, in an area with w words for each buffer.
+// Put on one file, in an area with w words for each buffer: the refusal, or 0 and the words are there.
+pub fn put_in(c1: bool, f: File, w: u16, area: &mut [u64], words: &[u64]) -> u8
+    ensures { λ r. ⌜ r ≡ putRefusal c1 f w (now (area .entry)) (now (words .entry)) ⌝ }
+    ensures { λ _. ⌜ now (area .exit) ≡ putOnArea c1 f w (now (area .entry)) (now (words .entry)) ⌝ }
+{
+    let no = put_refusal(c1, f, w, &area[..], words);
+    if no != 0 {
+        return no;
+    }
+    fill(f, w, area, words);
+    let g = added(f);
+    if is_complete(g) {
+        seal_block(g, w, area);
+        return 0;
+    }
+    0
+}
+
+// The same with the file after it.
 pub fn put_on(c1: bool, f: File, w: u16, area: &mut [u64], words: &[u64]) -> FileChange
     ensures { λ r. ⌜ r ≡ putOn c1 f w (now (area .entry)) (now (words .entry)) ⌝ }
     ensures { λ _. ⌜ now (area .exit) ≡ putOnArea c1 f w (now (area .entry)) (now (words .entry)) ⌝ }
 {
-    let no = put_refusal(c1, f, w, &area[..], words);
+    let no = put_in(c1, f, w, area, words);
     if no != 0 {
         return FileChange {
             refusal: no,
             file: f,
         };
     }
-    fill(f, w, area, words);
-    let g = added(f);
-    if is_complete(g) {
-        seal_block(g, w, area);
-        let h = sealed(g);
-        return FileChange {
-            refusal: 0,
-            file: h,
-        };
-    }
+    let g = after_put(f);
     FileChange {
         refusal: 0,
         file: g,

@@ -8,7 +8,7 @@ ghost use mathlib.Core.Path.{_≡_};
 ghost use Rattle.call_record.specs.Skip.{skipRefusal, skipOn};
 
 // The refusal of a skip of this file; c1 is what is known of row 1.
-fn skip_refusal(c1: bool, f: File) -> u8
+pub fn skip_refusal(c1: bool, f: File) -> u8
     ensures { λ r. ⌜ r ≡ skipRefusal c1 f ⌝ }
 {
     let full = has_full(f);

@@ -60,6 +60,9 @@ found w f = cond (isSide (oldest f)) (foundIn (startAt f w (oldest f)) (f .rlen)
 unfoldable pub afterFound : File → File
 afterFound f = withSlot f (oldest f) (slotAfter (f .rlen) (slotAt f (oldest f))) (f .turned) (f .block)
 
+unfoldable pub afterGet : File → File
+afterGet f = afterFound (lookedAt f)
+
 -- "Get looks at the oldest full block.": its answer, and the file after it
 unfoldable pub getFrom : ℕ → File → Finding
 getFrom w f = record { got = found w (lookedAt f); file = afterFound (lookedAt f) }

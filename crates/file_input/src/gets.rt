@@ -17,7 +17,7 @@ use file::with_slot;
 use file::without_oldest;
 ghost use mathlib.Core.Path.{_≡_};
 ghost use Prim.Native.Nat.{_≤_, _<_};
-ghost use Rattle.file_input.specs.Gets.{wordsLeft, isUsedUp, passed as passedOf, lookedAt, wordsGiven, slotAfter, foundIn, foundNone, found as foundOf, afterFound, getFrom};
+ghost use Rattle.file_input.specs.Gets.{wordsLeft, isUsedUp, passed as passedOf, lookedAt, wordsGiven, slotAfter, foundIn, foundNone, found as foundOf, afterFound, afterGet, getFrom};
 
 // How many words of a full block have not been given.
 fn words_left(x: Slot) -> u16
@@ -152,6 +152,14 @@ fn after_found(f: File) -> File
     let x = slot_at(f, k);
     let y = slot_after(f.rlen, x);
     with_slot(f, k, y, f.turned, f.block)
+}
+
+// The file after get.
+pub fn after_get(f: File) -> File
+    ensures { λ r. ⌜ r ≡ afterGet f ⌝ }
+{
+    let g = looked_at(f);
+    after_found(g)
 }
 
 // Get: what it finds, and the file after it, in an area with w words for each buffer.

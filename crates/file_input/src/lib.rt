@@ -14,6 +14,7 @@ pub use delivers::met_mark;
 pub use delivers::taken_start;
 pub use delivers::took_buffer;
 use file::File;
+pub use gets::after_get;
 pub use gets::get;
 pub use shows::got_count;
 pub use shows::got_found;

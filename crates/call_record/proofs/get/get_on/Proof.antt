@@ -1,24 +1,20 @@
--- `call_record::get_on` meets its contract: refused, or what get finds in the file. Assumes nothing.
-use Rattle.call_record.proofs.GetSteps.{get-refused, get-taken}
+-- `call_record::get_on` meets its contract: what get answers, and the file after it. Assumes nothing.
+use Rattle.call_record.proofs.GetSteps.{get-keeps, get-changes}
 use borrow.Author.Needs.{needs}
 use Rattle.call_record.proofs.get.get_on.Statement.{statement}
 use Rattle.call_record.proofs.get.get_on.Tie as tie
 
-get-requires : tie.Need-get-requires
-get-requires c κs = search needs
-
-get-refusal-requires : tie.Need-get-refusal-requires
-get-refusal-requires c κs = search needs
+get-answer-requires : tie.Need-get-answer-requires
+get-answer-requires c κs = search needs
 
 returns : tie.Need-returns
-returns c =
-    let a = c .before .before .before .before .before .args in
-    get-refused (a .c1) (a .f) (a .w) (a .area .now) (c .before .before .before .get .result) (c .before .before .before .get .ensures) (c .before .get-refusal .result) (c .before .get-refusal .ensures) (c .if1 .taken)
+returns c = get-keeps (c .before .before .before .before .args .c1) (c .before .before .before .before .args .f) (c .before .before .before .before .args .w) (c .before .before .before .before .args .area .now) _ _ (c .before .before .get-answer .ensures .0) (c .before .before .get-answer .ensures .1) (c .if1 .taken)
+
+after-get-requires : tie.Need-after-get-requires
+after-get-requires c κs = search needs
 
 returns-2 : tie.Need-returns-2
-returns-2 c =
-    let a = c .before .before .before .before .before .args in
-    get-taken (a .c1) (a .f) (a .w) (a .area .now) (c .before .before .before .get .result) (c .before .before .before .get .ensures) (c .before .get-refusal .result) (c .before .get-refusal .ensures) (c .if1 .left)
+returns-2 c = get-changes (c .before .before .before .before .before .args .c1) (c .before .before .before .before .before .args .f) (c .before .before .before .before .before .args .w) (c .before .before .before .before .before .args .area .now) _ _ (c .before .before .before .get-answer .ensures .0) (c .before .before .before .get-answer .ensures .1) (c .before .if1 .left) _ (c .after-get .ensures)
 
 pub get-on-spec : {M : Type 1} → statement M
-get-on-spec = tie.close (tie.spec get-requires get-refusal-requires returns returns-2)
+get-on-spec = tie.close (tie.spec get-answer-requires returns after-get-requires returns-2)

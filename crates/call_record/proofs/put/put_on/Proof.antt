@@ -1,64 +1,28 @@
--- `call_record::put_on` meets its contract: refused; or filled, and sealed if the block is complete. Assumes nothing.
-use Rattle.call_record.proofs.PutSteps.{put-refused, put-complete, put-open}
+-- `call_record::put_on` meets its contract: what put answers, and the file after it. Assumes nothing.
+use Rattle.call_record.proofs.PutSteps.{put-keeps, put-changes}
 use borrow.Author.Needs.{needs}
 use Rattle.call_record.proofs.put.put_on.Statement.{statement}
 use Rattle.call_record.proofs.put.put_on.Tie as tie
 
-put-refusal-requires : tie.Need-put-refusal-requires
-put-refusal-requires c κs = search needs
+put-in-requires : tie.Need-put-in-requires
+put-in-requires c κs = search needs
 
 same-length : tie.Need-same-length
 same-length c = search needs
 
 returns : tie.Need-returns
-returns c =
-    let a = c .before .before .before .before .before .args in
-    put-refused (a .c1) (a .f) (a .w) (a .area .now) (a .words .now) (c .before .put-refusal .result) (c .before .put-refusal .ensures) (c .if1 .taken)
+returns c = (put-keeps (c .before .before .before .before .before .before .before .args .c1) (c .before .before .before .before .before .before .before .args .f) (c .before .before .before .before .before .before .before .args .w) (c .before .before .before .before .before .before .before .args .area .now) (c .before .before .before .before .before .before .before .args .words .now) _ (c .before .before .before .put-in .ensures .0) (c .if1 .taken), c .before .before .before .put-in .ensures .1)
 
-fill-requires : tie.Need-fill-requires
-fill-requires c κs = search needs
-
-added-requires : tie.Need-added-requires
-added-requires c κs = search needs
-
-is-complete-requires : tie.Need-is-complete-requires
-is-complete-requires c κs = search needs
-
-seal-block-requires : tie.Need-seal-block-requires
-seal-block-requires c κs = search needs
-
-sealed-requires : tie.Need-sealed-requires
-sealed-requires c κs = search needs
+after-put-requires : tie.Need-after-put-requires
+after-put-requires c κs = search needs
 
 same-length-2 : tie.Need-same-length-2
 same-length-2 c = search needs
 
 returns-2 : tie.Need-returns-2
-returns-2 c =
-    let a = c .before .before .before .before .before .before .before .before .before .before .before .before .before .before .before .before .before .args in
-    put-complete (a .c1) (a .f) (a .w) (a .area .now) (a .words .now) (c .before .before .before .before .before .before .before .before .before .before .before .before .before .put-refusal .result) (c .before .before .before .before .before .before .before .before .before .before .before .before .before .put-refusal .ensures) (c .before .before .before .before .before .before .before .before .before .before .before .before .if1 .left) (c .before .before .before .before .before .before .before .added .result) (c .before .before .before .before .before .before .is-complete .result) _ (c .before .before .before .before .before .before .before .before .before .before .fill .ensures) (c .before .before .before .before .before .before .before .added .ensures) (c .before .before .before .before .before .before .is-complete .ensures) (c .before .before .before .before .before .if2 .taken) (c .sealed .result) _ (c .before .before .before .seal-block .ensures) (c .sealed .ensures)
-
-same-length-3 : tie.Need-same-length-3
-same-length-3 c = search needs
-
-returns-3 : tie.Need-returns-3
-returns-3 c =
-    let a = c .before .before .before .before .before .before .before .before .before .before .before .before .args in
-    put-open (a .c1) (a .f) (a .w) (a .area .now) (a .words .now) (c .before .before .before .before .before .before .before .before .put-refusal .result) (c .before .before .before .before .before .before .before .before .put-refusal .ensures) (c .before .before .before .before .before .before .before .if1 .left) (c .before .before .added .result) (c .before .is-complete .result) _ (c .before .before .before .before .before .fill .ensures) (c .before .before .added .ensures) (c .before .is-complete .ensures) (c .if2 .left)
+returns-2 c = (put-changes (c .before .before .before .before .before .before .before .before .args .c1) (c .before .before .before .before .before .before .before .before .args .f) (c .before .before .before .before .before .before .before .before .args .w) (c .before .before .before .before .before .before .before .before .args .area .now) (c .before .before .before .before .before .before .before .before .args .words .now) _ (c .before .before .before .before .put-in .ensures .0) (c .before .if1 .left) _ (c .after-put .ensures), c .before .before .before .before .put-in .ensures .1)
 
 pub put-on-spec : {M : Type 1} → statement M
 put-on-spec =
     tie.close
-    (tie.spec
-    put-refusal-requires
-    same-length
-    returns
-    fill-requires
-    added-requires
-    is-complete-requires
-    seal-block-requires
-    sealed-requires
-    same-length-2
-    returns-2
-    same-length-3
-    returns-3)
+    (tie.spec put-in-requires same-length returns after-put-requires same-length-2 returns-2)

@@ -1,22 +1,17 @@
--- `call_record::seal_on` meets its contract: refused, or the block sealed in the area and in the file. Assumes nothing.
-use Rattle.call_record.proofs.PutSteps.{seal-refused, seal-taken}
+-- `call_record::seal_on` meets its contract: what seal answers, and the file after it. Assumes nothing.
+use Rattle.call_record.proofs.PutSteps.{seal-keeps, seal-changes}
 use borrow.Author.Needs.{needs}
 use Rattle.call_record.proofs.seal.seal_on.Statement.{statement}
 use Rattle.call_record.proofs.seal.seal_on.Tie as tie
 
-seal-refusal-requires : tie.Need-seal-refusal-requires
-seal-refusal-requires c κs = search needs
+seal-in-area-requires : tie.Need-seal-in-area-requires
+seal-in-area-requires c κs = search needs
 
 same-length : tie.Need-same-length
 same-length c = search needs
 
 returns : tie.Need-returns
-returns c =
-    let a = c .before .before .before .before .args in
-    seal-refused (a .c1) (a .f) (a .w) (a .area .now) (c .before .seal-refusal .result) (c .before .seal-refusal .ensures) (c .if1 .taken)
-
-seal-block-requires : tie.Need-seal-block-requires
-seal-block-requires c κs = search needs
+returns c = (seal-keeps (c .before .before .before .before .before .before .args .c1) (c .before .before .before .before .before .before .args .f) (c .before .before .before .before .before .before .args .w) (c .before .before .before .before .before .before .args .area .now) _ (c .before .before .before .seal-in-area .ensures .0) (c .if1 .taken), c .before .before .before .seal-in-area .ensures .1)
 
 sealed-requires : tie.Need-sealed-requires
 sealed-requires c κs = search needs
@@ -25,18 +20,9 @@ same-length-2 : tie.Need-same-length-2
 same-length-2 c = search needs
 
 returns-2 : tie.Need-returns-2
-returns-2 c =
-    let a = c .before .before .before .before .before .before .before .before .before .args in
-    seal-taken (a .c1) (a .f) (a .w) (a .area .now) (c .before .before .before .before .before .before .seal-refusal .result) (c .before .before .before .before .before .before .seal-refusal .ensures) (c .before .before .before .before .before .if1 .left) (c .sealed .result) _ (c .sealed .ensures) (c .before .before .before .seal-block .ensures)
+returns-2 c = (seal-changes (c .before .before .before .before .before .before .before .args .c1) (c .before .before .before .before .before .before .before .args .f) (c .before .before .before .before .before .before .before .args .w) (c .before .before .before .before .before .before .before .args .area .now) _ (c .before .before .before .before .seal-in-area .ensures .0) (c .before .if1 .left) _ (c .sealed .ensures), c .before .before .before .before .seal-in-area .ensures .1)
 
 pub seal-on-spec : {M : Type 1} → statement M
 seal-on-spec =
     tie.close
-    (tie.spec
-    seal-refusal-requires
-    same-length
-    returns
-    seal-block-requires
-    sealed-requires
-    same-length-2
-    returns-2)
+    (tie.spec seal-in-area-requires same-length returns sealed-requires same-length-2 returns-2)
