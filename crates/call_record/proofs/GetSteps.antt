@@ -1,21 +1,16 @@
 -- What get and skip do on one file, step by step as their code goes, comes to their definitions. Assumes nothing.
 use mathlib.Core.Path.{_≡_, sym, ap, _∙_}
-use mathlib.Core.Bool.{Bool, false, not, _&&_}
-use mathlib.Core.List.{List, [], _∷_}
+use mathlib.Core.Bool.{Bool}
+use mathlib.Core.List.{List, []}
 use Prim.Native.Nat.{ℕ}
 use borrow.Author.Tests.{ne-eqb}
-use Rattle.area.specs.Lists.{allOf}
-use Rattle.area.specs.Parts.{isWord}
-use Rattle.area.specs.Refusals.{Rows, lowest}
 use Rattle.file.specs.declared.File.{File}
 use Rattle.file.specs.Fills.{withoutOldest}
-use Rattle.file_input.specs.Delivers.{hasFull}
 use Rattle.file_input.specs.declared.Got.{Got}
 use Rattle.file_input.specs.declared.Finding.{Finding}
 use Rattle.file_input.specs.Gets.{afterGet, getFrom}
-use Rattle.file_input.specs.Histories.{shown}
-use Rattle.call_record.specs.Get.{getRows, getRefusal, noAnswer, getOn}
-use Rattle.call_record.specs.Skip.{skipRows, skipRefusal, skipOn}
+use Rattle.call_record.specs.Get.{getRefusal, noAnswer, getOn}
+use Rattle.call_record.specs.Skip.{skipRefusal, skipOn}
 
 -- ---- get on one file
 

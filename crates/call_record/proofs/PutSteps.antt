@@ -1,20 +1,15 @@
 -- What put and seal do on one file, step by step as their code goes, comes to their definitions. Assumes nothing.
 use mathlib.Core.Path.{_≡_, sym, ap, ap₂, _∙_}
-use mathlib.Core.Bool.{Bool, true, false, not, _&&_, _||_}
-use mathlib.Core.List.{List, [], _∷_}
+use mathlib.Core.Bool.{Bool, true, false}
+use mathlib.Core.List.{List, []}
 use Prim.Native.Nat.{ℕ}
 use borrow.Author.Tests.{ne-eqb}
-use lib.Dec.{eqb}
-use lib.ListN.{length}
-use Rattle.area.specs.Lists.{allOf}
-use Rattle.area.specs.Parts.{isWord}
-use Rattle.area.specs.Refusals.{Rows, lowest}
 use Rattle.file.specs.declared.File.{File}
-use Rattle.file_output.specs.Puts.{hasRoom, added, afterPut}
-use Rattle.file_output.specs.Parts.{hasPart, isComplete, sealedFile}
-use Rattle.call_record.specs.Blocks.{heldRight, sealedArea}
-use Rattle.call_record.specs.Put.{sums, putRows, putRefusal, filledArea, putArea, putOn, putOnArea}
-use Rattle.call_record.specs.Seal.{sealSums, sealRows, sealRefusal, sealOn, sealOnArea}
+use Rattle.file_output.specs.Puts.{added, afterPut}
+use Rattle.file_output.specs.Parts.{isComplete, sealedFile}
+use Rattle.call_record.specs.Blocks.{sealedArea}
+use Rattle.call_record.specs.Put.{putRefusal, filledArea, putArea, putOn, putOnArea}
+use Rattle.call_record.specs.Seal.{sealRefusal, sealOn, sealOnArea}
 
 -- ---- put on one file
 

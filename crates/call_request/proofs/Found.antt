@@ -12,10 +12,10 @@ use Rattle.area.proofs.Lowest.{lowest-none}
 use Rattle.area.specs.Lists.{allOf}
 use Rattle.area.specs.Parts.{isWord, partOf}
 use Rattle.area.specs.Refusals.{lowest}
-use Rattle.channel.specs.declared.Position.{Position}
 use Rattle.channel.specs.declared.Request.{Request}
 use Rattle.channel.specs.declared.Turn.{Turn}
 use Rattle.channel.specs.declared.Turn.the-variants.{Idle, Waiting, Displaced, Working}
+use Rattle.channel.specs.declared.Unit.{Unit}
 use Rattle.channel.specs.declared.Channel.{Channel}
 use Rattle.channel_outcomes.specs.declared.Ending.{Ending}
 use Rattle.channel.specs.declared.Work.{Work}
@@ -23,9 +23,11 @@ use Rattle.channel_outcomes.specs.declared.Verdict.{Verdict}
 use Rattle.channel_outcomes.specs.declared.Verdict.the-variants.{Refused, Repeats, Ends}
 use Rattle.channel_outcomes.specs.Rules.{isAllowed, isFailure, isPermanent, isNoise, pastNoise, nextAttempt, endingOf, tableVerdict, verdictOf, resultNumber, refusalNumber}
 use Rattle.channel_outcomes.proofs.Laws.Rules.{noise-allowed}
-use Rattle.channel.specs.Units.{turnAt, positionAt, workOf, operationAt}
-use Rattle.channel_turns.specs.Scans.{workingIn, unitNumber}
-use Rattle.channel_turns.specs.Turns.{judgeTurn, judgeOf, bookOf}
+use Rattle.channel.specs.Units.{unitCount, turnAt, workOf, operationAt}
+use Rattle.channel_turns.specs.declared.Desk.{Desk}
+use Rattle.channel_turns.specs.declared.Move.{Move}
+use Rattle.channel_turns.specs.Turns.{judgeTurn, judgeOf}
+use Rattle.channel_turns.specs.Desks.{bookMove}
 use Rattle.file.specs.declared.File.{File}
 use Rattle.word.specs.CheckWords.{extra}
 use Rattle.file_input.specs.Delivers.{blockFits}
@@ -35,9 +37,10 @@ use Rattle.word.specs.declared.Checked.{Checked}
 use Rattle.word.specs.Checks.{unchecked}
 use Rattle.call_request.specs.declared.Delivery.{Delivery}
 use Rattle.call_request.specs.declared.Effect.{Effect}
-use Rattle.call_request.specs.declared.ReportChange.{ReportChange}
+use Rattle.call_request.specs.declared.ReportMove.{ReportMove}
 use Rattle.call_request.specs.Effects.{effectOf, isDelivery}
-use Rattle.call_request.specs.Report.{isIdleFor, takesNoWords, isForbidden, shownStart, shownCount, effectAt, rowsBy, reportRefusal, deliveryCheck, deliveryOf, reportedFile, reportedArea, refusedReport, reportOn, reportOnArea}
+use Rattle.call_request.specs.Report.{isIdleFor, isForbidden, shownStart, shownCount, rowsBy, deliveryCheck, deliveryOf, reportedArea}
+use Rattle.call_request.specs.Moves.{effectBy, reportNumber, refusedMove, reportMoved, reportMovedArea}
 
 -- ---- report: what the channel refuses
 
@@ -86,10 +89,26 @@ forbidden-number c u outcome len = go (turnAt c u)
 
 -- ---- report: its rows
 
--- what the code has looked at before it judges, by the names of `rowsBy`
-pub record Seen (f : File) (c : Channel) (u outcome len w : ℕ) (area words : List ℕ) (x : Work) (v : Verdict) (e : Effect) (fits clean room : Bool) (start count : ℕ) : Type 0 where
-  pub work : x ≡ operationAt c u
-  pub verdict : v ≡ judgeOf c u outcome len
+-- a report that is not refused and delivers a block has as many words as it may have
+pub rows-room : (wrong : Bool) (u outcome len : ℕ) (x : Work) (v : Verdict) (e : Effect) (fits clean room : Bool) (n : ℕ)
+    → lowest (rowsBy wrong u outcome len x v e fits clean room n) ≡ 0 → isDelivery e ≡ true → room ≡ true
+rows-room wrong u outcome len x v e fits clean room n z brings =
+    let a = lowest-none 1 _ _ (λ q. omega arith) z in
+    let b = lowest-none 2 _ _ (λ q. omega arith) (a .1) in
+    let g = lowest-none 11 _ _ (λ q. omega arith) (b .1) in
+    let h = lowest-none 12 _ _ (λ q. omega arith) (g .1) in
+    let k = lowest-none 13 ((isDelivery e || ltb 0 n) && not room) _ (λ q. omega arith) (h .1) in
+    so room (isDelivery e) (ltb 0 n) brings (k .0)
+  where
+    so : (r b w : Bool) → b ≡ true → ((b || w) && not r) ≡ false → r ≡ true
+    so true b w t q = refl
+    so false true w t q = true-not-false refl q
+    so false false w t q = true-not-false t refl
+
+-- what the code has looked at before it judges a report of a unit whose turn is t, by the names of `rowsBy`
+pub record Seen (f : File) (t : Turn) (outcome len w : ℕ) (area words : List ℕ) (x : Work) (v : Verdict) (e : Effect) (fits clean room : Bool) (start count : ℕ) : Type 0 where
+  pub work : x ≡ workOf t
+  pub verdict : v ≡ judgeTurn t outcome len
   pub effect : e ≡ effectOf (ltb 0 (length words)) x v
   pub given : fits ≡ allOf isWord words
   pub from : start ≡ shownStart e w f
@@ -97,46 +116,31 @@ pub record Seen (f : File) (c : Channel) (u outcome len w : ℕ) (area words : L
   pub handed : clean ≡ allOf isWord (partOf start count area)
   pub space : room ≡ blockFits f (length words)
 
-module _ (wrong frozen : Bool) {f : File} {c : Channel} {u outcome len w : ℕ} {area words : List ℕ} {x : Work} {v : Verdict} {e : Effect} {fits clean room : Bool}
-    {start count : ℕ} (S : Seen f c u outcome len w area words x v e fits clean room start count) where
-  same : e ≡ effectAt c u outcome len (length words)
-  same = S .effect ∙ ap (λ (y : Work). effectOf (ltb 0 (length words)) y v) (S .work) ∙ ap (effectOf (ltb 0 (length words)) (operationAt c u)) (S .verdict)
+module _ (wrong frozen : Bool) (y : Unit) (d : Desk) (u : ℕ) {f : File} {outcome len w : ℕ} {area words : List ℕ} {x : Work} {v : Verdict} {e : Effect} {fits clean room : Bool}
+    {start count : ℕ} (S : Seen f (y .turn) outcome len w area words x v e fits clean room start count) where
+  same : e ≡ effectBy (y .turn) outcome len (length words)
+  same = S .effect ∙ ap (λ (z : Work). effectOf (ltb 0 (length words)) z v) (S .work) ∙ ap (effectOf (ltb 0 (length words)) (workOf (y .turn))) (S .verdict)
 
-  pub refusal-found : lowest (rowsBy wrong u outcome len x v e fits clean room (length words)) ≡ reportRefusal wrong f c u outcome len w area words
-  unfolding reportRefusal
-  refusal-found =
-      rw (S .handed, S .from, S .many, same, S .given, S .space, S .work, S .verdict, idle-number c u outcome len, forbidden-number c u outcome len)
+  pub number-found : lowest (rowsBy wrong u outcome len x v e fits clean room (length words)) ≡ reportNumber wrong f (y .turn) u outcome len w area words
+  unfolding reportNumber
+  number-found = rw (S .handed, S .from, S .many, same, S .given, S .space, S .work, S .verdict)
 
-  -- a report that is not refused and delivers a block has as many words as it may have
-  pub room-found : lowest (rowsBy wrong u outcome len x v e fits clean room (length words)) ≡ 0 → isDelivery e ≡ true → blockFits f (length words) ≡ true
-  room-found z brings =
-      let a = lowest-none 1 _ _ (λ q. omega arith) z in
-      let b = lowest-none 2 _ _ (λ q. omega arith) (a .1) in
-      let g = lowest-none 11 _ _ (λ q. omega arith) (b .1) in
-      let h = lowest-none 12 _ _ (λ q. omega arith) (g .1) in
-      let k = lowest-none 13 ((isDelivery e || ltb 0 (length words)) && not room) _ (λ q. omega arith) (h .1) in
-      sym (S .space) ∙ so room (isDelivery e) (ltb 0 (length words)) brings (k .0)
-    where
-      so : (r b w : Bool) → b ≡ true → ((b || w) && not r) ≡ false → r ≡ true
-      so true b w t q = refl
-      so false true w t q = true-not-false refl q
-      so false false w t q = true-not-false t refl
+  module _ (k : ℕ) (found : k ≡ reportNumber wrong f (y .turn) u outcome len w area words) where
+    pub move-refused : (k ≡ 0 → ⊥)
+        → (refusedMove k y d ≡ reportMoved wrong f y d u outcome len w frozen area words) × (area ≡ reportMovedArea wrong f (y .turn) u outcome len w area words)
+    unfolding reportMoved reportMovedArea
+    move-refused h = (rw (← found, ne-eqb k 0 h), rw (← found, ne-eqb k 0 h))
 
-  module _ (no : ℕ) (found : no ≡ reportRefusal wrong f c u outcome len w area words) where
-    pub report-refused : (no ≡ 0 → ⊥) → (refusedReport no f c ≡ reportOn wrong f c u outcome len w frozen area words) × (area ≡ reportOnArea wrong f c u outcome len w area words)
-    unfolding reportOn reportOnArea
-    report-refused h = (rw (← found, ne-eqb no 0 h), rw (← found, ne-eqb no 0 h))
+    pub move-booked : k ≡ 0 → (er : Checked) (dl : Delivery) (r : ℕ) (m : Move) → er ≡ deliveryCheck e f words → dl ≡ deliveryOf e er → r ≡ resultNumber (y .position) v
+        → m ≡ bookMove unitCount y u d v frozen
+        → _≡_ {A = ReportMove} (record { refusal = 0; result = r; delivery = dl; start = start; count = count; effect = e; found = er; change = m })
+        (reportMoved wrong f y d u outcome len w frozen area words)
+    unfolding reportMoved
+    move-booked h er dl r m isEr isDl isR isM = rw (isM, isDl, isEr, isR, S .from, S .many, same, S .verdict, ← found, h)
 
-    pub report-booked : no ≡ 0 → (er : Checked) (dl : Delivery) (p : Position) (r wk : ℕ) (g : File) (d : Channel) → er ≡ deliveryCheck e f words → dl ≡ deliveryOf e er → p ≡ positionAt c u → r ≡ resultNumber p v
-        → g ≡ reportedFile e f (length words) er → d ≡ bookOf c u v frozen → wk ≡ unitNumber (workingIn d)
-        → _≡_ {A = ReportChange} (record { refusal = 0; result = r; delivery = dl; working = wk; start = start; count = count; file = g; channel = d })
-        (reportOn wrong f c u outcome len w frozen area words)
-    unfolding reportOn
-    report-booked h er dl p r wk g d isEr isDl isP isR isG isD isWk = rw (isWk, isG, isD, isDl, isEr, isR, isP, S .from, S .many, same, S .verdict, ← found, h)
-
-    pub booked-area : no ≡ 0 → reportedArea e f w words area ≡ reportOnArea wrong f c u outcome len w area words
-    unfolding reportOnArea
-    booked-area h = rw (same, ← found, h)
+    pub move-area : k ≡ 0 → reportedArea e f w words area ≡ reportMovedArea wrong f (y .turn) u outcome len w area words
+    unfolding reportMovedArea
+    move-area h = rw (same, ← found, h)
 
 -- ---- the words that are given
 

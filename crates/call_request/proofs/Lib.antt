@@ -1,3 +1,4 @@
 pub mod AskFound
 pub mod Found
+pub mod Moved
 pub mod NamedLaws

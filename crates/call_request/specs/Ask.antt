@@ -33,11 +33,11 @@ opOf op = cond (isReading op) Read (cond (isWriting op) Write Mark)
 abbrev pub isPriority : ℕ → Bool
 isPriority priority = eqb priority 1
 
--- ---- its rows of the table, for the file f on the channel c, with the routine that it names; `wrong` is what row 1 says of the state and of the file's
+-- ---- its rows of the table, for the file f, whose unit is busy with a request or not, with the routine that it names; `wrong` is what row 1 says of the state and of the file's
 -- number, and `waits` whether a routine waits at the file's unit
 
-abbrev pub askRows : Bool → File → Channel → ℕ → ℕ → Naming → Bool → Rows
-askRows wrong f c op priority naming waits =
+abbrev pub askRowsBy : Bool → File → Bool → ℕ → ℕ → Naming → Bool → Rows
+askRowsBy wrong f busy op priority naming waits =
     -- "an argument is outside its range .. a state passed back is unsound"; "a priority 0 to 4" of a routine (document 02, M-110)
     (1, wrong || (ltb 2 op || (ltb 1 priority || namingWrong naming))) ∷
     -- "file not open"
@@ -45,7 +45,7 @@ askRows wrong f c op priority naming waits =
     -- "wrong direction: read .. on an output file; write, mark .. on an input file"
     (6, (isReading op && f .output) || ((isWriting op || isMarking op) && not (f .output))) ∷
     -- "ask ..: the file's unit has an unanswered request"; "A unit whose routine waits refuses a new ask with 8"
-    (8, hasRequest c (f .unit) || waits) ∷
+    (8, busy || waits) ∷
     -- "ask read: no empty buffer. Ask write ..: no full buffer."
     (9, (isReading op && not (hasEmpty f)) || (isWriting op && not (hasFull f))) ∷
     -- "ask read: a file mark has been read since the open"
@@ -53,6 +53,10 @@ askRows wrong f c op priority naming waits =
     -- ".. ask mark: an output buffer is part-filled or full"
     (15, isMarking op && hasUnsent f) ∷
     []
+
+-- on the channel c
+abbrev pub askRows : Bool → File → Channel → ℕ → ℕ → Naming → Bool → Rows
+askRows wrong f c op priority naming waits = askRowsBy wrong f (hasRequest c (f .unit)) op priority naming waits
 
 unfoldable pub askRefusal : Bool → File → Channel → ℕ → ℕ → Naming → Bool → ℕ
 askRefusal wrong f c op priority naming waits = lowest (askRows wrong f c op priority naming waits)

@@ -2,3 +2,4 @@ pub mod Ask
 pub mod Effects
 pub mod Named
 pub mod Report
+pub mod Moves

@@ -1,10 +1,18 @@
 // Ask: a read, a write or a mark of a file's unit.
 use crate::AskChange;
+use crate::AskMove;
+use area::Found;
 use area::row;
 use channel::Channel;
 use channel::Op;
-use channel::has_request;
-use channel_turns::working_number;
+use channel::Unit;
+use channel::is_idle;
+use channel::unit_of;
+use channel_turns::Desk;
+use channel_turns::Move;
+use channel_turns::ask_move;
+use channel_turns::desk_of;
+use channel_turns::moved_to;
 use file::File;
 use file_input::has_empty;
 use file_input::has_full;
@@ -13,7 +21,9 @@ use file_output::has_unsent;
 use routines::Naming;
 use routines::naming_wrong;
 ghost use mathlib.Core.Path.{_≡_};
-ghost use Rattle.call_request.specs.Ask.{opOf, askRefusal, askedFile, askedChannel, askOn};
+ghost use Rattle.call_request.specs.Ask.{opOf, askRowsBy, askedFile, askOn};
+ghost use Rattle.area.specs.Refusals.{lowest};
+ghost use Rattle.call_request.specs.Moves.{restMove, askMoved};
 
 // The numbers of the operations.
 const READ: u8 = 0;
@@ -34,19 +44,19 @@ fn op_of(op: u8) -> Op
     Op::Mark
 }
 
-// The refusal of an ask, 0 for none. `wrong` is what the caller found of row 1, `waits` whether a routine waits at the file's unit.
+// The refusal of an ask, 0 for none. `wrong` is what the caller found of row 1, `busy` whether the file's unit has a
+// request, `waits` whether a routine waits there.
 fn ask_refusal(
     wrong: bool,
     f: File,
-    c: Channel,
+    busy: bool,
     op: u8,
     priority: u8,
     naming: Naming,
     waits: bool,
 ) -> u8
-    ensures { λ r. ⌜ r ≡ askRefusal wrong f c op priority naming waits ⌝ }
+    ensures { λ r. ⌜ r ≡ lowest (askRowsBy wrong f busy op priority naming waits) ⌝ }
 {
-    let busy = has_request(c, f.unit as usize);
     let empty = has_empty(f);
     let full = has_full(f);
     let unsent = has_unsent(f);
@@ -73,7 +83,7 @@ fn ask_refusal(
 }
 
 // The file after an accepted ask.
-fn asked_file(op: u8, f: File) -> File
+pub fn asked_file(op: u8, f: File) -> File
     ensures { λ r. ⌜ r ≡ askedFile op f ⌝ }
 {
     if op == READ {
@@ -82,17 +92,50 @@ fn asked_file(op: u8, f: File) -> File
     f
 }
 
-// The channel after an accepted ask.
-fn asked_channel(f: File, c: Channel, op: u8, priority: u8, frozen: bool) -> Channel
-    ensures { λ r. ⌜ r ≡ askedChannel f c op priority frozen ⌝ }
+// A refusal's change: none.
+pub fn rest(x: Unit, d: Desk) -> Move
+    ensures { λ r. ⌜ r ≡ restMove x d ⌝ }
 {
-    let x = op_of(op);
-    let a = channel_turns::ask(c, f.unit as usize, x, priority == 1, frozen);
-    a.channel
+    let turn = x.turn;
+    let position = x.position;
+    Move {
+        turn,
+        position,
+        mark: d.mark,
+        urgent: d.urgent,
+        starts: Found::Nothing,
+        working: 0,
+    }
 }
 
-// An ask of the file f, which is open on the channel c, and the routine that it names. `wrong` says that its number or the state that it comes from is
-// refused 1, `waits` that a routine waits at the file's unit.
+// An ask of the file f, whose unit stands as x on a channel with the desk d, and the routine that it names. `wrong` says that its number or the state that
+// it comes from is refused 1, `waits` that a routine waits at the file's unit.
+pub fn ask_moved(
+    wrong: bool,
+    f: File,
+    x: Unit,
+    d: Desk,
+    op: u8,
+    priority: u8,
+    naming: Naming,
+    waits: bool,
+    frozen: bool,
+) -> AskMove
+    ensures { λ r. ⌜ r ≡ askMoved wrong f x d op priority naming waits frozen ⌝ }
+{
+    let t = x.turn;
+    let none = is_idle(t);
+    let refusal = ask_refusal(wrong, f, !none, op, priority, naming, waits);
+    if refusal != 0 {
+        let change = rest(x, d);
+        return AskMove { refusal, change };
+    }
+    let o = op_of(op);
+    let change = ask_move(x, f.unit as usize, d, o, priority == 1, frozen);
+    AskMove { refusal: 0, change }
+}
+
+// The same on the channel c: the file and the channel after it.
 pub fn ask_on(
     wrong: bool,
     f: File,
@@ -105,22 +148,25 @@ pub fn ask_on(
 ) -> AskChange
     ensures { λ r. ⌜ r ≡ askOn wrong f c op priority naming waits frozen ⌝ }
 {
-    let refusal = ask_refusal(wrong, f, c, op, priority, naming, waits);
-    if refusal != 0 {
+    let u = f.unit as usize;
+    let x = unit_of(c, u);
+    let d = desk_of(c);
+    let a = ask_moved(wrong, f, x, d, op, priority, naming, waits, frozen);
+    if a.refusal != 0 {
         return AskChange {
-            refusal,
+            refusal: a.refusal,
             working: 0,
             file: f,
             channel: c,
         };
     }
-    let g = asked_file(op, f);
-    let d = asked_channel(f, c, op, priority, frozen);
-    let working = working_number(d);
+    let m = a.change;
+    let file = asked_file(op, f);
+    let channel = moved_to(c, u, m);
     AskChange {
         refusal: 0,
-        working,
-        file: g,
-        channel: d,
+        working: m.working,
+        file,
+        channel,
     }
 }

@@ -2,6 +2,8 @@
 use crate::Delivery;
 use crate::Effect;
 use crate::ReportChange;
+use crate::ReportMove;
+use crate::asks::rest;
 use crate::blocks::delivery_of;
 use crate::blocks::look;
 use crate::blocks::put_words;
@@ -15,22 +17,27 @@ use area::part_are_words;
 use area::row;
 use channel::Channel;
 use channel::UNITS;
+use channel::Unit;
 use channel::Work;
-use channel::operation_of;
-use channel::position_of;
+use channel::unit_of;
+use channel::worked_for;
 use channel_outcomes::NO_LENGTH;
 use channel_outcomes::OUTCOMES;
 use channel_outcomes::Verdict;
 use channel_outcomes::refusal_number;
 use channel_outcomes::result_number;
-use channel_turns::book;
-use channel_turns::judge;
-use channel_turns::working_number;
+use channel_turns::Desk;
+use channel_turns::book_move;
+use channel_turns::desk_of;
+use channel_turns::judge_turn;
+use channel_turns::moved_to;
 use file::File;
 use file_input::block_fits;
+use word::not_checked;
 ghost use mathlib.Core.Path.{_≡_};
 ghost use Rattle.area.specs.Refusals.{lowest};
-ghost use Rattle.call_request.specs.Report.{lengthWrong, rowsBy, refusedReport, reportOn, reportOnArea};
+ghost use Rattle.call_request.specs.Report.{lengthWrong, rowsBy, reportOn, reportOnArea};
+ghost use Rattle.call_request.specs.Moves.{refusedMove, reportMoved, reportMovedArea};
 
 // The outcome with which a report may carry a length.
 const REDUNDANCY: u8 = 1;
@@ -85,12 +92,13 @@ fn report_refusal(
     )
 }
 
-// A report of a unit of the channel c, which the file f serves. `length` is that of a record in words, `NO_LENGTH` if the report carries none. `wrong`
-// says that the channel's number, the area or the state is refused 1.
-pub fn report_on(
+// A report of the unit `unit`, which stands as y on a channel with the desk d and which the file f serves. `length` is that of a record in words,
+// `NO_LENGTH` if the report carries none. `wrong` says that the channel's number, the area or the state is refused 1.
+pub fn report_moved(
     wrong: bool,
     f: File,
-    c: Channel,
+    y: Unit,
+    d: Desk,
     unit: u8,
     outcome: u8,
     length: u32,
@@ -98,14 +106,15 @@ pub fn report_on(
     frozen: bool,
     area: &mut [u64],
     words: &[u64],
-) -> ReportChange
-    ensures { λ r. ⌜ r ≡ reportOn wrong f c unit outcome length w frozen (now (area .entry)) (now (words .entry)) ⌝ }
-    ensures { λ _. ⌜ now (area .exit) ≡ reportOnArea wrong f c unit outcome length w (now (area .entry)) (now (words .entry)) ⌝ }
+) -> ReportMove
+    ensures { λ r. ⌜ r ≡ reportMoved wrong f y d unit outcome length w frozen (now (area .entry)) (now (words .entry)) ⌝ }
+    ensures { λ _. ⌜ now (area .exit) ≡ reportMovedArea wrong f (y .turn) unit outcome length w (now (area .entry)) (now (words .entry)) ⌝ }
 {
-    let u = unit as usize;
     let n = words.len();
-    let v = judge(c, u, outcome, length);
-    let x = operation_of(c, u);
+    let t = y.turn;
+    let position = y.position;
+    let v = judge_turn(t, outcome, length);
+    let x = worked_for(t);
     let e = effect_of(0 < n, x, v);
     let looked = look(e, f, words);
     let start = shown_start(e, w, f);
@@ -126,40 +135,89 @@ pub fn report_on(
         n,
     );
     if no != 0 {
-        return refused(no, f, c);
+        return refused(no, y, d);
     }
     put_words(e, f, w, area, words);
     let found = looked.found;
     let delivery = delivery_of(e, found);
-    let file = reported_file(e, f, n, found);
-    let channel = book(c, u, v, frozen);
-    let working = working_number(channel);
-    let position = position_of(c, u);
+    let change = book_move(y, unit as usize, d, v, frozen);
     let result = result_number(position, v);
-    ReportChange {
+    ReportMove {
         refusal: 0,
         result,
         delivery,
-        working,
         start,
         count,
-        file,
-        channel,
+        effect: e,
+        found,
+        change,
     }
 }
 
-// A refused report: the number alone, and what was passed.
-fn refused(refusal: u8, f: File, c: Channel) -> ReportChange
-    ensures { λ r. ⌜ r ≡ refusedReport refusal f c ⌝ }
+// A refused report: the number alone, and nothing changes.
+fn refused(refusal: u8, y: Unit, d: Desk) -> ReportMove
+    ensures { λ r. ⌜ r ≡ refusedMove refusal y d ⌝ }
 {
-    ReportChange {
+    let found = not_checked();
+    let change = rest(y, d);
+    ReportMove {
         refusal,
         result: 0,
         delivery: Delivery::Without,
-        working: 0,
         start: 0,
         count: 0,
-        file: f,
-        channel: c,
+        effect: Effect::Keeps,
+        found,
+        change,
+    }
+}
+
+// The same on the channel c: the file and the channel after it.
+pub fn report_on(
+    wrong: bool,
+    f: File,
+    c: Channel,
+    unit: u8,
+    outcome: u8,
+    length: u32,
+    w: u16,
+    frozen: bool,
+    area: &mut [u64],
+    words: &[u64],
+) -> ReportChange
+    ensures { λ r. ⌜ r ≡ reportOn wrong f c unit outcome length w frozen (now (area .entry)) (now (words .entry)) ⌝ }
+    ensures { λ _. ⌜ now (area .exit) ≡ reportOnArea wrong f c unit outcome length w (now (area .entry)) (now (words .entry)) ⌝ }
+{
+    let u = unit as usize;
+    let y = unit_of(c, u);
+    let d = desk_of(c);
+    let x = report_moved(
+        wrong,
+        f,
+        y,
+        d,
+        unit,
+        outcome,
+        length,
+        w,
+        frozen,
+        area,
+        words,
+    );
+    let e = x.effect;
+    let found = x.found;
+    let delivery = x.delivery;
+    let m = x.change;
+    let file = reported_file(e, f, words.len(), found);
+    let channel = moved_to(c, u, m);
+    ReportChange {
+        refusal: x.refusal,
+        result: x.result,
+        delivery,
+        working: m.working,
+        start: x.start,
+        count: x.count,
+        file,
+        channel,
     }
 }

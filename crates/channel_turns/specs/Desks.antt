@@ -4,7 +4,7 @@ use Prim.Native.Nat.{ℕ}
 use mathlib.Core.Bool.{Bool, not, cond, _&&_, _||_}
 use lib.Dec.{eqb, ltb}
 use Rattle.area.specs.declared.Found.{Found}
-use Rattle.area.specs.declared.Found.the-variants.{At, Nothing}
+use Rattle.area.specs.declared.Found.the-variants.{Nothing}
 use Rattle.area.specs.Lists.{firstAlong, isFound}
 use Rattle.area.specs.Masks.{bitAt, maskOf}
 use Rattle.channel.specs.declared.Op.{Op}

@@ -1,15 +1,8 @@
 -- `call_request::asks::ask_refusal` meets its contract, from the contracts of its callees, a row at a time. Assumes nothing.
 use Rattle.area.specs.Refusals.{lowest}
-use Rattle.call_request.specs.Ask.{askRefusal}
 use borrow.Author.Needs.{needs}
 use Rattle.call_request.proofs.asks.ask_refusal.Statement.{statement}
 use Rattle.call_request.proofs.asks.ask_refusal.Tie as tie
-
-cast-has-request : tie.Need-cast-has-request
-cast-has-request c = search needs
-
-has-request-requires : tie.Need-has-request-requires
-has-request-requires c κs = search needs
 
 has-empty-requires : tie.Need-has-empty-requires
 has-empty-requires c κs = search needs
@@ -45,15 +38,13 @@ row-requires-7 : tie.Need-row-requires-7
 row-requires-7 c κs = search needs
 
 returns : tie.Need-returns
-unfolding lowest askRefusal
-returns c = simp (c .row7 .ensures, c .before .row6 .ensures, c .before .before .row5 .ensures, c .before .before .before .row4 .ensures, c .before .before .before .before .row3 .ensures, c .before .before .before .before .before .row2 .ensures, c .before .before .before .before .before .before .row .ensures, c .before .before .before .before .before .before .before .before .before .before .before .before .before .before .before .has-request .ensures, c .before .before .before .before .before .before .before .before .before .before .before .before .before .before .has-empty .ensures, c .before .before .before .before .before .before .before .before .before .before .before .before .before .has-full .ensures, c .before .before .before .before .before .before .before .before .before .before .before .before .has-unsent .ensures, c .before .before .before .before .before .before .before .before .before .before .before .naming-wrong .ensures)
+unfolding lowest
+returns c = simp (c .row7 .ensures, c .before .row6 .ensures, c .before .before .row5 .ensures, c .before .before .before .row4 .ensures, c .before .before .before .before .row3 .ensures, c .before .before .before .before .before .row2 .ensures, c .before .before .before .before .before .before .row .ensures, c .before .before .before .before .before .before .before .before .before .before .before .before .before .before .has-empty .ensures, c .before .before .before .before .before .before .before .before .before .before .before .before .before .has-full .ensures, c .before .before .before .before .before .before .before .before .before .before .before .before .has-unsent .ensures, c .before .before .before .before .before .before .before .before .before .before .before .naming-wrong .ensures)
 
 pub ask-refusal-spec : {M : Type 1} → statement M
 ask-refusal-spec =
     tie.close
     (tie.spec
-    cast-has-request
-    has-request-requires
     has-empty-requires
     has-full-requires
     has-unsent-requires
