@@ -89,7 +89,7 @@ oct-up a b c d p q r s t z e =
     ∙ quad-up a b c d ((p && (q && (r && s))) && t) (a && (b && (c && d))) refl
     ∙ pair-up (a && (b && (c && d))) (p && (q && (r && s))) t z e
 
-both-true : (x y r : Bool) → x ≡ true → y ≡ true → (x && (y && r)) ≡ r
+pub both-true : (x y r : Bool) → x ≡ true → y ≡ true → (x && (y && r)) ≡ r
 both-true x y r p q = rw (p, q)
 
 pair-zero : (a b : ℕ) (r : Bool) → (eqb 0 a && (eqb 0 b && r)) ≡ (eqb (two a b) 0 && r)
@@ -103,7 +103,7 @@ oct-zero : (a b c d p q u v : ℕ) (r : Bool)
 oct-zero a b c d p q u v r =
     oct-up (eqb 0 a) (eqb 0 b) (eqb 0 c) (eqb 0 d) (eqb 0 p) (eqb 0 q) (eqb 0 u) (eqb 0 v) r (eqb (eight a b c d p q u v) 0) (eight-zero a b c d p q u v)
 
-pair-equal : (a b c d : ℕ) (r : Bool) → a ≡ c → b ≡ d → (eqb a c && (eqb b d && r)) ≡ r
+pub pair-equal : (a b c d : ℕ) (r : Bool) → a ≡ c → b ≡ d → (eqb a c && (eqb b d && r)) ≡ r
 pair-equal a b c d r p q = both-true (eqb a c) (eqb b d) r (eq-eqb a c p) (eq-eqb b d q)
 
 moved-five : (a b c d e : Bool) → (a && (b && (c && (d && (e && true))))) ≡ ((a && (c && (d && e))) && b)
@@ -123,7 +123,7 @@ first-two n k d r e = both-true (eqb n n) (eqb k d) r (eq-eqb n n refl) (eq-eqb 
 second-false : (n k d : ℕ) (r : Bool) → (k ≡ d → ⊥) → (eqb n n && (eqb k d && r)) ≡ false
 second-false n k d r h = rw (eq-eqb n n refl, ne-eqb k d h)
 
-and-true : (a : Bool) → (a && true) ≡ a
+pub and-true : (a : Bool) → (a && true) ≡ a
 and-true true = refl
 and-true false = refl
 
@@ -181,7 +181,7 @@ unread-law failed error place found number numberread sum sumread e =
     and-both _ _ (eq-eqb (two failed error) 0 (omega (arith, p, q)))
     (and-both _ _ (and-left (eqb place 0) _ h) (and-both _ _ (eq-eqb found 0 (omega (arith, e, r, s, t))) (and-left (eqb sumread 0) _ h₅))))
 
-two-tight : (a b : ℕ) → a < 256 → (two a b % 256 ≡ a) × (two a b / 256 ≡ b)
+pub two-tight : (a b : ℕ) → a < 256 → (two a b % 256 ≡ a) × (two a b / 256 ≡ b)
 two-tight a b h = (omega arith, omega arith)
 
 -- ---- when the bytes are its own
