@@ -1,3 +1,4 @@
 pub mod Codecs
 pub mod Loops
 pub mod Numbers
+pub mod Tight

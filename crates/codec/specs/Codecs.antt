@@ -4,7 +4,7 @@ use mathlib.Core.Path.{_≡_}
 use mathlib.Core.Bool.{Bool, true, false, _&&_}
 use mathlib.Core.List.{List, [], _∷_, _++_}
 use lib.Dec.{eqb}
-use lib.ListN.{length, take, drop, replicate}
+use lib.ListN.{length, take, drop, replicate, getD}
 
 pub record Codec (A : Type 0) : Type 0 where
   pub size : ℕ
@@ -54,3 +54,18 @@ same [] [] = true
 same [] (y ∷ ys) = false
 same (x ∷ xs) [] = false
 same (x ∷ xs) (y ∷ ys) = eqb x y && same xs ys
+
+-- ---- bytes at the front of a list are those of what they stand for
+
+unfoldable pub isTight : {A : Type 0} → Codec A → List ℕ → Bool
+isTight c bs = same (c .write (c .read bs)) (take (c .size) bs)
+
+-- the same of n values, one after the other
+unfoldable pub areTight : {A : Type 0} → Codec A → ℕ → List ℕ → Bool
+areTight c zero bs = true
+areTight c (suc n) bs = isTight c bs && areTight c n (drop (c .size) bs)
+
+-- bytes compared one by one, from place k on
+unfoldable pub matches : ℕ → List ℕ → List ℕ → Bool
+matches k [] bs = true
+matches k (x ∷ xs) bs = eqb x (getD bs k 0) && matches (suc k) xs bs

@@ -88,7 +88,7 @@ fn buffer_row(number: u8, kind: u8, words: u16, at: u16, failed: u8, found: Chec
 }
 
 // How the full block whose buffer stands at byte `at` arrived.
-fn arrival_at(b: &[u8], at: usize) -> Arrival
+pub fn arrival_at(b: &[u8], at: usize) -> Arrival
     requires { ⌜ at + bufferSize ≤ length (now b) ⌝ }
     ensures { λ x. ⌜ x ≡ arrivalFrom (drop at (now (b .entry))) ⌝ }
 {

@@ -7,6 +7,8 @@ mod programs;
 mod units;
 mod words;
 
+pub use files::arrival_at;
+pub use files::file_at;
 pub use images::IMAGE;
 pub use images::image_in;
 pub use images::put_image;
