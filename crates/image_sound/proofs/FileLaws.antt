@@ -98,7 +98,7 @@ kind-empty Taken = refl
 kind-empty (Part n) = refl
 kind-empty (Full n at a) = refl
 
-kind-taken : (x : Slot) → eqb (slotKind x) 1 ≡ isTaken x
+pub kind-taken : (x : Slot) → eqb (slotKind x) 1 ≡ isTaken x
 kind-taken Empty = refl
 kind-taken Taken = refl
 kind-taken (Part n) = refl
@@ -110,7 +110,7 @@ kind-part Taken = refl
 kind-part (Part n) = refl
 kind-part (Full n at a) = refl
 
-kind-full : (x : Slot) → eqb (slotKind x) 3 ≡ isFull x
+pub kind-full : (x : Slot) → eqb (slotKind x) 3 ≡ isFull x
 kind-full Empty = refl
 kind-full Taken = refl
 kind-full (Part n) = refl

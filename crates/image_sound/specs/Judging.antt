@@ -1,15 +1,23 @@
 -- How the bytes of an image are judged where they lie: that they are those of what they stand for, and that this is as it may be. Assumes nothing.
-use Prim.Native.Nat.{ℕ}
+use Prim.Native.Nat.{ℕ, _+_, _*_}
+use mathlib.Core.Path.{_≡_}
 use mathlib.Core.Bool.{Bool, not, cond, _&&_, _||_}
 use mathlib.Core.List.{List}
 use lib.Dec.{eqb, leb, ltb}
 use lib.ListN.{getD, drop}
+use Rattle.channel.specs.declared.Channel.{Channel}
+use Rattle.channel.specs.Units.{unitCount, declaredAt}
 use Rattle.file.specs.declared.Slot.{Slot}
+use Rattle.file.specs.declared.File.{File}
 use Rattle.file.specs.Slots.{slotKind, fullArrival}
 use Rattle.file.specs.Arrivals.{isArrival}
 use Rattle.state_sound.specs.Files.{openSound, fullFits, partFits, placeFits, isUnread}
+use Rattle.state_sound.specs.Soundness.{channelOf, requestOf}
+use Rattle.state_sound.specs.Judged.{fileReady}
 use Rattle.codec.specs.Codecs.{isTight}
 use Rattle.codec.specs.Rows.{twoAt, fourAt, eightOf}
+use Rattle.state_image.specs.Units.{unitSize, channelHead, channelCodec}
+use Rattle.state_image.specs.Images.{stateHead, channelsCodec}
 use Rattle.state_image.specs.Files.{bufferCodec, fileCodec, arrivalFrom}
 
 -- ---- a buffer
@@ -54,3 +62,27 @@ secondRight m double first second high = cond double (ltb first second && ltb se
 -- its bytes are its own, and it is open and sound in a pool of m buffers of w words
 unfoldable pub isGoodFile : ℕ → ℕ → List ℕ → Bool
 isGoodFile m w bs = isTight fileCodec bs && (fileCodec .read bs .opened && openSound m w (fileCodec .read bs))
+
+-- ---- a file beside its unit
+
+-- the channels that bytes stand for, and where the bytes of a unit stand
+abbrev pub channelsIn : List ℕ → List Channel
+channelsIn bs = channelsCodec unitCount .read (drop stateHead bs)
+
+abbrev pub unitPlace : ℕ → ℕ → ℕ
+unitPlace c u = stateHead + c * channelCodec unitCount .size + (channelHead + u * unitSize)
+
+-- the file is ready for what is requested of its unit, by the bytes of the unit's standing and operation and by the kinds of what its buffers hold
+abbrev pub readyBy : ℕ → ℕ → Bool → ℕ → ℕ → Bool
+readyBy kind op output low high =
+    (eqb kind 0 || ((eqb op 0 && not output) || (not (eqb op 0) && output)))
+    && (((not (not (eqb kind 0) && eqb op 0) || (eqb low 1 || eqb high 1)) && (((not (eqb kind 0) && eqb op 0) || not (eqb low 1 || eqb high 1)) && not (eqb low 1 && eqb high 1)))
+    && (not (not (eqb kind 0) && eqb op 1) || (eqb low 3 || eqb high 3)))
+
+-- a declared unit, and ready for its request
+unfoldable pub fitsUnit : List Channel → File → Bool
+fitsUnit cs f = declaredAt (channelOf cs f) (f .unit) && fileReady (requestOf cs f) f
+
+-- the kinds of what the file's buffers hold stand in their bytes
+abbrev pub KindsThere : List ℕ → Type 0
+KindsThere bs = (getD bs 16 0 ≡ slotKind (fileCodec .read bs .low .slot)) × (getD bs 36 0 ≡ slotKind (fileCodec .read bs .high .slot))
