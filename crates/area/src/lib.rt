@@ -1,6 +1,8 @@
 // Words in a lent area: a part of it, words copied into a part, and whether words are below 2^36; and a row of the refusal table.
 // Here too is the one home of the general laws on lists that the crates above cite.
 // It knows nothing of blocks, buffers, files or calls.
+#![tactic(auto)]
+
 mod refusals;
 
 ghost use Rattle.area.specs.Lists.{all_of, is_found};
@@ -10,7 +12,7 @@ ghost use Rattle.std.specs.Prelude.{◌≡◌};
 pub use refusals::row;
 
 // What a search for a number finds.
-#[derive(Drop)]
+#[derive(Clone, Copy)]
 pub enum Found {
     At(usize),
     Nothing,

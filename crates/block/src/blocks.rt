@@ -7,14 +7,14 @@ ghost use Rattle.block.specs.Blocks.{block_seal_refusal, sealed_block, refused_b
 use word::{Checked, LAST_NUMBER, check_of, check_word, extra, logical_sum, not_checked};
 
 // What judging a delivered block tells: the refusal, or 0 and then what its check found.
-#[derive(Drop)]
+#[derive(Clone, Copy)]
 pub struct Judged {
     pub refusal: u8,
     pub found: Checked,
 }
 
 // The refusal of sealing a block, or 0 and then the block's check word.
-#[derive(Drop)]
+#[derive(Clone, Copy)]
 struct Sealing {
     refusal: u8,
     word: u64,

@@ -1,5 +1,7 @@
 // A block as bytes, five a word and the highest first, as frames have it: sealed with its check word, and checked by it as delivered.
 // The words of a block are those of the crate `block`. It knows nothing of files, buffers or frames.
+#![tactic(auto)]
+
 mod bytes;
 mod fields;
 
@@ -23,7 +25,7 @@ const WORD: usize = 5;
 const FOUND: usize = 12;
 
 // What checking a block tells: the refusal, or 0 and then the error.
-#[derive(Drop)]
+#[derive(Clone, Copy)]
 pub struct Verdict {
     pub refusal: u8,
     pub error: u8,

@@ -1,4 +1,6 @@
 // Sealing and judging a block of lent 64-bit places, as functions that Rust and C link, for measuring (`./bench`). Each is one call of the crate `block`.
+#![tactic(auto)]
+
 ghost use Rattle.std.specs.Prelude.{◌≡◌};
 ghost use Rattle.block.specs.Blocks.{block_seal_refusal, sealed_block};
 ghost use Rattle.block_export.specs.Exports.{has_sequence, has_check, judged_number};

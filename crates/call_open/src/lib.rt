@@ -1,5 +1,7 @@
 // Open and close on the one file and the one channel that they concern: their rows of the refusal table, and the file after them.
 // It knows nothing of states.
+#![tactic(auto)]
+
 mod closes;
 mod opens;
 

@@ -15,7 +15,7 @@ use file_output::{after_write, send_start, send_words};
 use word::{Checked, LAST_NUMBER, extra, not_checked};
 
 // What one pass over the given words tells: whether each is below 2^36, and what the check finds if they are a delivered block.
-#[derive(Drop)]
+#[derive(Clone, Copy)]
 pub struct Looked {
     pub fits: bool,
     pub found: Checked,

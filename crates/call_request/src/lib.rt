@@ -1,5 +1,7 @@
 // Ask and report on the one file and the one channel that they concern, or by one unit and its channel's desk: their rows of the refusal table, the words that a report brings or hands
 // out, and what changes, the routines too. It knows nothing of states.
+#![tactic(auto)]
+
 mod asks;
 mod blocks;
 mod effects;
@@ -16,7 +18,7 @@ pub use reports::{report_moved, report_on};
 use word::Checked;
 
 // The answer to an ask: the refusal, 0 for none; the working unit after it, 255 for none; the file and the channel after it.
-#[derive(Drop)]
+#[derive(Clone, Copy)]
 pub struct AskChange {
     pub refusal: u8,
     pub working: u8,
@@ -25,7 +27,7 @@ pub struct AskChange {
 }
 
 // The answer to an ask by one unit: the refusal, 0 for none, and what it makes of the unit and its channel.
-#[derive(Drop)]
+#[derive(Clone, Copy)]
 pub struct AskMove {
     pub refusal: u8,
     pub change: Move,
@@ -33,7 +35,7 @@ pub struct AskMove {
 
 // What a report that is booked means for the file of its unit: the taken buffer is full, with the error of the read, 0 for none; it is empty
 // and a file mark was met, or is empty again; the block that a write sent is gone; or the file is as it was.
-#[derive(Drop)]
+#[derive(Clone, Copy)]
 pub enum Effect {
     Delivers(u8),
     MeetsMark,
@@ -43,7 +45,7 @@ pub enum Effect {
 }
 
 // What a report delivers: no block, or one with what its check found.
-#[derive(Drop)]
+#[derive(Clone, Copy)]
 pub enum Delivery {
     Without,
     With(Checked),
@@ -51,7 +53,7 @@ pub enum Delivery {
 
 // The answer to a report: the refusal, 0 for none; the result, 0 repeated, 7 repeated after the cleaner pass, 1 to 6 how the operation ended; the delivered block's check, if
 // it delivers one; the working unit after it, 255 for none; the part of the area that holds the block of a write; the file and the channel after it.
-#[derive(Drop)]
+#[derive(Clone, Copy)]
 pub struct ReportChange {
     pub refusal: u8,
     pub result: u8,
@@ -65,7 +67,7 @@ pub struct ReportChange {
 
 // The answer to a report by one unit: the same, but what it means for the file and what was found of the words given, and what it makes of the unit and
 // its channel.
-#[derive(Drop)]
+#[derive(Clone, Copy)]
 pub struct ReportMove {
     pub refusal: u8,
     pub result: u8,

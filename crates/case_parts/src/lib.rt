@@ -1,5 +1,7 @@
 // What the programs share that play stored cases on what a caller passes back: the numbers of a command, the words that are lent, a file, a channel or the routines
 // with one number changed, and each of them printed. It makes no call, and is no part of the pack: it promises no more than that it is safe.
+#![tactic(auto)]
+
 mod heads;
 mod pokes;
 mod print;

@@ -1,6 +1,8 @@
 // One channel as a value: its units with their requests, and what can be seen of them.
 // Every function answers for any channel value and any number. What a report comes to stands in `channel_outcomes`, whose turn it is in `channel_turns`.
 // The crate knows nothing of files, buffers or words.
+#![tactic(auto)]
+
 mod units;
 
 pub use units::{
@@ -14,7 +16,7 @@ pub const UNITS: usize = 10;
 // How many channels there are, the manual's A to E.
 pub const CHANNELS: usize = 5;
 
-#[derive(Drop)]
+#[derive(Clone, Copy)]
 pub enum Op {
     Read,
     Write,
@@ -23,7 +25,7 @@ pub enum Op {
 
 // A request. `attempts` is the number of the attempt that is at work or due, `incomplete` how many incomplete words it met, `noise` how many
 // noise records it passed over.
-#[derive(Drop)]
+#[derive(Clone, Copy)]
 pub struct Request {
     pub op: Op,
     pub priority: bool,
@@ -33,7 +35,7 @@ pub struct Request {
 }
 
 // How a unit stands: it has no request, or its request waits, was displaced, or is worked for.
-#[derive(Drop)]
+#[derive(Clone, Copy)]
 pub enum Turn {
     Idle,
     Waiting(Request),
@@ -42,14 +44,14 @@ pub enum Turn {
 }
 
 // Where a unit's reel stands since the fresh start: the file marks passed, the records since the last of them, and whether a noise record was met.
-#[derive(Drop)]
+#[derive(Clone, Copy)]
 pub struct Position {
     pub marks: u16,
     pub records: u16,
     pub noisy: bool,
 }
 
-#[derive(Drop)]
+#[derive(Clone, Copy)]
 pub struct Unit {
     pub declared: bool,
     pub turn: Turn,
@@ -57,7 +59,7 @@ pub struct Unit {
 }
 
 // `mark` is the unit at which the next scan for ordinary requests begins, `urgent` that of the next scan for priority requests.
-#[derive(Drop)]
+#[derive(Clone, Copy)]
 pub struct Channel {
     pub units: [Unit; UNITS],
     pub mark: u8,
@@ -65,7 +67,7 @@ pub struct Channel {
 }
 
 // The operation that a unit is worked for, if it is.
-#[derive(Drop)]
+#[derive(Clone, Copy)]
 pub enum Work {
     At(Op),
     Nothing,

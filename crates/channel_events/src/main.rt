@@ -1,5 +1,7 @@
 // Plays events on one channel, one a line, and prints an answer line for each: what a second program's answers are compared with.
 // 0 MASK fresh start; 1 UNIT OP PRIORITY ask; 2 UNIT OUTCOME LENGTH report; 3 freeze; 4 thaw; 5 the whole channel.
+#![tactic(auto)]
+
 mod print;
 
 use channel::{Channel, Op};
@@ -9,7 +11,7 @@ use numbers::next;
 use print::{answer, end_line, number, whole};
 
 // The channel, whether it is frozen, and where the next event is read.
-#[derive(Drop)]
+#[derive(Clone, Copy)]
 struct Desk {
     channel: Channel,
     frozen: bool,

@@ -1,5 +1,7 @@
 // Document 01's table of outcomes and attempts: what a report of one operation comes to, and where the unit's reel stands after it.
 // Every function answers for any number. The crate knows nothing of channels' turns, of files, buffers or words.
+#![tactic(auto)]
+
 mod positions;
 mod rules;
 
@@ -17,7 +19,7 @@ pub const NO_LENGTH: u32 = 65536;
 pub const MOST_PASSED: u16 = 32767;
 
 // How an operation ends.
-#[derive(Drop)]
+#[derive(Clone, Copy)]
 pub enum Ending {
     Good,
     Opposite,
@@ -28,7 +30,7 @@ pub enum Ending {
 }
 
 // What a report comes to: refused with a number, an operation that makes a further attempt, or one that has ended.
-#[derive(Drop)]
+#[derive(Clone, Copy)]
 pub enum Verdict {
     Refused(u8),
     Repeats(Request),

@@ -1,6 +1,8 @@
 // Turns on one channel: the unit that works, the scans for priority and for ordinary requests; a start, a thaw, an ask and a report.
 // A channel goes in and comes out by value, and every function answers for any channel value and any number.
 // Whether the pack is frozen is a parameter. The crate knows nothing of files, buffers or words.
+#![tactic(auto)]
+
 mod desks;
 mod moves;
 mod scans;
@@ -20,7 +22,7 @@ const LAST: usize = UNITS - 1;
 
 // What a channel's turns go by: the marks at which its scans begin, and a bit for each unit that is worked for, that waits with a priority request, and
 // that waits with an ordinary one.
-#[derive(Drop)]
+#[derive(Clone, Copy)]
 pub struct Desk {
     pub mark: u8,
     pub urgent: u8,
@@ -31,7 +33,7 @@ pub struct Desk {
 
 // What a call makes of a channel: how its unit stands and where the reel is, the marks, the unit that starts then, and the one that is worked for
 // after all, 255 for none.
-#[derive(Drop)]
+#[derive(Clone, Copy)]
 pub struct Move {
     pub turn: Turn,
     pub position: Position,
@@ -42,14 +44,14 @@ pub struct Move {
 }
 
 // The answer to an ask, and the channel after it.
-#[derive(Drop)]
+#[derive(Clone, Copy)]
 pub struct Asked {
     pub accepted: bool,
     pub channel: Channel,
 }
 
 // What a report came to, and the channel after it.
-#[derive(Drop)]
+#[derive(Clone, Copy)]
 pub struct Reported {
     pub verdict: Verdict,
     pub channel: Channel,

@@ -13,7 +13,7 @@ use channel::{Op, Position, Request, Turn, Unit, is_idle, worked_for};
 use channel_outcomes::{Ending, Verdict, noted, position_after, verdict_of};
 
 // The unit that starts, and the number of the one that is worked for then, 255 for none.
-#[derive(Drop)]
+#[derive(Clone, Copy)]
 pub struct Starting {
     pub unit: Found,
     pub working: u8,

@@ -1,5 +1,7 @@
 // Values as bytes of an image: the laws of every codec, once; numbers read from their places in a lent byte area, bytes put in theirs, and bytes compared.
 // It knows nothing of states.
+#![tactic(auto)]
+
 mod rows;
 
 ghost use Rattle.area.specs.Parts.{pasted_in};

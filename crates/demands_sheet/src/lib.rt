@@ -1,1 +1,3 @@
 // The sheet and the demands speak of the same numbers: theorems, no code.
+#![tactic(auto)]
+

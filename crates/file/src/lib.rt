@@ -1,6 +1,8 @@
 // One file by value: its one or two buffers, what each of them holds, and which of them is meant; the file with something else in a buffer;
 // how a block arrived; the sizes of a file, and the file as it is opened and as it is closed.
 // It only numbers the buffers and knows nothing of channels, of other files, or of the words of an area.
+#![tactic(auto)]
+
 mod arrivals;
 mod refills;
 mod sides;
@@ -24,7 +26,7 @@ pub const INCOMPLETE_ERROR: u8 = 10;
 
 // How a full block arrived: the error of the read that brought it, 4 or 10, 0 for none and 0 once it was told; and what its check found at
 // delivery, the error 0 once it was told. All zero in a block that was sealed.
-#[derive(Drop)]
+#[derive(Clone, Copy)]
 pub struct Arrival {
     pub failed: u8,
     pub check: Checked,
@@ -32,7 +34,7 @@ pub struct Arrival {
 
 // What one buffer of an open file holds: nothing; what a read is to bring; n words that were put; or a full block of so many data words,
 // with the place of get in it and how it arrived.
-#[derive(Drop)]
+#[derive(Clone, Copy)]
 pub enum Slot {
     Empty,
     Taken,
@@ -45,7 +47,7 @@ pub enum Slot {
 }
 
 // A buffer of the pool, and what it holds.
-#[derive(Drop)]
+#[derive(Clone, Copy)]
 pub struct Buffer {
     pub number: u8,
     pub slot: Slot,
@@ -53,7 +55,7 @@ pub struct Buffer {
 
 // A file. `size` is B and `rlen` is r; `low` has the lower number of its buffers; `turned` says that of two full blocks the one in `high` is
 // the older; `block` is the next block number; `marked` says that a file mark has been read.
-#[derive(Drop)]
+#[derive(Clone, Copy)]
 pub struct File {
     pub opened: bool,
     pub channel: u8,
@@ -72,7 +74,7 @@ pub struct File {
 }
 
 // Which of a file's buffers is meant.
-#[derive(Drop)]
+#[derive(Clone, Copy)]
 pub enum Side {
     Low,
     High,
@@ -80,14 +82,14 @@ pub enum Side {
 }
 
 // What a call on one file answers: the refusal, 0 for none, and the file after it, which is the one passed if it is refused.
-#[derive(Drop)]
+#[derive(Clone, Copy)]
 pub struct FileChange {
     pub refusal: u8,
     pub file: File,
 }
 
 // What an open asks for.
-#[derive(Drop)]
+#[derive(Clone, Copy)]
 pub struct Wish {
     pub channel: u8,
     pub unit: u8,

@@ -1,5 +1,7 @@
 // Output on one file: its part-filled block, when that is complete, and the file with it sealed; which buffer a put adds to; which block a
 // write sends; and the file after each. It knows nothing of channels, of other files, or of the words of an area.
+#![tactic(auto)]
+
 mod parts;
 mod puts;
 mod sends;

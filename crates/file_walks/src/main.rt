@@ -1,6 +1,8 @@
 // Plays events on one file, one a line, and prints an answer line for each: what a second program's answers are compared with.
 // 1 open; 2 read taken; 3 N ERROR FAILED SUM NUMBER SUMREAD NUMBERREAD delivered; 4 given back; 5 mark met; 6 get; 7 skip; 8 put; 9 seal; 10 what a write sends; 11 written;
 // 12 not written. Each answer ends with the whole file.
+#![tactic(auto)]
+
 mod print;
 
 use file::{Arrival, File, Wish};
@@ -10,7 +12,7 @@ use print::{found, number, whole};
 use word::Checked;
 
 // The file, the words of a buffer, and where the next event is read.
-#[derive(Drop)]
+#[derive(Clone, Copy)]
 struct Desk {
     file: File,
     w: u16,

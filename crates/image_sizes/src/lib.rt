@@ -1,5 +1,7 @@
 // A byte area that holds the image of a state of either size: one of the new size fills it; one of the old size, with ten units on each channel and 32 buffers at
 // most, stands at its front, and zeros fill the rest. Both are judged and read; what is written is of the new size. It knows nothing of calls.
+#![tactic(auto)]
+
 ghost use Rattle.std.specs.Prelude.{◌≡◌, cond, length};
 ghost use Rattle.area.specs.Lists.{all_of};
 ghost use Rattle.channel.specs.Units.{unit_count};

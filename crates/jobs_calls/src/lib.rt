@@ -1,6 +1,8 @@
 // Every call of two jobs and an operator at one pack, as a value: `job_on` and `operator_on` are all of them, on strings of files by value, and say what is to be
 // stored in the strings. The rules of the calls are those of the one-job pack, by its own functions on the one file and the one channel that a call concerns.
 // It knows nothing of strings that are lent, nor of lines and frames.
+#![tactic(auto)]
+
 mod job_calls;
 mod operator_calls;
 
@@ -14,7 +16,7 @@ use pack_start::Masks;
 use routines::{Naming, Program};
 
 // Any call of a job, by its numbers, in the order of document 01's frames; `size` is B and `rlen` is r. The words of a put are lent beside it.
-#[derive(Drop)]
+#[derive(Clone, Copy)]
 pub enum JobCall {
     Open {
         file: u8,
@@ -38,7 +40,7 @@ pub enum JobCall {
 }
 
 // What a job passes: what is shared, which job it is, and its call.
-#[derive(Drop)]
+#[derive(Clone, Copy)]
 pub struct JobTurn {
     pub console: Console,
     pub job: Job,
@@ -46,7 +48,7 @@ pub struct JobTurn {
 }
 
 // Any call of the operator. The words of a report are lent beside it.
-#[derive(Drop)]
+#[derive(Clone, Copy)]
 pub enum OperatorCall {
     Fresh {
         m: u8,
@@ -71,7 +73,7 @@ pub enum OperatorCall {
 }
 
 // What the operator passes: what is shared, and the call.
-#[derive(Drop)]
+#[derive(Clone, Copy)]
 pub struct OperatorTurn {
     pub console: Console,
     pub call: OperatorCall,
@@ -79,7 +81,7 @@ pub struct OperatorTurn {
 
 // What an answer adds to the refusal: nothing; what get found; a report's result, what it delivered and the working unit; whether a return entered a waiting
 // routine, and what runs after it; what runs.
-#[derive(Drop)]
+#[derive(Clone, Copy)]
 pub enum Adds {
     Nothing,
     Found(Got),
@@ -97,7 +99,7 @@ pub enum Adds {
 
 // The answer to any call: the refusal, 0 for none; what it adds; where the words that it shows begin in the area, and how many they are; what is shared, after
 // the call.
-#[derive(Drop)]
+#[derive(Clone, Copy)]
 pub struct Reply {
     pub refusal: u8,
     pub adds: Adds,
@@ -107,7 +109,7 @@ pub struct Reply {
 }
 
 // What a job's call comes to: its answer, and what is stored in the string: how many files, none or one, from which number on, and which file.
-#[derive(Drop)]
+#[derive(Clone, Copy)]
 pub struct JobDone {
     pub reply: Reply,
     pub stores: usize,
@@ -116,7 +118,7 @@ pub struct JobDone {
 }
 
 // What an operator's call comes to: its answer, and how many files are stored in each string, from which number on, and which file.
-#[derive(Drop)]
+#[derive(Clone, Copy)]
 pub struct OperatorDone {
     pub reply: Reply,
     pub first: usize,

@@ -1,6 +1,8 @@
 // Plays calls of two jobs and an operator on what is shared and on the strings, all of which a caller changes between them, and prints an answer line for each: what
 // a session of two jobs cannot show. Commands have the numbers that `pack_cases` gives them. What is a job's, and a change of its string, has the job after its kind,
 // 1 or 2. Besides: 16 changes what is reserved too, 27 is a reserve, and 28 gives a string another length. The stored output is that of the second program.
+#![tactic(auto)]
+
 mod calls;
 mod pokes;
 mod print;
@@ -13,7 +15,7 @@ use libc::STDIN_FILENO;
 use numbers::next;
 
 // What is passed: what is shared, the string of each job, and how many of the words that can be lent are lent.
-#[derive(Drop)]
+#[derive(Clone, Copy)]
 pub struct Desk {
     pub console: Console,
     pub first: FileString,
@@ -22,7 +24,7 @@ pub struct Desk {
 }
 
 // A command of the text: its kind, how many words came with it, the place after it, and whether the text has ended.
-#[derive(Drop)]
+#[derive(Clone, Copy)]
 struct Line {
     kind: u64,
     words: usize,

@@ -1,6 +1,8 @@
 // What two jobs and an operator share at one pack: the state without files, and what is reserved. Whose a unit is, how many buffers a job may hold, reserve, and
 // whether what a caller passes back is sound, over the string of files that it lends, here a value.
 // It knows nothing of the other calls.
+#![tactic(auto)]
+
 mod consoles;
 mod owned;
 mod reserves;
@@ -20,7 +22,7 @@ use routines::Routines;
 pub use sound::{all_holding, job_sound, left_of, operator_wrong};
 pub use strings::{file_in, past_last, sixteen_closed};
 
-#[derive(Drop)]
+#[derive(Clone, Copy)]
 pub enum Job {
     First,
     Second,
@@ -28,7 +30,7 @@ pub enum Job {
 
 // What the jobs and the operator share: the state without files; whether units and buffers are reserved, job 1's units as a mask for each channel, and how many
 // buffers each job may hold.
-#[derive(Drop)]
+#[derive(Clone, Copy)]
 pub struct Console {
     pub m: u8,
     pub w: u16,
@@ -43,7 +45,7 @@ pub struct Console {
 }
 
 // A string as a value: its files, closed ones behind the last, and how many it has, one more than sixteen for every longer string.
-#[derive(Drop)]
+#[derive(Clone, Copy)]
 pub struct FileString {
     pub files: [File; FILES],
     pub count: u8,

@@ -5,7 +5,7 @@ use pack_start::Masks;
 use session_frame::{Frame, frame_of};
 
 // What a line means: nothing that its speaker may ask for; a call of the operator; a call of a job.
-#[derive(Drop)]
+#[derive(Clone, Copy)]
 pub enum Meant {
     Nothing,
     Operator(OperatorCall),

@@ -8,7 +8,7 @@ use session_frame::{Frame, frame_of, words_at, words_into};
 use session_line::{Line, has_begun, next_line, no_line};
 
 // The line that has begun; how many bytes were read last, and the place among them; whether there may be more.
-#[derive(Drop)]
+#[derive(Clone, Copy)]
 pub struct Reading {
     pub line: Line,
     pub count: usize,
@@ -17,7 +17,7 @@ pub struct Reading {
 }
 
 // What was heard: where the reading stands, whether a line has ended there, what it means, and how many words came with it.
-#[derive(Drop)]
+#[derive(Clone, Copy)]
 pub struct Said {
     pub reading: Reading,
     pub ended: bool,

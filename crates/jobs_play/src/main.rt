@@ -1,6 +1,8 @@
 // Plays a session of two jobs and an operator on standard input and writes its answers to standard output, whatever its length, in constant memory.
 // On a read or write error it stops and says so in one line on standard error.
 // A line is heard as a value before it is played: what there is between two lines, which is large, goes in and out of a line's turn in one place.
+#![tactic(auto)]
+
 mod frames;
 mod lines;
 mod turns;

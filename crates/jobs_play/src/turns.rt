@@ -10,7 +10,7 @@ use pool::FILES;
 use session_frame::{Answer, write_answer};
 
 // What there is between two lines: what is shared, and the string of each job.
-#[derive(Drop)]
+#[derive(Clone, Copy)]
 pub struct Desk {
     pub console: Console,
     pub first: FileString,
@@ -30,7 +30,7 @@ pub fn first_desk() -> Desk {
 }
 
 // After a turn: what there is, and the length of its answer.
-#[derive(Drop)]
+#[derive(Clone, Copy)]
 pub struct Turned {
     pub desk: Desk,
     pub length: usize,

@@ -1,10 +1,12 @@
 // Decimal numbers in a text, one after the other: how the programs that play stored cases read their input.
 // It knows nothing of what the numbers mean.
+#![tactic(auto)]
+
 ghost use Rattle.std.specs.Prelude.{◌≡◌, ◌+◌, ◌≤◌, min, max, length, drop};
 ghost use Rattle.numbers.specs.Decimal.{is_digit, tenfold, gap, next_of};
 
 // A number, and the place after its last digit.
-#[derive(Drop)]
+#[derive(Clone, Copy)]
 pub struct Number {
     pub value: u64,
     pub at: usize,

@@ -3,6 +3,8 @@
 // `answer` is all thirteen in one function, over a call as a value: its contract is `answer_of`, which every theorem speaks of.
 // In `specs/` are the thirteen calls as values, what each makes of a state and an area, the refusal table, and histories of calls; the theorems over
 // them are what the crate `demands` cites.
+#![tactic(auto)]
+
 mod answers;
 
 pub use answers::{answer, shown_words};
@@ -22,7 +24,7 @@ pub use state_sound::is_sound;
 
 // Any of the thirteen calls, by its numbers, in the order of document 01's frames, return and what runs last; `size` is B and `rlen` is r. A call that names a file alone holds
 // that file's number. The words of a report and of a put are lent beside it.
-#[derive(Drop)]
+#[derive(Clone, Copy)]
 pub enum AnyCall {
     Fresh {
         m: u8,
@@ -62,7 +64,7 @@ pub enum AnyCall {
 
 // What an answer adds to the refusal: nothing; the channel's working unit; a report's result, check error and working unit; what get found; whether a return
 // entered a waiting routine, and what runs after it; what runs.
-#[derive(Drop)]
+#[derive(Clone, Copy)]
 pub enum Adds {
     Nothing,
     Working(u8),
@@ -81,7 +83,7 @@ pub enum Adds {
 
 // The answer to any call: the refusal, 0 for none; what it adds; where the words that it shows begin in the area, and how many they are; the
 // state after the call.
-#[derive(Drop)]
+#[derive(Clone, Copy)]
 pub struct AnyAnswer {
     pub refusal: u8,
     pub adds: Adds,

@@ -3,6 +3,8 @@
 // a channel's mark of either kind, or m, W, the freeze and the free mask; 17 starts over; 18, 19 and 20 print the words, the state, and whether it is sound.
 // 21 is an ask that names a routine, 22 a return, 23 asks what runs; 24 to 26 change the depth of the push-down list, a program, and what stands with a unit.
 // The stored output is that of the second program.
+#![tactic(auto)]
+
 mod calls;
 mod pokes;
 mod print;
@@ -16,14 +18,14 @@ use pack::State;
 // The words that can be lent, and how many of them are lent; the state that is passed.
 const ROOM: usize = 64;
 
-#[derive(Drop)]
+#[derive(Clone, Copy)]
 struct Desk {
     state: State,
     lent: usize,
 }
 
 // The desk after a command, the place after it in the text, and whether the text has ended.
-#[derive(Drop)]
+#[derive(Clone, Copy)]
 struct Step {
     desk: Desk,
     at: usize,

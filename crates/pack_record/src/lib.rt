@@ -1,5 +1,7 @@
 // The calls that a job makes of its files without a channel, get, skip, put and seal, on a whole state: each judges the state and the area that
 // it is lent (row 1), looks the file up and stores what changes.
+#![tactic(auto)]
+
 mod gets;
 mod misuse;
 mod puts;
@@ -14,7 +16,7 @@ pub use skips::skip;
 use state::State;
 
 // What get answers: the refusal, or 0 and then what it found; and the state after it.
-#[derive(Drop)]
+#[derive(Clone, Copy)]
 pub struct Getting {
     pub refusal: u8,
     pub got: Got,

@@ -1,5 +1,7 @@
 // Reads a list on standard input and writes its plan, or one line that says what is refused.
 // A list that is good ends within the first 65,536 bytes, and one that is not has its first fault there.
+#![tactic(auto)]
+
 use libc::{STDERR_FILENO, STDIN_FILENO, STDOUT_FILENO};
 use planner::{FILES, Judged, Proposed, judge, plan};
 use planner_text::read_list;

@@ -1,5 +1,7 @@
 // Reads a list and a proposal, the files that its two arguments name, and writes whether the proposal is accepted, or why not.
 // The planner is not run: the verdict is that of the check alone.
+#![tactic(auto)]
+
 ghost use Rattle.io.specs.Counts.{IsPrefixLen};
 
 use libc::{STDERR_FILENO, STDOUT_FILENO};
@@ -13,7 +15,7 @@ const EVENTS: usize = 129;
 const ROWS: usize = 65;
 
 // What was read of a file.
-#[derive(Drop)]
+#[derive(Clone, Copy)]
 struct Text {
     good: bool,
     length: usize,

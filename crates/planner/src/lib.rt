@@ -3,6 +3,8 @@
 // An event is one number: 0 to 63 opens that file with a single buffer, 64 to 127 opens file 0 to 63 with a double one, 128 to 191 closes file 0 to 63.
 // A row, what a proposal says of one opening, is one number: count of buffers, file, second buffer, first buffer, a byte each, highest first.
 // It knows nothing of texts, nor of the files and pools of the pack.
+#![tactic(auto)]
+
 mod events;
 mod greedy;
 mod walk;
@@ -15,7 +17,7 @@ pub use walk::check;
 pub const FILES: usize = 64;
 
 // What a list is: good, or at fault in its limit, or first in the event of that index.
-#[derive(Drop)]
+#[derive(Clone, Copy)]
 pub enum Judged {
     Good,
     Limit,
@@ -23,7 +25,7 @@ pub enum Judged {
 }
 
 // What the planner answers: 0 and the proposal, whose rows are the first `count`; or 1 or 19 and no proposal.
-#[derive(Drop)]
+#[derive(Clone, Copy)]
 pub struct Proposed {
     pub refusal: u8,
     pub size: u8,
@@ -32,7 +34,7 @@ pub struct Proposed {
 }
 
 // What the check answers: accepted; the list is refused 1; or why the proposal is not accepted, and at which row (1: its size).
-#[derive(Drop)]
+#[derive(Clone, Copy)]
 pub enum Verdict {
     Accepted,
     Refused,

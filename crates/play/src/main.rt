@@ -1,11 +1,13 @@
 // Plays the session on standard input and writes its answers to standard output, whatever its length, in constant memory.
 // On a read or write error it stops and says so in one line on standard error.
+#![tactic(auto)]
+
 use libc::{STDERR_FILENO, STDIN_FILENO, STDOUT_FILENO};
 use session::{Talk, WORDS, new_talk, talk_end, talk_part};
 use session_frame::LONGEST;
 
 // The session so far, and whether more of it is read.
-#[derive(Drop)]
+#[derive(Clone, Copy)]
 struct Standing {
     talk: Talk,
     on: bool,

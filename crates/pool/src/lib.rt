@@ -1,5 +1,7 @@
 // The files over one pool of buffers: which buffers are free, and which file serves a unit of a channel.
 // It only numbers the buffers and knows nothing of requests. When the files are sound stands in `state_sound`.
+#![tactic(auto)]
+
 mod free;
 mod masks;
 mod units;
@@ -16,7 +18,7 @@ pub const BUFFERS: u8 = 32;
 pub const WORDS: u16 = 1024;
 
 // The free buffers: how many, and the two lowest of them.
-#[derive(Drop)]
+#[derive(Clone, Copy)]
 pub struct FreeBuffers {
     pub count: usize,
     pub low: u8,

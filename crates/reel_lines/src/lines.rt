@@ -1,7 +1,7 @@
 // What a line says: a mark, words, or nothing that is known.
 
 // `Words` is how many; `Fault` stands where an image has a fault, for reading.
-#[derive(Drop)]
+#[derive(Clone, Copy)]
 pub enum Said {
     Words(usize),
     Mark,

@@ -2,6 +2,8 @@
 // `tape_show` and a text. Its arguments are `write` or `read`, the block size B, the record length r, the flags of the open, and `told` if progress is to be
 // shown. A line is words of ten hexadecimal digits, or MARK. What is refused is said in one line on standard error; `read` ends with a line of what it
 // counted, and takes a line FAULT where the image has a fault.
+#![tactic(auto)]
+
 mod lines;
 mod output;
 mod reads;
@@ -17,7 +19,7 @@ use session_line::{Line, has_begun, next_line, no_line};
 const LINE: usize = 10 * WORDS;
 
 // The run so far, and the line that has begun.
-#[derive(Drop)]
+#[derive(Clone, Copy)]
 struct Text {
     run: Run,
     line: Line,
@@ -43,7 +45,7 @@ fn with_line(
 }
 
 // The run after some bytes of a part, the place after them, and whether another line may follow.
-#[derive(Drop)]
+#[derive(Clone, Copy)]
 struct Passed {
     text: Text,
     at: usize,

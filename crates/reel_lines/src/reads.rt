@@ -154,7 +154,7 @@ fn is_last(a: AnyAnswer) -> bool {
 }
 
 // The run after a get, and whether another is wanted.
-#[derive(Drop)]
+#[derive(Clone, Copy)]
 struct Answered {
     run: Run,
     more: bool,

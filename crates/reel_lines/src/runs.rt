@@ -6,7 +6,7 @@ use reel::Options;
 
 // The pack's state; the lines before; how many characters wait to be written; what was counted so far; whether anything came after the last mark;
 // whether progress is shown; whether the run goes on.
-#[derive(Drop)]
+#[derive(Clone, Copy)]
 pub struct Run {
     pub state: State,
     pub lines: u64,

@@ -2,6 +2,8 @@
 // What waits stands with the units: a caller passes the highest of it, and is told whether it was entered. Every function answers for any value.
 // Beside the channels stands a post for each unit, with what its request names and what waits there. The crate knows nothing of requests, files or words, and a unit
 // is a number to it.
+#![tactic(auto)]
+
 mod changes;
 mod ranks;
 mod right;
@@ -27,14 +29,14 @@ pub const HIGHEST: u8 = 4;
 const TOP: u8 = HIGHEST + 1;
 
 // A routine that is due at a unit, or that a request names: its rank, 0 for no routine, and its number.
-#[derive(Drop)]
+#[derive(Clone, Copy)]
 pub struct Due {
     pub rank: u8,
     pub routine: u8,
 }
 
 // A program: its rank, 0 for the main program, which has no priority; for a routine, the channel and the unit at which it became due, and its number.
-#[derive(Drop)]
+#[derive(Clone, Copy)]
 pub struct Program {
     pub rank: u8,
     pub channel: u8,
@@ -43,7 +45,7 @@ pub struct Program {
 }
 
 // The program that runs, and the push-down list of those that were interrupted: `count` of them, the last one pushed at place `count` - 1.
-#[derive(Drop)]
+#[derive(Clone, Copy)]
 pub struct Programs {
     pub running: Program,
     pub pushed: [Program; DEPTH],
@@ -51,14 +53,14 @@ pub struct Programs {
 }
 
 // What the scheduler did: whether it entered the waiting routine, which then waits no longer, and the programs after it.
-#[derive(Drop)]
+#[derive(Clone, Copy)]
 pub struct Scheduled {
     pub entered: bool,
     pub programs: Programs,
 }
 
 // What an ask says of a routine: whether it names one, its number, and its priority.
-#[derive(Drop)]
+#[derive(Clone, Copy)]
 pub struct Naming {
     pub given: bool,
     pub routine: u8,
@@ -66,27 +68,27 @@ pub struct Naming {
 }
 
 // What stands with one unit: the routine that its request names, and the one that waits there.
-#[derive(Drop)]
+#[derive(Clone, Copy)]
 pub struct Post {
     pub named: Due,
     pub due: Due,
 }
 
 // The posts of a channel's units.
-#[derive(Drop)]
+#[derive(Clone, Copy)]
 pub struct Posts {
     pub units: [Post; UNITS],
 }
 
 // What runs and was interrupted, and the posts of every channel's units.
-#[derive(Drop)]
+#[derive(Clone, Copy)]
 pub struct Routines {
     pub programs: Programs,
     pub posts: [Posts; CHANNELS],
 }
 
 // What a return did: whether it entered a waiting routine, and all after it.
-#[derive(Drop)]
+#[derive(Clone, Copy)]
 pub struct Back {
     pub entered: bool,
     pub routines: Routines,

@@ -1,6 +1,8 @@
 // A line of a session to a frame: which call it names and its numbers, as they stand in the line; and an answer to its line: its bytes and
 // words as upper-case hexadecimal digits, and a line feed, into a lent area. Words stay in the line until `words_into` brings them to a room.
 // Whether a number is in its range, and which answer a call has, is the pack's to say. It knows nothing of how lines are cut.
+#![tactic(auto)]
+
 mod answers;
 mod frames;
 
@@ -13,7 +15,7 @@ use word::Checked;
 pub const LONGEST: usize = 10252;
 
 // The unit masks of the five channels: bit u for unit u.
-#[derive(Drop)]
+#[derive(Clone, Copy)]
 pub struct Masks {
     pub a: u16,
     pub b: u16,
@@ -23,7 +25,7 @@ pub struct Masks {
 }
 
 // A fresh start: m buffers of w words, and the units.
-#[derive(Drop)]
+#[derive(Clone, Copy)]
 pub struct FreshFrame {
     pub m: u8,
     pub w: u16,
@@ -31,7 +33,7 @@ pub struct FreshFrame {
 }
 
 // An open; `size` is B and `rlen` is r.
-#[derive(Drop)]
+#[derive(Clone, Copy)]
 pub struct OpenFrame {
     pub file: u8,
     pub channel: u8,
@@ -42,7 +44,7 @@ pub struct OpenFrame {
 }
 
 // An ask, and what it says of a special routine.
-#[derive(Drop)]
+#[derive(Clone, Copy)]
 pub struct AskFrame {
     pub file: u8,
     pub op: u8,
@@ -51,7 +53,7 @@ pub struct AskFrame {
 }
 
 // A report; `length` is the length in words that it carries, `channel_outcomes::NO_LENGTH` for none, and `words` is how many words come with it.
-#[derive(Drop)]
+#[derive(Clone, Copy)]
 pub struct ReportFrame {
     pub channel: u8,
     pub unit: u8,
@@ -61,14 +63,14 @@ pub struct ReportFrame {
 }
 
 // A put; `words` is how many words come with it.
-#[derive(Drop)]
+#[derive(Clone, Copy)]
 pub struct PutFrame {
     pub file: u8,
     pub words: usize,
 }
 
 // A call as its line has it. One that names a file alone holds that file's number.
-#[derive(Drop)]
+#[derive(Clone, Copy)]
 pub enum Frame {
     Malformed,
     Fresh(FreshFrame),
@@ -89,7 +91,7 @@ pub enum Frame {
 }
 
 // An answer, its words left out: they are a part of the area, passed beside it.
-#[derive(Drop)]
+#[derive(Clone, Copy)]
 pub enum Answer {
     // a refusal's number
     Refused(u8),
@@ -130,7 +132,7 @@ pub enum Answer {
 pub const LEAD: usize = 16;
 
 // The bytes of an answer ahead of its words, `count` of them, and whether words follow.
-#[derive(Drop)]
+#[derive(Clone, Copy)]
 pub struct Lead {
     pub count: usize,
     pub bytes: [u8; LEAD],

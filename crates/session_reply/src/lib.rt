@@ -1,6 +1,8 @@
 // What a frame comes to, played by the pack's inner forms on what it concerns: one file; a file, a channel and the post of a unit; the routines; or the whole
 // state. Whoever holds the state reads the one file, the one channel and the one post at their places, and stores there what comes back.
 // It knows nothing of lines: the frame is decoded before, and its answer written after.
+#![tactic(auto)]
+
 mod changes;
 mod turns;
 
@@ -25,7 +27,7 @@ pub const WHOLE: u8 = 3;
 pub const ROUTINE: u8 = 4;
 
 // What a call on one file comes to: its answer, the part of the area that it shows, and the file after it.
-#[derive(Drop)]
+#[derive(Clone, Copy)]
 pub struct Told {
     pub answer: Answer,
     pub start: usize,
@@ -34,7 +36,7 @@ pub struct Told {
 }
 
 // The same of a call on a file, a channel and the post of a unit; `looks` says that the scheduler looks for a routine to enter, once the post is stored.
-#[derive(Drop)]
+#[derive(Clone, Copy)]
 pub struct Change {
     pub answer: Answer,
     pub start: usize,
@@ -46,7 +48,7 @@ pub struct Change {
 }
 
 // What a call on the routines comes to: its answer, and the routines after it.
-#[derive(Drop)]
+#[derive(Clone, Copy)]
 pub struct RoutineTold {
     pub answer: Answer,
     pub routines: Routines,

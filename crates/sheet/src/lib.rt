@@ -1,6 +1,8 @@
 // The adjudication sheet: a recorded session is played afresh, its answers are compared with the recorded ones, and every accepted request is
 // followed to its answer. The session and the recorded answers come in parts, cut anywhere. The requests are those of the session as it is played, whatever
 // was recorded. It knows nothing of where the parts come from and how a sheet is shown.
+#![tactic(auto)]
+
 mod calls;
 mod events;
 mod lines;
@@ -15,7 +17,7 @@ pub const LISTED: usize = 512;
 
 // What a line comes to for the sheet: an accepted ask of a file on its channel and unit, an accepted report on a channel and unit and whether it
 // answered the request, an accepted fresh start, or nothing of these.
-#[derive(Drop)]
+#[derive(Clone, Copy)]
 pub struct Event {
     pub asked: bool,
     pub reported: bool,
@@ -28,7 +30,7 @@ pub struct Event {
 
 // A request: its file, channel and unit, the frame of its acceptance, the frame of its answer or 0, the reports that its channel accepted since,
 // and whether it is followed still.
-#[derive(Drop)]
+#[derive(Clone, Copy)]
 pub struct Row {
     pub file: u8,
     pub channel: u8,
@@ -40,7 +42,7 @@ pub struct Row {
 }
 
 // The requests that are listed, `count` of them, and whether there were more.
-#[derive(Drop)]
+#[derive(Clone, Copy)]
 pub struct Listed {
     pub rows: [Row; LISTED],
     pub count: usize,
@@ -50,7 +52,7 @@ pub struct Listed {
 // The two inputs between two calls: the state; what has begun of a line of the session and of a recorded line; the frames so far, the first that
 // differs or 0; whether an answer waits for its recorded line, and its length without line feed; whether the session and the recorded
 // answers have ended; and the requests.
-#[derive(Drop)]
+#[derive(Clone, Copy)]
 pub struct Desk {
     pub state: State,
     pub session: Line,
@@ -65,7 +67,7 @@ pub struct Desk {
 }
 
 // The desk after some of a part, and the place in the part.
-#[derive(Drop)]
+#[derive(Clone, Copy)]
 pub struct Taken {
     pub desk: Desk,
     pub at: usize,

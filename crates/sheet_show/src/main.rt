@@ -1,5 +1,7 @@
 // Makes the adjudication sheet of a session and its recorded answers, the files that its two arguments name, of any length, in constant memory.
 // If a file cannot be read it says so in one line on standard error, and writes no sheet.
+#![tactic(auto)]
+
 use libc::{STDERR_FILENO, STDOUT_FILENO};
 use session::{ANSWER, WORDS};
 use session_frame::LONGEST;
@@ -11,7 +13,7 @@ const AREA: usize = 4096;
 const INPUT: usize = 65536;
 
 // A file that is read: the bytes of its room from `from` up to `to` are still to come.
-#[derive(Drop)]
+#[derive(Clone, Copy)]
 struct Source {
     fd: i32,
     from: usize,
@@ -20,7 +22,7 @@ struct Source {
 }
 
 // The desk and the two files; whether all could be read, and whether there is more to do.
-#[derive(Drop)]
+#[derive(Clone, Copy)]
 struct Standing {
     desk: Desk,
     session: Source,

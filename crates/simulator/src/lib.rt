@@ -1,5 +1,7 @@
 // The calls of the C simulator: numbers and lent byte areas alone. Whatever is kept between calls stands in the state area, as an image.
 // Each call gives 0 or more, or minus its refusal; refused, it changes no byte.
+#![tactic(auto)]
+
 mod lines;
 
 ghost use Rattle.std.specs.Prelude.{◌≡◌, length};

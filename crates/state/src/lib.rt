@@ -1,5 +1,7 @@
 // The whole state of a pack by value: the pool's two numbers, the freeze, five channels, sixteen files, a bit for each free buffer, and the special routines. A file,
 // a channel or the routines are looked up or replaced. When a state is sound stands in `state_sound`. It knows nothing of what a call does.
+#![tactic(auto)]
+
 mod places;
 mod stores;
 
@@ -13,7 +15,7 @@ pub use stores::{with_channel, with_file, with_routines};
 
 // A pool of m buffers of w words; whether starts are frozen; the channels with their units; the files; the free buffers, bit b for buffer b;
 // what runs, and the routines that are named and that wait.
-#[derive(Drop)]
+#[derive(Clone, Copy)]
 pub struct State {
     pub m: u8,
     pub w: u16,
@@ -25,7 +27,7 @@ pub struct State {
 }
 
 // The answer of a call that adds nothing to its refusal, 0 for none: and the state after it, which is the one passed if it is refused.
-#[derive(Drop)]
+#[derive(Clone, Copy)]
 pub struct Called {
     pub refusal: u8,
     pub state: State,

@@ -1,6 +1,8 @@
 // The image of a state with its area of 4,096 words: bytes of one form for each state, read from a lent byte area and written to it in one pass.
 // A field of a state is a line in the row of its struct, on writing and on reading; rows, lists of structs and the state are put together from these.
 // It knows nothing of calls.
+#![tactic(auto)]
+
 mod files;
 mod images;
 mod programs;
@@ -12,7 +14,7 @@ pub use images::{IMAGE, image_in, put_image, read_area};
 use state::State;
 
 // What stands in a byte area: whether it is the image of a sound state, and that state.
-#[derive(Drop)]
+#[derive(Clone, Copy)]
 pub struct Image {
     pub good: bool,
     pub state: State,

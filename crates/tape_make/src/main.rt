@@ -1,10 +1,12 @@
 // Makes a tape image of the lines of words on standard input, of any length, in constant memory: the image of a reel that `tape_show words` shows
 // as those lines. With the argument `bcd` parity is even. At a line that is none it stops, and says so in one line on standard error.
+#![tactic(auto)]
+
 use libc::{STDERR_FILENO, STDIN_FILENO, STDOUT_FILENO};
 
 // A line as far as it has come: `digits` of the word that has begun, which is `value` so far; how many words came before it, of which the room
 // holds the first 1,024; whether a character is no digit, and whether a word is 2^36 or more; how much of `MARK` it is, 5 if it is none.
-#[derive(Drop)]
+#[derive(Clone, Copy)]
 struct Line {
     begun: bool,
     digits: u8,
@@ -16,7 +18,7 @@ struct Line {
 }
 
 // Where the making stands: the lines before, and how many bytes wait to be written.
-#[derive(Drop)]
+#[derive(Clone, Copy)]
 struct Work {
     lines: u64,
     used: usize,
@@ -228,7 +230,7 @@ fn made(m: Work, line: Line, room: &[u64], out: &mut [u8], bcd: bool) -> Work {
 // ---- the reading
 
 // What the text has made so far, and the line that has begun.
-#[derive(Drop)]
+#[derive(Clone, Copy)]
 struct Text {
     work: Work,
     line: Line,

@@ -1,11 +1,13 @@
 // Shows the tape image on standard input, of any length, in constant memory. Its argument says how: `list` names each record, `words` shows its
 // words in hexadecimal digits, `octal` in octal ones. At a fault it stops, and says so in one line on standard error.
+#![tactic(auto)]
+
 use libc::{STDERR_FILENO, STDIN_FILENO, STDOUT_FILENO};
 use tape::Next;
 
 // Where the reading stands: the window is the bytes of the room up to `to`, of which those before `from` are done with; the room begins at
 // byte `base` of the image; `count` records were shown; `used` characters wait to be written.
-#[derive(Drop)]
+#[derive(Clone, Copy)]
 struct View {
     from: usize,
     to: usize,

@@ -1,6 +1,7 @@
 // 36-bit words: the logical sum of words and its fold; the fields of a check word, put in and taken out, and what comparing them finds; the next
 // block number.
 // It knows nothing of blocks, files, buffers or channels.
+#![tactic(auto)]
 
 pub use checks::{
     check_of, is_checked, is_exact, is_unchecked, not_checked, told_check, with_error,
@@ -18,7 +19,7 @@ pub const SUMS: u32 = 262144;
 
 // What the check of a block found. `error` is 1 for the sequence, 2 for the check sum, 3 for both, 0 for none, and 0 once it was told; `sum` and `number`
 // are the folded sum and the block number that were worked out, `sumread` and `numberread` the fields of the check word.
-#[derive(Drop)]
+#[derive(Clone, Copy)]
 pub struct Checked {
     pub error: u8,
     pub sum: u32,

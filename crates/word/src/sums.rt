@@ -6,14 +6,14 @@ ghost use Rattle.word.specs.Sums.{carry_back, folded as fold, summed};
 ghost use Rattle.word.specs.Totals.{total, reduced};
 
 // What one pass over words tells: whether every one is below 2^36, and then their logical sum (else 0).
-#[derive(Drop)]
+#[derive(Clone, Copy)]
 pub struct Summed {
     pub fits: bool,
     pub sum: u64,
 }
 
 // The plain total of some words, wrapped at 64 bits, and all of them or'ed.
-#[derive(Drop)]
+#[derive(Clone, Copy)]
 struct Tally {
     total: u64,
     any: u64,

@@ -1,5 +1,7 @@
 // Plays cases of `word` and `block`: sums, check words, seals and judgements. Each line of the input is a case: its kind, its numbers
 // and its words. Each gives a line of output; the stored output is that of the second program.
+#![tactic(auto)]
+
 ghost use Rattle.std.specs.Prelude.{◌≤◌, ◌<◌, length};
 
 use libc::{STDIN_FILENO, STDOUT_FILENO};

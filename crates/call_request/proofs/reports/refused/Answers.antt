@@ -1,0 +1,6 @@
+-- `refused` meets its contract: its definition, of what its callees ensure. Assumes nothing.
+
+use Rattle.call_request.proofs.reports.refused.Goals as goal
+
+pub returns : goal.returns
+returns c = rw (c.rest-change.ensures, c.not_checked-found.ensures)

@@ -1,0 +1,34 @@
+-- `table_verdict` meets its contract: the code's table judges as document 01's table does, and what is repeated has room to count.
+-- Assumes nothing.
+use Rattle.channel_outcomes.proofs.Laws.Rules.{entry_at, row_below, verdict_beyond, not_allowed, has_ended, is_repeated_lem, repeat_room}
+use mathlib.Core.Path.{sym, ◌∙◌, ap}
+use native.Mathlib.Omega.{arith}
+use Rattle.channel_outcomes.specs.declared.Verdict.TheVariants.{Repeats, Ends}
+use Rattle.channel_outcomes.proofs.rules.table_verdict.Goals as goal
+
+pub returns-then-outcome-ge-OUTCOMES : goal.returns-then-outcome-ge-OUTCOMES
+returns-then-outcome-ge-OUTCOMES c = sym (verdict_beyond c.args.q c.args.outcome c.if-outcome-ge-OUTCOMES.taken)
+
+pub offset_bounds-i : goal.offset_bounds-i
+offset_bounds-i c = omega (arith, c.row-i.ensures, row_below c.args.q.op)
+
+pub bounds-i : goal.bounds-i
+bounds-i c = omega (arith, c.row-i.ensures, row_below c.args.q.op)
+
+pub returns-then-limit : goal.returns-then-limit
+returns-then-limit c = let a = c.args in
+    sym (not_allowed a.q a.outcome _ c.if-outcome-ge-OUTCOMES.left (entry_at a.q a.outcome _ c.row-i.ensures) c.if-limit.taken)
+
+pub returns-then-ends : goal.returns-then-ends
+returns-then-ends c = let a = c.args in
+    ap Ends c.ending.ensures
+    ∙ sym (has_ended a.q a.outcome _ c.if-outcome-ge-OUTCOMES.left (entry_at a.q a.outcome _ c.row-i.ensures) c.if-limit.left c.if-ends.taken)
+
+pub next_attempt-requires : goal.next_attempt-requires
+next_attempt-requires c = let a = c.args in
+    repeat_room a.q a.outcome _ c.if-outcome-ge-OUTCOMES.left (entry_at a.q a.outcome _ c.row-i.ensures) c.if-ends.left
+
+pub returns : goal.returns
+returns c = let a = c.args in
+    ap Repeats c.next_attempt.ensures
+    ∙ sym (is_repeated_lem a.q a.outcome _ c.if-outcome-ge-OUTCOMES.left (entry_at a.q a.outcome _ c.row-i.ensures) c.if-limit.left c.if-ends.left)

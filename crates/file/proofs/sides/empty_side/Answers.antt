@@ -1,0 +1,7 @@
+-- `file::empty_side` meets its contract, from the contracts of `lower_of` and `is_empty`. Assumes nothing.
+use Rattle.file.specs.Sides.{empty_side}
+use Rattle.file.proofs.sides.empty_side.Goals as goal
+
+pub returns : goal.returns
+unfolding empty_side
+returns c = simp (c.lower_of.ensures, c.is_empty-a.ensures, c.is_empty-b.ensures)

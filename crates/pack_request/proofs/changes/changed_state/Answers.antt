@@ -1,0 +1,12 @@
+-- `pack_request::changes::changed_state` meets its contract, branch by branch. Assumes nothing.
+use borrow.Author.Tests.{eq-eqb, ne_eqb}
+use Rattle.pack_request.specs.Changes.{changed_state}
+use Rattle.pack_request.proofs.changes.changed_state.Goals as goal
+
+pub returns-then-refusal-eq0 : goal.returns-then-refusal-eq0
+unfolding changed_state
+returns-then-refusal-eq0 c = rw (eq-eqb _ _ c.if-refusal-eq0.true, ← c.with_channel-t.ensures, ← c.with_file-u.ensures) c.with_routines.ensures
+
+pub returns : goal.returns
+unfolding changed_state
+returns c = rw (ne_eqb _ _ c.if-refusal-eq0.false)

@@ -1,0 +1,8 @@
+-- `planner::greedy::with_row` meets its contract: a store past the end is none. Assumes nothing.
+use mathlib.Core.Path.{sym}
+use lib.Seq.{set_out}
+use borrow.Author.Rules.{rules}
+use Rattle.planner.proofs.greedy.with_row.Goals as goal
+
+pub returns : goal.returns
+returns c = sym (set_out _ _ _ (search rules))

@@ -1,0 +1,7 @@
+-- src/play.rt:87:9
+use Rattle.session.specs.Player.{held_text}
+use Rattle.session.proofs.Written.{framed_as}
+use Rattle.session.proofs.play.frame_in.Goals as goal
+
+pub returns : goal.returns
+returns c = framed_as (held_text c.args.line c.args.room.now) c.args.room.now c.args.words.now _ _ _ _ c.text_of-text.ensures c.frame_of-frame.ensures c.given-count.ensures.value c.given-count.ensures.room_after

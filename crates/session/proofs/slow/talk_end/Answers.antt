@@ -1,0 +1,21 @@
+-- `session::slow::talk_end` meets its contract, by whether the input has ended and a room is too short. Assumes nothing.
+use mathlib.Core.Path.{sym, ◌∙◌}
+use Rattle.session.specs.Talks.{desk_with}
+use Rattle.session.proofs.Ending.{IsFed}
+use Rattle.session.proofs.Calling.{IsCall, end_refused, end_short, end_played, words_there, out_there}
+use Rattle.session.proofs.slow.talk_end.Goals as goal
+
+pub returns-then-again : goal.returns-then-again
+unfolding IsCall
+returns-then-again c = end_refused (desk_with c.args.t c.args.area.now c.args.room.now c.args.words.now) c.if-again.true c.args.out.now _ c.refused.ensures
+
+pub returns-then-short : goal.returns-then-short
+unfolding IsCall
+returns-then-short c = end_short (desk_with c.args.t c.args.area.now c.args.room.now c.args.words.now) c.if-again.false c.args.out.now (sym c.lacks_room-short.ensures ∙ c.if-short.true) _ c.refused-then-short.ensures
+
+pub play_end-x-requires : goal.play_end-x-requires
+play_end-x-requires c = (words_there (desk_with c.args.t c.args.area.now c.args.room.now c.args.words.now) c.if-again.false c.args.out.now (sym c.lacks_room-short.ensures ∙ c.if-short.false), out_there (desk_with c.args.t c.args.area.now c.args.room.now c.args.words.now) c.if-again.false c.args.out.now (sym c.lacks_room-short.ensures ∙ c.if-short.false))
+
+pub returns : goal.returns
+unfolding IsCall IsFed
+returns c = end_played (desk_with c.args.t c.args.area.now c.args.room.now c.args.words.now) c.if-again.false c.args.out.now (sym c.lacks_room-short.ensures ∙ c.if-short.false) _ _ _ _ _ _ _ c.no_line-none.ensures c.play_end-x.ensures

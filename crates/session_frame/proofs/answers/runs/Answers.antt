@@ -1,0 +1,6 @@
+-- `session_frame::answers::runs` meets its contract, byte by byte. Assumes nothing.
+
+use Rattle.session_frame.proofs.answers.runs.Goals as goal
+
+pub returns : goal.returns
+returns c = rw (c.program_byte-channel.ensures, c.program_byte-unit.ensures, c.program_byte-routine.ensures)

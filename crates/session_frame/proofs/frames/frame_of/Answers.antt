@@ -1,0 +1,10 @@
+-- `session_frame::frames::frame_of` meets its contract, by whether the line is a text. Assumes nothing.
+use mathlib.Core.Path.{sym, ◌∙◌}
+use Rattle.session_frame.proofs.Laws.Sizes.{frame_text, frame_other}
+use Rattle.session_frame.proofs.frames.frame_of.Goals as goal
+
+pub returns-then-text : goal.returns-then-text
+returns-then-text c = c.kind_of.ensures ∙ sym (frame_text c.args.line.now (sym c.is_text-text.ensures ∙ c.if-text.true))
+
+pub returns : goal.returns
+returns c = sym (frame_other c.args.line.now (sym c.is_text-text.ensures ∙ c.if-text.false))

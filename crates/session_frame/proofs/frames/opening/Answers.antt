@@ -1,0 +1,8 @@
+-- `session_frame::frames::opening` meets its contract: each number is the field that its definition names. Assumes nothing.
+use mathlib.Core.Path.{◌∙◌}
+use Rattle.session_frame.specs.Frames.{open_from}
+use Rattle.session_frame.proofs.frames.opening.Goals as goal
+
+pub returns : goal.returns
+unfolding open_from
+returns c = c.if_sized.ensures ∙ rw (c.byte_at-file.ensures, c.byte_at-channel.ensures, c.byte_at-unit.ensures, c.byte_at-flags.ensures, c.size_at-size.ensures, c.size_at-rlen.ensures)

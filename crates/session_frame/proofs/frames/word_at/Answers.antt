@@ -1,0 +1,8 @@
+-- `session_frame::frames::word_at` meets its contract: past the end all five bytes are 0. Assumes nothing.
+use mathlib.Core.Path.{sym}
+use Rattle.session_frame.proofs.Laws.Bytes.{word_past}
+use Rattle.session_frame.proofs.frames.word_at.Goals as goal
+
+pub returns-then-line-k : goal.returns-then-line-k
+returns-then-line-k c = let a = c.args in
+    sym (word_past a.line.now a.k c.if-line-k.true)

@@ -1,0 +1,12 @@
+-- `session_reply::turns::routine_on` meets its contract, by which of the two calls it is. Assumes nothing.
+use mathlib.Core.Path.{sym, ◌∙◌}
+use Rattle.session_reply.specs.Turns.{routine_of}
+use Rattle.session_reply.proofs.turns.routine_on.Goals as goal
+
+pub returns-then-back : goal.returns-then-back
+unfolding routine_of
+returns-then-back c = rw (sym c.is_return-back.ensures ∙ c.if-back.true) c.given_back.ensures
+
+pub returns : goal.returns
+unfolding routine_of
+returns c = rw (sym c.is_return-back.ensures ∙ c.if-back.false) c.running.ensures

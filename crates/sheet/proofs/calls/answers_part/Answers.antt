@@ -1,0 +1,18 @@
+-- `sheet::calls::answers_part` meets its contract, branch by branch. Assumes nothing.
+use Rattle.sheet.proofs.Steps.{answers_shut, answers_extra, answers_none, answers_ended, answers_open}
+use Rattle.sheet.proofs.calls.answers_part.Goals as goal
+
+pub returns-then-shut : goal.returns-then-shut
+returns-then-shut c = answers_shut c.args.d c.args.other.now c.args.bytes.now c.args.at c.args.out.now _ c.asks_no_answer-shut.ensures c.if-shut.true
+
+pub returns-then-at-bytes : goal.returns-then-at-bytes
+returns-then-at-bytes c = answers_extra c.args.d c.args.other.now c.args.bytes.now c.args.at c.args.out.now _ c.asks_no_answer-shut.ensures c.if-shut.false c.if-not-d.true c.if-at-bytes.true _ c.extra-desk.ensures
+
+pub returns-then-not-d : goal.returns-then-not-d
+returns-then-not-d c = answers_none c.args.d c.args.other.now c.args.bytes.now c.args.at c.args.out.now _ c.asks_no_answer-shut.ensures c.if-shut.false c.if-not-d.true c.if-at-bytes.false
+
+pub returns-then-step : goal.returns-then-step
+returns-then-step c = answers_ended c.args.d c.args.other.now c.args.bytes.now c.args.at c.args.out.now _ c.asks_no_answer-shut.ensures c.if-shut.false c.if-not-d.false c.next_line-step.result c.next_line-step.ensures.value _ c.next_line-step.ensures.room_after c.if-step.true _ c.text_of-text.ensures _ c.compared-desk.ensures
+
+pub returns : goal.returns
+returns c = answers_open c.args.d c.args.other.now c.args.bytes.now c.args.at c.args.out.now _ c.asks_no_answer-shut.ensures c.if-shut.false c.if-not-d.false c.next_line-step.result c.next_line-step.ensures.value _ c.next_line-step.ensures.room_after c.if-step.false _ c.with_recorded-desk.ensures

@@ -1,0 +1,6 @@
+-- `sheet::calls::new_desk` meets its contract, from those of its parts. Assumes nothing.
+
+use Rattle.sheet.proofs.calls.new_desk.Goals as goal
+
+pub returns : goal.returns
+returns c = simp (c.before_start-state.ensures, c.no_line-none.ensures, c.none_listed-listed.ensures)

@@ -1,0 +1,17 @@
+-- `sheet::calls::session_end` meets its contract, branch by branch. Assumes nothing.
+use mathlib.Core.Path.{sym}
+use lib.Seq.{length-take-le}
+use Rattle.sheet.proofs.Steps.{end_shut, end_begun, end_none}
+use Rattle.sheet.proofs.calls.session_end.Goals as goal
+
+pub returns-then-shut : goal.returns-then-shut
+returns-then-shut c = end_shut c.args.d c.args.area.now c.args.room.now c.args.words.now c.args.out.now _ c.asks_no_line-shut.ensures c.if-shut.true
+
+pub slice_bounds-played-end-then-begun : goal.slice_bounds-played-end-then-begun
+slice_bounds-played-end-then-begun c = sym (length-take-le _ _ c.held_length-n.ensures.1)
+
+pub returns-then-begun : goal.returns-then-begun
+returns-then-begun c = end_begun c.args.d c.args.area.now c.args.room.now c.args.words.now c.args.out.now _ c.asks_no_line-shut.ensures c.if-shut.false _ c.has_begun-begun.ensures c.if-begun.true c.held_length-n.result c.held_length-n.ensures.0 _ _ _ _ _ c.played-last.ensures _ c.with_over.ensures
+
+pub returns : goal.returns
+returns c = end_none c.args.d c.args.area.now c.args.room.now c.args.words.now c.args.out.now _ c.asks_no_line-shut.ensures c.if-shut.false _ c.has_begun-begun.ensures c.if-begun.false _ c.with_over-2.ensures

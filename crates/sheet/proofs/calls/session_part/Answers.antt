@@ -1,0 +1,17 @@
+-- `sheet::calls::session_part` meets its contract, branch by branch. Assumes nothing.
+use mathlib.Core.Path.{sym}
+use lib.Seq.{length-take-le}
+use Rattle.sheet.proofs.Steps.{session_shut, session_ended, session_open}
+use Rattle.sheet.proofs.calls.session_part.Goals as goal
+
+pub returns-then-shut : goal.returns-then-shut
+returns-then-shut c = session_shut c.args.d c.args.area.now c.args.room.now c.args.words.now c.args.bytes.now c.args.at c.args.out.now _ c.asks_no_line-shut.ensures c.if-shut.true
+
+pub slice_bounds-played-end-then-step : goal.slice_bounds-played-end-then-step
+slice_bounds-played-end-then-step c = sym (length-take-le _ _ c.held_length-n.ensures.1)
+
+pub returns-then-step : goal.returns-then-step
+returns-then-step c = session_ended c.args.d c.args.area.now c.args.room.now c.args.words.now c.args.bytes.now c.args.at c.args.out.now _ c.asks_no_line-shut.ensures c.if-shut.false c.next_line-step.result c.next_line-step.ensures.value _ c.next_line-step.ensures.room_after c.if-step.true c.held_length-n.result c.held_length-n.ensures.0 _ _ _ _ _ c.played-desk.ensures
+
+pub returns : goal.returns
+returns c = session_open c.args.d c.args.area.now c.args.room.now c.args.words.now c.args.bytes.now c.args.at c.args.out.now _ c.asks_no_line-shut.ensures c.if-shut.false c.next_line-step.result c.next_line-step.ensures.value _ c.next_line-step.ensures.room_after c.if-step.false _ c.with_session-desk.ensures

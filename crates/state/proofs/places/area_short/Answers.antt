@@ -1,0 +1,8 @@
+-- `state::area_short` meets its contract. Assumes nothing.
+use native.Mathlib.Omega.{arith}
+use lib.Dec.{lit<}
+use native.Mathlib.Nat.{lt_of_le_of_lt, mul-le-mul}
+use Rattle.state.proofs.places.area_short.Goals as goal
+
+pub overflow_mul-result : goal.overflow_mul-result
+overflow_mul-result c = record { fits = lt_of_le_of_lt (mul-le-mul {n₂ = 255} {m₂ = 65535} (omega (arith, c.struct_known-1)) (omega (arith, c.struct_known-2-1))) (lit< tt) }

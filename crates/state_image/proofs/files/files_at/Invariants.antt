@@ -1,0 +1,14 @@
+use mathlib.Core.Path.{◌≡◌}
+use Prim.Native.Nat.{◌-◌}
+use lib.ListN.{replicate}
+use Rattle.codec.proofs.Loops.{HasRead}
+use Rattle.file.specs.Sizes.{closed_file}
+use Rattle.pool.specs.Free.{file_count}
+use Rattle.state_image.specs.Files.{file_codec}
+use Rattle.state_image.proofs.files.files_at.Given as goal
+
+abbrev pub invariant-loop-i : goal.invariant-loop-i
+invariant-loop-i l = (l.initial.files ≡ replicate file_count closed_file) × HasRead file_codec file_count file_count l.start l.b l.initial.files l.i l.at l.files
+
+abbrev pub decreases-loop-i : goal.decreases-loop-i
+decreases-loop-i l = file_count - l.i

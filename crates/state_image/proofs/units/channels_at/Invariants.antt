@@ -1,0 +1,13 @@
+use mathlib.Core.Path.{◌≡◌}
+use Prim.Native.Nat.{◌+◌, ◌-◌, ◌*◌}
+use lib.ListN.{replicate}
+use Rattle.codec.proofs.Loops.{HasRead}
+use Rattle.state.specs.Places.{channel_count, no_channel}
+use Rattle.state_image.specs.Units.{channel_codec, channel_head, unit_size}
+use Rattle.state_image.proofs.units.channels_at.Given as goal
+
+abbrev pub invariant-loop-i : goal.invariant-loop-i
+invariant-loop-i l = (l.size ≡ channel_head + l.n * unit_size) × (l.initial.channels ≡ replicate channel_count no_channel) × HasRead (channel_codec l.n) channel_count channel_count l.start l.b l.initial.channels l.i l.at l.channels
+
+abbrev pub decreases-loop-i : goal.decreases-loop-i
+decreases-loop-i l = channel_count - l.i

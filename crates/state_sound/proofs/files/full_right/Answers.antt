@@ -1,0 +1,6 @@
+-- `state_sound::full_right` meets its contract, from the contract of `full_fits`. Assumes nothing.
+
+use Rattle.state_sound.proofs.files.full_right.Goals as goal
+
+pub returns : goal.returns
+returns c = simp (c.full_fits-a.ensures, c.full_fits-b.ensures)

@@ -1,0 +1,16 @@
+-- `tape::write::write_mark` meets its contract, by whether it has room. Assumes nothing.
+use borrow.Author.Tests.{not-true, not-false, leb-true}
+use mathlib.Core.Path.{sym, ◌∙◌}
+use Rattle.tape.proofs.Laws.Writes.{mark_left, mark_put}
+use Rattle.tape.proofs.write.write_mark.Goals as goal
+
+pub returns-then-not-room : goal.returns-then-not-room
+returns-then-not-room c = let a = c.args in
+    mark_left a.area.now a.at _ c.has_room-room.ensures (not-true _ c.if-not-room.true)
+
+pub write_length-requires : goal.write_length-requires
+write_length-requires c = leb-true _ _ (sym c.has_room-room.ensures ∙ not-false _ c.if-not-room.false)
+
+pub returns : goal.returns
+returns c = let a = c.args in
+    mark_put a.area.now a.at _ c.has_room-room.ensures (not-false _ c.if-not-room.false) _ c.write_length.ensures
