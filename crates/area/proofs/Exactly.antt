@@ -17,9 +17,9 @@ abbrev pub rising : ℕ → Rows → Bool
 rising from [] = true
 rising from (x ∷ xs) = ltb from x.0 && rising x.0 xs
 
-row_above : {n from : ℕ} {b : Bool} {rows : Rows} → rising from rows ≡ true → Row n b rows → from < n
-row_above {from} {n} r here = ltb-true from n (and_left (ltb from n) _ r)
-row_above {from} r (later {k} p) =
+row_above : {n : ℕ} {b : Bool} {from : ℕ} {rows : Rows} → rising from rows ≡ true → Row n b rows → from < n
+row_above {n} {b} {from} r here = ltb-true from n (and_left (ltb from n) _ r)
+row_above {n} {b} {from} r (later {k} p) =
     let up = ltb-true from k (and_left (ltb from k) _ r) in
     omega (arith, row_above (and_right (ltb from k) _ r) p)
 

@@ -27,29 +27,29 @@ slice_bounds-logical_sum-end c = sym (length-take-le _ c.args.block.now (omega a
 pub returns-then-not-s-last : goal.returns-then-not-s-last
 returns-then-not-s-last c = let a = c.args in
     let block = a.block.now in
-    let n = c.data_words_lem.result in
+    let n = c.data_words-n.result in
     let fits = summed_fits (take n block) c.logical_sum-s.result c.logical_sum-s.ensures in
     c.refused-then-not-s-last.ensures
     ∙ judge_spoilt block a.sequence a.check a.number (omega arith)
-    (sym (block_words block n) ∙ ap₂ ◌&&◌ (sym fits) (sym c.are_words-last.ensures) ∙ not-true _ c.if-not-s-last.true)
+    (sym (block_words block n) ∙ ap₂ ◌&&◌ (sym fits) (sym c.are_words-last.ensures) ∙ c.if-not-s-last.true)
 
 pub returns-then-n-eq0 : goal.returns-then-n-eq0
 returns-then-n-eq0 c = let a = c.args in
     let block = a.block.now in
-    let n = c.data_words_lem.result in
+    let n = c.data_words-n.result in
     let fits = summed_fits (take n block) c.logical_sum-s.result c.logical_sum-s.ensures in
-    let all : all_of is_word block ≡ true = sym (block_words block n) ∙ ap₂ ◌&&◌ (sym fits) (sym c.are_words-last.ensures) ∙ not-false _ c.if-not-s-last.false in
+    let all : all_of is_word block ≡ true = sym (block_words block n) ∙ ap₂ ◌&&◌ (sym fits) (sym c.are_words-last.ensures) ∙ c.if-not-s-last.false in
     c.refused-then-n-eq0.ensures
-    ∙ judge_short block a.sequence a.check a.number (omega arith) all (omega (arith, c.data_words_lem.ensures.0, c.extra-e.ensures.0))
+    ∙ judge_short block a.sequence a.check a.number (omega arith) all (omega (arith, c.data_words-n.ensures.0, c.extra-e.ensures.0))
 
 pub returns : goal.returns
 returns c = let a = c.args in
     let block = a.block.now in
-    let n = c.data_words_lem.result in
+    let n = c.data_words-n.result in
     let fits = summed_fits (take n block) c.logical_sum-s.result c.logical_sum-s.ensures in
-    let both = not-false _ c.if-not-s-last.false in
+    let both = c.if-not-s-last.false in
     let all : all_of is_word block ≡ true = sym (block_words block n) ∙ ap₂ ◌&&◌ (sym fits) (sym c.are_words-last.ensures) ∙ both in
-    let at : n ≡ data_words block a.sequence a.check = c.data_words_lem.ensures.0 ∙ ap (λ (e : ℕ). length block - e) c.extra-e.ensures.0 in
+    let at : n ≡ data_words block a.sequence a.check = c.data_words-n.ensures.0 ∙ ap (λ (e : ℕ). length block - e) c.extra-e.ensures.0 in
     ap (λ (x : Checked). record { refusal = 0; found = x }) c.check_of-found.ensures
     ∙ judge_found block a.sequence a.check a.number (omega arith) all c.logical_sum-s.result.sum c.word_at-w.result
     (omega (arith, at, c.extra-e.ensures.1))

@@ -16,7 +16,7 @@ returns-in-MeetsMark c = rw c.in-MeetsMark.is c.met_mark.ensures
 
 pub returns-in-GivesBack : goal.returns-in-GivesBack
 unfolding reported_file
-returns-in-GivesBack c = rw c.in-GivesBack.is c.gave_back_lem.ensures
+returns-in-GivesBack c = rw c.in-GivesBack.is c.gave_back.ensures
 
 pub returns-in-Sends : goal.returns-in-Sends
 unfolding reported_file

@@ -1,11 +1,10 @@
 -- `channel::is_declared` meets its contract: past the last unit the list's default is read, which is not declared.
 -- Assumes nothing.
-use mathlib.Core.Path.{sym, ◌∙◌}
-use lib.ListN.{length-map}
+use mathlib.Core.Path.{sym}
 use native.Mathlib.Omega.{arith}
 use Rattle.channel.proofs.Laws.Units.{declared_beyond}
 use Rattle.channel.proofs.units.is_declared.Goals as goal
 
 pub returns-then-unit-ge-UNITS : goal.returns-then-unit-ge-UNITS
-returns-then-unit-ge-UNITS c = let long = sym (length-map c.args.t1.units _) ∙ c.well_formed.0.1.1.0.1.0.1 in
-    sym (declared_beyond c.args.t1 c.args.unit (omega arith))
+returns-then-unit-ge-UNITS c = let long = c.well_formed.0.1.1.0.1.0.1 in
+    sym (declared_beyond c.args.c c.args.unit (omega arith))

@@ -1,12 +1,11 @@
 -- `channel::position_of` meets its contract: past the last unit the list's default is read, which stands at its start.
 -- Assumes nothing.
 use mathlib.Core.Path.{sym, ◌∙◌}
-use lib.ListN.{length-map}
 use native.Mathlib.Omega.{arith}
 use Rattle.channel.proofs.Laws.Units.{position_beyond}
 use Rattle.channel.proofs.units.position_of.Goals as goal
 
 pub returns-then-unit-ge-UNITS : goal.returns-then-unit-ge-UNITS
 returns-then-unit-ge-UNITS c = let x = c in
-    let long = sym (length-map x.args.t1.units _) ∙ x.well_formed.0.1.1.0.1.0.1 in
-    c.at_start.ensures ∙ sym (position_beyond x.args.t1 x.args.unit (omega arith))
+    let long = x.well_formed.0.1.1.0.1.0.1 in
+    c.at_start.ensures ∙ sym (position_beyond x.args.c x.args.unit (omega arith))

@@ -1,15 +1,14 @@
 -- `with_unit` meets its contract: one store into the array; past the last unit a store changes nothing.
 -- Assumes nothing.
-use mathlib.Core.Path.{refl, sym, ◌∙◌}
-use lib.ListN.{length-map}
+use mathlib.Core.Path.{refl, sym}
 use native.Mathlib.Omega.{arith}
 use Rattle.channel.specs.Units.{with_unit}
 use Rattle.channel.proofs.Laws.Units.{with_beyond}
 use Rattle.channel.proofs.units.with_unit.Goals as goal
 
 pub returns-then-unit-ge-UNITS : goal.returns-then-unit-ge-UNITS
-returns-then-unit-ge-UNITS c = let long = sym (length-map c.args.t1.units _) ∙ c.well_formed.0.1.1.0.1.0.1 in
-    sym (with_beyond c.args.t1 c.args.unit (omega arith) c.args.turn c.args.position)
+returns-then-unit-ge-UNITS c = let long = c.well_formed.0.1.1.0.1.0.1 in
+    sym (with_beyond c.args.c c.args.unit (omega arith) c.args.turn c.args.position)
 
 pub returns : goal.returns
 unfolding with_unit

@@ -1,11 +1,11 @@
 -- `attempt_limit` meets its contract: the limit stands in the table's column of redundancy.
 -- Assumes nothing.
 use mathlib.Core.Path.{◌∙◌, ap}
+use mathlib.Core.List.{[]}
 use Prim.Native.Nat.{ℕ}
 use native.Mathlib.Omega.{arith}
 use lib.ListN.{get_or}
 use Rattle.channel_outcomes.proofs.Laws.Rules.{rules, row_below, limit_redundancy}
-use borrow.Author.Rules.{rules}
 use Rattle.channel_outcomes.proofs.rules.attempt_limit.Goals as goal
 
 pub offset_bounds-i : goal.offset_bounds-i

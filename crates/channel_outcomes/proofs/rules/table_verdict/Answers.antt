@@ -7,7 +7,7 @@ use Rattle.channel_outcomes.specs.declared.Verdict.TheVariants.{Repeats, Ends}
 use Rattle.channel_outcomes.proofs.rules.table_verdict.Goals as goal
 
 pub returns-then-outcome-ge-OUTCOMES : goal.returns-then-outcome-ge-OUTCOMES
-returns-then-outcome-ge-OUTCOMES c = sym (verdict_beyond c.args.q c.args.outcome c.if-outcome-ge-OUTCOMES.taken)
+returns-then-outcome-ge-OUTCOMES c = sym (verdict_beyond c.args.q c.args.outcome c.if-outcome-ge-OUTCOMES.true)
 
 pub offset_bounds-i : goal.offset_bounds-i
 offset_bounds-i c = omega (arith, c.row-i.ensures, row_below c.args.q.op)
@@ -17,18 +17,18 @@ bounds-i c = omega (arith, c.row-i.ensures, row_below c.args.q.op)
 
 pub returns-then-limit : goal.returns-then-limit
 returns-then-limit c = let a = c.args in
-    sym (not_allowed a.q a.outcome _ c.if-outcome-ge-OUTCOMES.left (entry_at a.q a.outcome _ c.row-i.ensures) c.if-limit.taken)
+    sym (not_allowed a.q a.outcome _ c.if-outcome-ge-OUTCOMES.false (entry_at a.q a.outcome _ c.row-i.ensures) c.if-limit.true)
 
 pub returns-then-ends : goal.returns-then-ends
 returns-then-ends c = let a = c.args in
     ap Ends c.ending.ensures
-    ∙ sym (has_ended a.q a.outcome _ c.if-outcome-ge-OUTCOMES.left (entry_at a.q a.outcome _ c.row-i.ensures) c.if-limit.left c.if-ends.taken)
+    ∙ sym (has_ended a.q a.outcome _ c.if-outcome-ge-OUTCOMES.false (entry_at a.q a.outcome _ c.row-i.ensures) c.if-limit.false c.if-ends.true)
 
 pub next_attempt-requires : goal.next_attempt-requires
 next_attempt-requires c = let a = c.args in
-    repeat_room a.q a.outcome _ c.if-outcome-ge-OUTCOMES.left (entry_at a.q a.outcome _ c.row-i.ensures) c.if-ends.left
+    repeat_room a.q a.outcome _ c.if-outcome-ge-OUTCOMES.false (entry_at a.q a.outcome _ c.row-i.ensures) c.if-ends.false
 
 pub returns : goal.returns
 returns c = let a = c.args in
     ap Repeats c.next_attempt.ensures
-    ∙ sym (is_repeated_lem a.q a.outcome _ c.if-outcome-ge-OUTCOMES.left (entry_at a.q a.outcome _ c.row-i.ensures) c.if-limit.left c.if-ends.left)
+    ∙ sym (is_repeated_lem a.q a.outcome _ c.if-outcome-ge-OUTCOMES.false (entry_at a.q a.outcome _ c.row-i.ensures) c.if-limit.false c.if-ends.false)

@@ -4,4 +4,4 @@ use Rattle.channel_turns.proofs.turns.judge.Goals as goal
 
 pub returns : goal.returns
 unfolding judge_of
-returns c = rw (c.judge_turn_lem.ensures, c.turn_of-t.ensures)
+returns c = rw (c.judge_turn.ensures, c.turn_of-t.ensures)

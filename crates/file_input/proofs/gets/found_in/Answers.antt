@@ -8,7 +8,7 @@ use Rattle.file_input.specs.declared.Got.TheVariants.{Error}
 use Rattle.file_input.proofs.gets.found_in.Goals as goal
 
 pub returns-then-error-gt0 : goal.returns-then-error-gt0
-returns-then-error-gt0 c = ap Error (c.error_told_lem.ensures ∙ ap error_told c.full_arrival-arrival.ensures)
+returns-then-error-gt0 c = ap Error (c.error_told.ensures ∙ ap error_told c.full_arrival-arrival.ensures)
     ∙ sym (cond_true _ _ (ap (ltb 0) (sym c.full_error-error.ensures) ∙ lt-ltb 0 _ c.if-error-gt0.true))
 
 pub returns-then-rlen-left : goal.returns-then-rlen-left

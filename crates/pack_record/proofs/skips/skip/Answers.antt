@@ -8,8 +8,8 @@ use Rattle.pack_record.proofs.skips.skip.Goals as goal
 
 pub returns-then-x-ne0 : goal.returns-then-x-ne0
 returns-then-x-ne0 c = let a = c.args in
-    skip_state_kept a.s a.file _ c.file_at-f.result (ap (λ (b : Bool). leb file_count a.file || not b) c.is_sound-whole.ensures) c.file_at-f.ensures c.skip_on_lem.result c.skip_on_lem.ensures c.if-x-ne0.true
+    skip_state_kept a.s a.file _ c.file_at-f.result (ap (λ (b : Bool). leb file_count a.file || not b) c.is_sound-whole.ensures) c.file_at-f.ensures c.skip_on-x.result c.skip_on-x.ensures c.if-x-ne0.true
 
 pub returns : goal.returns
 returns c = let a = c.args in
-    skip_state a.s a.file _ c.file_at-f.result (ap (λ (b : Bool). leb file_count a.file || not b) c.is_sound-whole.ensures) c.file_at-f.ensures c.skip_on_lem.result c.skip_on_lem.ensures c.if-x-ne0.false c.with_file-t.result c.with_file-t.ensures
+    skip_state a.s a.file _ c.file_at-f.result (ap (λ (b : Bool). leb file_count a.file || not b) c.is_sound-whole.ensures) c.file_at-f.ensures c.skip_on-x.result c.skip_on-x.ensures c.if-x-ne0.false c.with_file-t.result c.with_file-t.ensures

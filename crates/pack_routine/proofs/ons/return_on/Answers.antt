@@ -9,4 +9,4 @@ returns-then-no-ne0 c = let a = c.args in
 
 pub returns : goal.returns
 returns c = let a = c.args in
-    rw c.gave_back_lem.ensures (sym (return_done a.wrong a.frozen a.r _ c.return_refusal-no.ensures c.if-no-ne0.false))
+    rw c.gave_back-back.ensures (sym (return_done a.wrong a.frozen a.r _ c.return_refusal-no.ensures c.if-no-ne0.false))

@@ -6,4 +6,4 @@ use Rattle.planner.proofs.events.opened_after.Goals as goal
 
 pub returns : goal.returns
 unfolding opened_after
-returns c = ap₂ (λ f b. set c.args.opened f b) c.file_of_lem.ensures.0 c.opens.ensures
+returns c = ap₂ (λ f b. set c.args.opened f b) c.file_of-file.ensures.0 c.opens.ensures

@@ -5,8 +5,8 @@ use Rattle.planner.proofs.events.wrong_event.Goals as goal
 
 pub returns-then-opens : goal.returns-then-opens
 unfolding wrong_event
-returns-then-opens c = rw (c.file_of_lem.ensures.0, sym c.opens.ensures ∙ c.if-opens.true)
+returns-then-opens c = rw (c.file_of-file.ensures.0, sym c.opens.ensures ∙ c.if-opens.true)
 
 pub returns : goal.returns
 unfolding wrong_event
-returns c = rw (c.file_of_lem.ensures.0, sym c.opens.ensures ∙ c.if-opens.false)
+returns c = rw (c.file_of-file.ensures.0, sym c.opens.ensures ∙ c.if-opens.false)

@@ -13,17 +13,17 @@ loop-i-init c = (search rules, search rules, omega arith)
 pub returns-then-owner-at-eq0 : goal.returns-then-owner-at-eq0
 returns-then-owner-at-eq0 c = let at-loop = c.loop-i in
     let at-args = c.args in
-    let h : at-loop.i < length at-args.t1 = omega arith in
-    (omega (arith, free_stop at-args.t1 at-loop.i h c.if-owner-at-eq0.true), omega arith)
+    let h : at-loop.i < length at-args.owner = omega arith in
+    (omega (arith, free_stop at-args.owner at-loop.i h c.if-owner-at-eq0.true), omega arith)
 
 pub loop-i-preserved : goal.loop-i-preserved
 loop-i-preserved c = let at-loop = c.loop-i in
     let at-args = c.args in
-    let h : at-loop.i < length at-args.t1 = omega arith in
-    (omega arith, at-loop.invariant.1, omega (arith, free_go at-args.t1 at-loop.i h (ne_eqb _ _ c.if-owner-at-eq0.false)))
+    let h : at-loop.i < length at-args.owner = omega arith in
+    (omega arith, at-loop.invariant.1, omega (arith, free_go at-args.owner at-loop.i h (ne_eqb _ _ c.if-owner-at-eq0.false)))
 
 pub returns : goal.returns
 returns c = let at-args = c.args in
     let at-loop = c.loop-i in
-    let h : length at-args.t1 ≤ at-loop.i = omega arith in
-    (omega (arith, free_end at-args.t1 at-loop.i h), omega arith)
+    let h : length at-args.owner ≤ at-loop.i = omega arith in
+    (omega (arith, free_end at-args.owner at-loop.i h), omega arith)

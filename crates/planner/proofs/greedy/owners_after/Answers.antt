@@ -7,7 +7,7 @@ use Rattle.planner.proofs.greedy.owners_after.Goals as goal
 
 pub returns-then-not-opens : goal.returns-then-not-opens
 returns-then-not-opens c = let at-args = c.args in
-    let at-file-of = c.file_of_lem in
+    let at-file-of = c.file_of-v in
     let at-opens = c.opens in
     let at-if1 = c.if-not-opens in
     c.freed.ensures ∙ after_closing at-args.owner at-args.e _ at-file-of.ensures.0 (sym at-opens.ensures ∙ not-true _ at-if1.true)
@@ -15,13 +15,13 @@ returns-then-not-opens c = let at-args = c.args in
 pub returns-then-e-lt-DOUBLE : goal.returns-then-e-lt-DOUBLE
 returns-then-e-lt-DOUBLE c = let at-taken = c.taken-one in
     let at-args = c.args in
-    let at-file-of = c.file_of_lem in
+    let at-file-of = c.file_of-v in
     at-taken.ensures ∙ after_single at-args.owner at-args.e _ at-file-of.ensures.0 c.if-e-lt-DOUBLE.true
 
 pub returns : goal.returns
 returns c = let at-taken = c.taken-one in
     let at-args = c.args in
-    let at-file-of = c.file_of_lem in
+    let at-file-of = c.file_of-v in
     let at-opens = c.opens in
     let at-if1 = c.if-not-opens in
     let at-if2 = c.if-e-lt-DOUBLE in

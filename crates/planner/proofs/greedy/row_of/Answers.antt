@@ -6,14 +6,14 @@ use Rattle.planner.proofs.greedy.row_of.Goals as goal
 
 pub returns-then-e-lt-DOUBLE : goal.returns-then-e-lt-DOUBLE
 returns-then-e-lt-DOUBLE c = let at-args = c.args in
-    let at-file-of = c.file_of_lem in
-    let at-first-free = c.first_free_lem in
+    let at-file-of = c.file_of-file in
+    let at-first-free = c.first_free-first in
     row_single at-args.owner at-args.e _ at-file-of.ensures.0 _ at-first-free.ensures.0 c.if-e-lt-DOUBLE.true
 
 pub returns : goal.returns
 returns c = let at-args = c.args in
-    let at-file-of = c.file_of_lem in
-    let at-first-free = c.first_free_lem in
+    let at-file-of = c.file_of-file in
+    let at-first-free = c.first_free-first in
     let at-taken = c.taken-one in
     let at-if1 = c.if-e-lt-DOUBLE in
     row_double at-args.owner at-args.e _ at-file-of.ensures.0 _ _ at-first-free.ensures.0 (c.first_free-second.ensures.0 ∙ ap first_free at-taken.ensures) at-if1.false

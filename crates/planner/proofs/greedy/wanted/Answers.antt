@@ -14,13 +14,13 @@ returns-then-not-opens c = let at-args = c.args in
 
 pub returns-then-e-lt-DOUBLE : goal.returns-then-e-lt-DOUBLE
 returns-then-e-lt-DOUBLE c = let at-args = c.args in
-    let at-first-free = c.first_free_lem in
+    let at-first-free = c.first_free-first in
     (wants_single at-args.owner at-args.e _ at-first-free.ensures.0 c.if-e-lt-DOUBLE.true, omega (arith, at-first-free.ensures.1))
 
 pub returns : goal.returns
 returns c = let at-args = c.args in
-    let at-file-of = c.file_of_lem in
-    let at-first-free = c.first_free_lem in
+    let at-file-of = c.file_of-v in
+    let at-first-free = c.first_free-first in
     let at-first-free2 = c.first_free-second in
     let at-taken = c.taken-one in
     let at-opens = c.opens in

@@ -7,4 +7,4 @@ use borrow.Author.Rules.{rules}
 use Rattle.planner.proofs.walk.is_free.Goals as goal
 
 pub returns : goal.returns
-returns c = sym (ap (λ x. eqb x 0) (get_or-eq_default c.args.t1 0 {n = c.args.b} (search rules)))
+returns c = sym (ap (λ x. eqb x 0) (get_or-eq_default c.args.owner 0 {n = c.args.b} (search rules)))

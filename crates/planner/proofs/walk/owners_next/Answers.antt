@@ -7,7 +7,7 @@ use Rattle.planner.proofs.walk.owners_next.Goals as goal
 
 pub returns-then-not-opens : goal.returns-then-not-opens
 returns-then-not-opens c = let at-args = c.args in
-    let at-file-of = c.file_of_lem in
+    let at-file-of = c.file_of-v in
     let at-opens = c.opens in
     let at-if1 = c.if-not-opens in
     c.release.ensures
@@ -15,7 +15,7 @@ returns-then-not-opens c = let at-args = c.args in
 
 pub returns-then-rows-n : goal.returns-then-rows-n
 returns-then-rows-n c = let at-args = c.args in
-    let at-file-of = c.file_of_lem in
+    let at-file-of = c.file_of-v in
     let at-opens = c.opens in
     let at-if1 = c.if-not-opens in
     let at-if2 = c.if-rows-n in
@@ -24,7 +24,7 @@ returns-then-rows-n c = let at-args = c.args in
 
 pub returns : goal.returns
 returns c = let at-args = c.args in
-    let at-file-of = c.file_of_lem in
+    let at-file-of = c.file_of-v in
     let at-opens = c.opens in
     let at-if1 = c.if-not-opens in
     c.claim-2.ensures

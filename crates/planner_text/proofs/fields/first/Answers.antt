@@ -6,8 +6,8 @@ use Rattle.planner_text.specs.Fields.{first_to}
 use Rattle.planner_text.proofs.fields.first.Goals as goal
 
 pub slice_bounds-result-end : goal.slice_bounds-result-end
-slice_bounds-result-end c = sym (length-take-le c.up_to_lem.result c.args.text.now c.up_to_lem.ensures.1)
+slice_bounds-result-end c = sym (length-take-le c.up_to-n.result c.args.text.now c.up_to-n.ensures.1)
 
 pub returns : goal.returns
 unfolding first_to
-returns c = ap (λ n. take n c.args.text.now) c.up_to_lem.ensures.0
+returns c = ap (λ n. take n c.args.text.now) c.up_to-n.ensures.0

@@ -4,11 +4,11 @@ use Rattle.planner_text.proofs.fields.rest.Goals as goal
 
 pub returns-then-n-text : goal.returns-then-n-text
 returns-then-n-text c = let at-args = c.args in
-    let at-up-to = c.up_to_lem in
+    let at-up-to = c.up_to-n in
     rest_some at-args.stop at-args.text.now _ at-up-to.ensures.0
 
 pub returns : goal.returns
 returns c = let at-args = c.args in
-    let at-up-to = c.up_to_lem in
+    let at-up-to = c.up_to-n in
     let at-if1 = c.if-n-text in
     rest_none at-args.stop at-args.text.now _ at-up-to.ensures.0 at-if1.false

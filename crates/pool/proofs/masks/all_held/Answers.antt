@@ -28,4 +28,4 @@ pub loop-i-preserved : goal.loop-i-preserved
 loop-i-preserved c = (omega arith, c.loop-i.invariant.1, or_lt buffer_limit _ _ c.loop-i.invariant.2 (subst (λ (x : ℕ). x < 2 ^ buffer_limit) (sym c.held_bits-held.ensures) (mask_lt _ buffer_limit 0)), held_more _ _ _ _ (omega arith) c.held_bits-held.ensures c.loop-i.invariant.3)
 
 pub returns : goal.returns
-returns c = held_all c.args.t1 c.loop-i.i _ c.loop-i.invariant.2 (omega arith) c.loop-i.invariant.3
+returns c = held_all c.args.files c.loop-i.i _ c.loop-i.invariant.2 (omega arith) c.loop-i.invariant.3

@@ -4,4 +4,4 @@ use Rattle.routines.proofs.changes.asked.Goals as goal
 
 pub returns : goal.returns
 unfolding asked_in
-returns c = rw (← c.post_at_lem.ensures) c.with_post.ensures
+returns c = rw (← c.post_at-p.ensures) c.with_post.ensures

@@ -4,4 +4,4 @@ use Rattle.routines.proofs.changes.made_due.Goals as goal
 
 pub returns : goal.returns
 unfolding made_due_in
-returns c = rw (← c.post_at_lem.ensures, ← c.nothing_due_lem.ensures) c.with_post.ensures
+returns c = rw (← c.post_at-p.ensures, ← c.nothing_due-none.ensures) c.with_post.ensures

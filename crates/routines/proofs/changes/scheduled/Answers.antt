@@ -11,4 +11,4 @@ returns-then-not-s c = let no : c.args.s.entered ≡ false = not-true _ c.if-not
 
 pub returns : goal.returns
 unfolding scheduled_in cleared_in
-returns c = let yes : c.args.s.entered ≡ true = not-false _ c.if-not-s.false in rw (yes, ← c.post_at_lem.ensures, ← c.nothing_due_lem.ensures) c.with_post.ensures
+returns c = let yes : c.args.s.entered ≡ true = not-false _ c.if-not-s.false in rw (yes, ← c.post_at-p.ensures, ← c.nothing_due-none.ensures) c.with_post.ensures

@@ -6,4 +6,4 @@ use Rattle.routines.proofs.Laws.Table.{due_at_lem}
 use Rattle.routines.proofs.changes.waits_at.Goals as goal
 
 pub returns : goal.returns
-returns c = c.is_due.ensures ∙ (ap (λ (x : Post). is_due x.due) c.post_at_lem.ensures ∙ ap is_due (sym (due_at_lem c.args.r c.args.channel c.args.unit)))
+returns c = c.is_due.ensures ∙ (ap (λ (x : Post). is_due x.due) c.post_at-p.ensures ∙ ap is_due (sym (due_at_lem c.args.r c.args.channel c.args.unit)))

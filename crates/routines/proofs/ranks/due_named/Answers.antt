@@ -7,7 +7,7 @@ use Rattle.routines.proofs.ranks.due_named.Goals as goal
 
 pub returns-then-not-named : goal.returns-then-not-named
 unfolding due_named
-returns-then-not-named c = let no : c.args.named ≡ false = not-true _ c.if-not-named.true in rw (no) c.nothing_due_lem.ensures
+returns-then-not-named c = let no : c.args.named ≡ false = not-true _ c.if-not-named.true in rw (no) c.nothing_due.ensures
 
 pub returns-then-priority-gt-HIGHEST : goal.returns-then-priority-gt-HIGHEST
 unfolding due_named

@@ -19,7 +19,7 @@ pub bounds-pushed-i : goal.bounds-pushed-i
 bounds-pushed-i c = omega arith
 
 pub returns-then-x-ne0 : goal.returns-then-x-ne0
-returns-then-x-ne0 c = let h : c.loop-i.i < length c.args.t1 = omega arith in all_hit _ _ _ _ _ h c.loop-i.invariant.1 (ne_eqb _ _ c.if-x-ne0.true)
+returns-then-x-ne0 c = let h : c.loop-i.i < length c.args.pushed = omega arith in all_hit _ _ _ _ _ h c.loop-i.invariant.1 (ne_eqb _ _ c.if-x-ne0.true)
 
 pub overflow_add-i : goal.overflow_add-i
 overflow_add-i c = omega arith
@@ -28,7 +28,7 @@ pub loop-i-smaller : goal.loop-i-smaller
 loop-i-smaller c = omega arith
 
 pub loop-i-preserved : goal.loop-i-preserved
-loop-i-preserved c = let h : c.loop-i.i < length c.args.t1 = omega arith in (c.loop-i.invariant.0, all_miss _ _ _ _ _ h c.loop-i.invariant.1 (eq-eqb _ _ c.if-x-ne0.false))
+loop-i-preserved c = let h : c.loop-i.i < length c.args.pushed = omega arith in (c.loop-i.invariant.0, all_miss _ _ _ _ _ h c.loop-i.invariant.1 (eq-eqb _ _ c.if-x-ne0.false))
 
 pub returns : goal.returns
-returns c = let h : length c.args.t1 ≤ c.loop-i.i = omega arith in all_done _ _ main_program _ _ h c.loop-i.invariant.1
+returns c = let h : length c.args.pushed ≤ c.loop-i.i = omega arith in all_done _ _ main_program _ _ h c.loop-i.invariant.1

@@ -2,12 +2,12 @@
 use Prim.Native.Nat.{◌≤◌, ◌-◌}
 use mathlib.Core.Path.{◌≡◌, ◌∙◌, sym}
 use native.Mathlib.Omega.{arith}
-use lib.ListN.{length, length-map, get_or-eq_default}
+use lib.ListN.{length, get_or-eq_default}
 use Rattle.routines.specs.Ranks.{depth, main_program}
 use Rattle.routines.proofs.schedule.last_pushed.Goals as goal
 
 pub returns-then-n-ge-DEPTH : goal.returns-then-n-ge-DEPTH
-returns-then-n-ge-DEPTH c = let long : length c.args.t1.pushed ≡ depth = sym (length-map c.args.t1.pushed _) ∙ c.well_formed.0.1.1.1.0.1.0.1 in let beyond : length c.args.t1.pushed ≤ c.args.t1.count - 1 = omega (arith, c.one_less-n.ensures) in c.main_program.ensures ∙ sym (get_or-eq_default c.args.t1.pushed main_program beyond)
+returns-then-n-ge-DEPTH c = let long : length c.args.p.pushed ≡ depth = c.well_formed.0.1.1.1.0.1.0.1 in let beyond : length c.args.p.pushed ≤ c.args.p.count - 1 = omega (arith, c.one_less-n.ensures) in c.main_program.ensures ∙ sym (get_or-eq_default c.args.p.pushed main_program beyond)
 
 pub returns : goal.returns
 returns c = rw c.one_less-n.ensures

@@ -3,4 +3,4 @@
 use Rattle.routines.proofs.table.empty_post.Goals as goal
 
 pub returns : goal.returns
-returns c = rw c.nothing_due_lem.ensures
+returns c = rw c.nothing_due-none.ensures

@@ -28,7 +28,7 @@ pub loop-i-smaller : goal.loop-i-smaller
 loop-i-smaller c = omega arith
 
 pub loop-i-preserved : goal.loop-i-preserved
-loop-i-preserved c = let h : c.loop-i.i < length c.args.t1 = omega arith in (omega arith, c.loop-i.invariant.1, rw c.highest_on-best.ensures (from_turn dues_in no_posts _ _ _ _ h c.loop-i.invariant.2))
+loop-i-preserved c = let h : c.loop-i.i < length c.args.posts = omega arith in (omega arith, c.loop-i.invariant.1, rw c.highest_on-best.ensures (from_turn dues_in no_posts _ _ _ _ h c.loop-i.invariant.2))
 
 pub returns : goal.returns
 unfolding highest

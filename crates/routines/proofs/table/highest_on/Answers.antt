@@ -27,7 +27,7 @@ pub loop-i-smaller : goal.loop-i-smaller
 loop-i-smaller c = omega arith
 
 pub loop-i-preserved : goal.loop-i-preserved
-loop-i-preserved c = let h : c.loop-i.i < length c.args.t1 = omega arith in (omega arith, c.loop-i.invariant.1, rw (c.higher-best.ensures, c.waiting-p.ensures) (on_turn due_in empty_post _ _ _ _ _ h c.loop-i.invariant.2))
+loop-i-preserved c = let h : c.loop-i.i < length c.args.units = omega arith in (omega arith, c.loop-i.invariant.1, rw (c.higher-best.ensures, c.waiting-p.ensures) (on_turn due_in empty_post _ _ _ _ _ h c.loop-i.invariant.2))
 
 pub returns : goal.returns
 returns c = on_done due_in empty_post _ _ _ _ _ (omega arith) c.loop-i.invariant.2

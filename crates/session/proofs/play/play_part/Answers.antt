@@ -5,18 +5,17 @@ use Rattle.session.proofs.Written.{front_fits}
 use mathlib.Core.Path.{refl, sym, ◌∙◌}
 use Prim.Native.Nat.{◌-◌}
 use native.Mathlib.Omega.{arith}
-use lib.ListN.{length-map}
 use Rattle.session.specs.Player.{player_with}
 use Rattle.session.proofs.Turning.{IsPlayer, used_up_lem, full_up}
 use Rattle.session.proofs.Onwards.{step_on, onward_open, onward_still, onward_posted, onward_whole, onward_refused, onward_routine, onward_binding, onward_record}
 use Rattle.session.proofs.play.play_part.Goals as goal
 
 pub loop-place-init : goal.loop-place-init
-loop-place-init c = (refl, omega arith, record { files = sym (length-map c.args.s.files _) ∙ c.well_formed.1.0.1.1.1.1.1.1.0.1.0.1; channels = sym (length-map c.args.s.channels _) ∙ c.well_formed.1.0.1.1.1.1.1.0.1.0.1 }, c.requires, refl, refl, refl, refl)
+loop-place-init c = (refl, omega arith, record { files = c.well_formed.1.0.1.1.1.1.1.1.0.1.0.1; channels = c.well_formed.1.0.1.1.1.1.1.0.1.0.1 }, c.requires, refl, refl, refl, refl)
 
 pub returns-then-out-end-lt-ANSWER : goal.returns-then-out-end-lt-ANSWER
 unfolding IsPlayer
-returns-then-out-end-lt-ANSWER c = full_up c.args.unsound c.args.bytes.now _ (player_with c.loop-place.t c.loop-place.area c.loop-place.more c.loop-place.room c.loop-place.words c.loop-place.place c.loop-place.out c.loop-place.end) c.loop-place.invariant.0 c.if-out-end-lt-ANSWER.true
+returns-then-out-end-lt-ANSWER c = let both = full_up c.args.unsound c.args.bytes.now _ (player_with c.loop-place.t c.loop-place.area c.loop-place.more c.loop-place.room c.loop-place.words c.loop-place.place c.loop-place.out c.loop-place.end) c.loop-place.invariant.0 c.if-out-end-lt-ANSWER.true in record { value = both.0; area_after = both.1; room_after = both.2; words_after = both.3; out_after = both.4 }
 
 pub loop-place-smaller-then-not-step : goal.loop-place-smaller-then-not-step
 loop-place-smaller-then-not-step c = step_on c.loop-place.more c.args.bytes.now c.loop-place.place c.loop-place.room c.next_line-step.result c.next_line-step.ensures.value c.loop-place-test.true
@@ -89,4 +88,4 @@ loop-place-preserved c = let O = onward_record c.args.unsound c.args.bytes.now _
 
 pub returns : goal.returns
 unfolding IsPlayer
-returns c = used_up_lem c.args.unsound c.args.bytes.now _ (player_with c.loop-place.t c.loop-place.area c.loop-place.more c.loop-place.room c.loop-place.words c.loop-place.place c.loop-place.out c.loop-place.end) c.loop-place.invariant.0 c.loop-place-test.false
+returns c = let both = used_up_lem c.args.unsound c.args.bytes.now _ (player_with c.loop-place.t c.loop-place.area c.loop-place.more c.loop-place.room c.loop-place.words c.loop-place.place c.loop-place.out c.loop-place.end) c.loop-place.invariant.0 c.loop-place-test.false in record { value = both.0; area_after = both.1; room_after = both.2; words_after = both.3; out_after = both.4 }

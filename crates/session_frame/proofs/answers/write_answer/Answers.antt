@@ -31,9 +31,9 @@ pub line_fits-room-requires : goal.line_fits-room-requires
 line_fits-room-requires c = (leads c.args.a c.lead_of-lead.result c.lead_of-lead.ensures).most
 
 pub returns-then-not-room : goal.returns-then-not-room
-returns-then-not-room c = let a = c.args in
+returns-then-not-room c = let both = (let a = c.args in
     let lead-of = c.lead_of-lead in
-    text_unwritten a.a lead-of.result a.words.now _ (leads a.a lead-of.result lead-of.ensures) c.shown-part.ensures a.out.now _ c.line_fits-room.ensures (not-true _ c.if-not-room.true)
+    text_unwritten a.a lead-of.result a.words.now _ (leads a.a lead-of.result lead-of.ensures) c.shown-part.ensures a.out.now _ c.line_fits-room.ensures (not-true _ c.if-not-room.true)) in record { value = both.0; out_after = both.1 }
 
 pub slice_bounds-bytes-end : goal.slice_bounds-bytes-end
 slice_bounds-bytes-end c = let is = leads c.args.a c.lead_of-lead.result c.lead_of-lead.ensures in

@@ -15,17 +15,17 @@ pub shape_of-room-then-n-lt5 : goal.shape_of-room-then-n-lt5
 shape_of-room-then-n-lt5 c = c.loop-i.invariant.2
 
 pub returns-then-n-lt5 : goal.returns-then-n-lt5
-returns-then-n-lt5 c = let a = c.args in
+returns-then-n-lt5 c = let both = (let a = c.args in
     let t = c.loop-i in
-    filled_line a.line.now t.room _ t.at t.i (length a.room.now) _ (omega arith) t.invariant.3
+    filled_line a.line.now t.room _ t.at t.i (length a.room.now) _ (omega arith) t.invariant.3) in record { value = both.0; room_after = both.1 }
 
 pub shape_of-room-then-n-at : goal.shape_of-room-then-n-at
 shape_of-room-then-n-at c = c.loop-i.invariant.2
 
 pub returns-then-n-at : goal.returns-then-n-at
-returns-then-n-at c = let a = c.args in
+returns-then-n-at c = let both = (let a = c.args in
     let t = c.loop-i in
-    filled_line a.line.now t.room _ t.at t.i (length a.room.now) _ (omega arith) t.invariant.3
+    filled_line a.line.now t.room _ t.at t.i (length a.room.now) _ (omega arith) t.invariant.3) in record { value = both.0; room_after = both.1 }
 
 pub loop-i-preserved : goal.loop-i-preserved
 loop-i-preserved c = let t = c.loop-i in
@@ -38,5 +38,5 @@ pub shape_of-room : goal.shape_of-room
 shape_of-room c = c.loop-i.invariant.2
 
 pub returns : goal.returns
-returns c = let a = c.args in
-    filled_room a.line.now c.loop-i.room _ c.loop-i.at c.loop-i.i (length a.room.now) _ (omega arith) c.loop-i.invariant.3
+returns c = let both = (let a = c.args in
+    filled_room a.line.now c.loop-i.room _ c.loop-i.at c.loop-i.i (length a.room.now) _ (omega arith) c.loop-i.invariant.3) in record { value = both.0; room_after = both.1 }

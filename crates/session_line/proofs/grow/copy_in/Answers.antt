@@ -6,12 +6,12 @@ use Rattle.area.proofs.Copies.{copy_misfit, copied_none, copied_length, copied_o
 use Rattle.session_line.proofs.grow.copy_in.Goals as goal
 
 pub returns-then-area-at : goal.returns-then-area-at
-returns-then-area-at c = let a = c.args in
-    copy_misfit a.at a.bytes.now a.area.now (omega arith)
+returns-then-area-at c = let both = (let a = c.args in
+    copy_misfit a.at a.bytes.now a.area.now (omega arith)) in record { value = both.0; area_after = both.1 }
 
 pub returns-then-area-at-2 : goal.returns-then-area-at-2
-returns-then-area-at-2 c = let a = c.args in
-    copy_misfit a.at a.bytes.now a.area.now (omega arith)
+returns-then-area-at-2 c = let both = (let a = c.args in
+    copy_misfit a.at a.bytes.now a.area.now (omega arith)) in record { value = both.0; area_after = both.1 }
 
 pub loop-i-init : goal.loop-i-init
 loop-i-init c = let a = c.args in
@@ -37,6 +37,6 @@ shape_of-area c = let t = c.loop-i in
     copied_length a.at a.bytes.now a.area.now t.i t.area t.invariant
 
 pub returns : goal.returns
-returns c = let t = c.loop-i in
+returns c = let both = (let t = c.loop-i in
     let a = c.args in
-    copied_all a.at a.bytes.now a.area.now t.i t.area (omega arith) t.invariant
+    copied_all a.at a.bytes.now a.area.now t.i t.area (omega arith) t.invariant) in record { value = both.0; area_after = both.1 }

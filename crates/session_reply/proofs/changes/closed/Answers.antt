@@ -6,4 +6,4 @@ use Rattle.session_reply.proofs.changes.closed.Goals as goal
 
 pub returns : goal.returns
 unfolding close_told
-returns c = c.quiet.ensures ∙ ap (λ (x : FileChange). quiet_told x.refusal x.file) c.close_on_lem.ensures
+returns c = c.quiet.ensures ∙ ap (λ (x : FileChange). quiet_told x.refusal x.file) c.close_on-x.ensures

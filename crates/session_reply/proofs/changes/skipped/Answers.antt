@@ -6,4 +6,4 @@ use Rattle.session_reply.proofs.changes.skipped.Goals as goal
 
 pub returns : goal.returns
 unfolding skip_told
-returns c = c.quiet.ensures ∙ ap (λ (x : FileChange). quiet_told x.refusal x.file) c.skip_on_lem.ensures
+returns c = c.quiet.ensures ∙ ap (λ (x : FileChange). quiet_told x.refusal x.file) c.skip_on-x.ensures

@@ -6,4 +6,4 @@ pub returns-then-i-j : goal.returns-then-i-j
 returns-then-i-j c = binding_within c.args.frame c.args.i c.args.old _ c.file_or-f.ensures _ c.args.was c.channel_number-j.ensures c.if-i-j.true c.args.unsound c.args.w c.args.free c.args.files _ c.binding_of.ensures
 
 pub returns : goal.returns
-returns c = binding_as c.args.frame c.args.i c.args.old _ c.file_or-f.ensures _ c.args.was _ c.channel_number-j.ensures c.channel_or-c.ensures c.args.unsound c.args.w c.args.free c.args.files _ _ c.binding_of-x.ensures c.file_kept_lem.ensures
+returns c = binding_as c.args.frame c.args.i c.args.old _ c.file_or-f.ensures _ c.args.was _ c.channel_number-j.ensures c.channel_or-c.ensures c.args.unsound c.args.w c.args.free c.args.files _ _ c.binding_of-x.ensures c.file_kept-file.ensures

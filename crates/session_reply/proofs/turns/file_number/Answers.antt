@@ -9,4 +9,4 @@ pub returns-in-Ask : goal.returns-in-Ask
 returns-in-Ask c = rw c.in-Ask.is
 
 pub returns-in-Report : goal.returns-in-Report
-returns-in-Report c = rw c.in-Report.is c.file_of_lem.ensures
+returns-in-Report c = rw c.in-Report.is c.file_of.ensures

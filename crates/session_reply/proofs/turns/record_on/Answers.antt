@@ -7,4 +7,4 @@ pub returns-then-i-lt-FILES : goal.returns-then-i-lt-FILES
 returns-then-i-lt-FILES c = record { value = record_within c.args.i c.args.old (lt-ltb c.args.i 16 c.if-i-lt-FILES.true) c.args.unsound c.args.m c.args.w c.args.frame c.args.area.now c.args.words.now _ c.record_of.ensures.value; area_after = record_area_within c.args.i c.args.old (lt-ltb c.args.i 16 c.if-i-lt-FILES.true) c.args.unsound c.args.m c.args.w c.args.frame c.args.area.now c.args.words.now _ c.record_of.ensures.area_after }
 
 pub returns : goal.returns
-returns c = record { value = record_as c.args.frame c.args.i c.args.old _ c.file_or-f.ensures c.args.unsound c.args.m c.args.w c.args.area.now c.args.words.now _ _ c.record_of-x.ensures.value c.file_kept_lem.ensures; area_after = record_area_lem c.args.frame c.args.i c.args.old _ c.file_or-f.ensures c.args.unsound c.args.m c.args.w c.args.area.now c.args.words.now _ c.record_of-x.ensures.area_after }
+returns c = record { value = record_as c.args.frame c.args.i c.args.old _ c.file_or-f.ensures c.args.unsound c.args.m c.args.w c.args.area.now c.args.words.now _ _ c.record_of-x.ensures.value c.file_kept-file.ensures; area_after = record_area_lem c.args.frame c.args.i c.args.old _ c.file_or-f.ensures c.args.unsound c.args.m c.args.w c.args.area.now c.args.words.now _ c.record_of-x.ensures.area_after }

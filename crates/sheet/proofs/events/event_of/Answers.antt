@@ -17,10 +17,10 @@ pub returns-in-Close : goal.returns-in-Close
 returns-in-Close c = rw c.in-Close.is c.no_event-in-Close.ensures
 
 pub returns-in-Ask : goal.returns-in-Ask
-returns-in-Ask c = rw (c.in-Ask.is, sym c.is_pair-accepted.ensures) c.ask_event_lem.ensures
+returns-in-Ask c = rw (c.in-Ask.is, sym c.is_pair-accepted.ensures) c.ask_event.ensures
 
 pub returns-in-Report : goal.returns-in-Report
-returns-in-Report c = rw (c.in-Report.is, sym c.is_pair-accepted.ensures, sym c.is_repeated_lem.ensures) c.report_event_lem.ensures
+returns-in-Report c = rw (c.in-Report.is, sym c.is_pair-accepted.ensures, sym c.is_repeated-repeated.ensures) c.report_event.ensures
 
 pub returns-in-Get : goal.returns-in-Get
 returns-in-Get c = rw c.in-Get.is c.no_event-in-Get.ensures

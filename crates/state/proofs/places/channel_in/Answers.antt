@@ -8,7 +8,7 @@ use Rattle.state.specs.Places.{no_channel}
 use Rattle.state.proofs.places.channel_in.Goals as goal
 
 pub returns-then-c-ge-CHANNELS : goal.returns-then-c-ge-CHANNELS
-returns-then-c-ge-CHANNELS c = let h : length c.args.t1 ≤ c.args.c = omega arith in c.fresh.ensures ∙ sym (channel_beyond c.args.t1 c.args.c h)
+returns-then-c-ge-CHANNELS c = let h : length c.args.channels ≤ c.args.c = omega arith in c.fresh.ensures ∙ sym (channel_beyond c.args.channels c.args.c h)
 
 pub returns : goal.returns
-returns c = let h : c.args.c < length c.args.t1 = omega arith in any_default c.args.t1 c.args.c _ no_channel h
+returns c = let h : c.args.c < length c.args.channels = omega arith in any_default c.args.channels c.args.c _ no_channel h

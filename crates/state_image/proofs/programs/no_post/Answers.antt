@@ -3,4 +3,4 @@
 use Rattle.state_image.proofs.programs.no_post.Goals as goal
 
 pub returns : goal.returns
-returns c = rw c.nothing_due_lem.ensures
+returns c = rw c.nothing_due-none.ensures

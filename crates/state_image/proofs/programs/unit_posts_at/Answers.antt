@@ -22,7 +22,7 @@ pub overflow_add-at : goal.overflow_add-at
 overflow_add-at c = let a = c.args in omega (arith, read_room post_codec unit_count a.n a.start a.b.now _ c.loop-i.i c.loop-i.at c.loop-i.units c.loop-i.invariant.1 (omega arith), c.well_formed)
 
 pub loop-i-preserved : goal.loop-i-preserved
-loop-i-preserved c = let a = c.args in (c.loop-i.invariant.0, rw c.post_at_lem.ensures (read_one post_codec unit_count a.n a.start a.b.now _ c.loop-i.i c.loop-i.at c.loop-i.units c.loop-i.invariant.1 (omega arith)))
+loop-i-preserved c = let a = c.args in (c.loop-i.invariant.0, rw c.post_at-x.ensures (read_one post_codec unit_count a.n a.start a.b.now _ c.loop-i.i c.loop-i.at c.loop-i.units c.loop-i.invariant.1 (omega arith)))
 
 pub returns : goal.returns
 returns c = let a = c.args in read_all post_codec unit_count a.n a.start a.b.now _ empty_post c.loop-i.i c.loop-i.at c.loop-i.units c.loop-i.invariant.1 (omega arith) (ap (drop a.n) c.loop-i.invariant.0 ∙ drop_blanks empty_post a.n unit_count)

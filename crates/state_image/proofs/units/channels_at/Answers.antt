@@ -18,7 +18,7 @@ pub overflow_add-at : goal.overflow_add-at
 overflow_add-at c = omega (arith, read_room (channel_codec c.args.n) channel_count channel_count c.args.start c.args.b.now _ c.loop-i.i c.loop-i.at c.loop-i.channels c.loop-i.invariant.2 (omega arith), c.well_formed)
 
 pub loop-i-preserved : goal.loop-i-preserved
-loop-i-preserved c = (refl, c.loop-i.invariant.1, rw c.channel_at_lem.ensures (read_one (channel_codec c.args.n) channel_count channel_count c.args.start c.args.b.now _ c.loop-i.i c.loop-i.at c.loop-i.channels c.loop-i.invariant.2 (omega arith)))
+loop-i-preserved c = (refl, c.loop-i.invariant.1, rw c.channel_at-c.ensures (read_one (channel_codec c.args.n) channel_count channel_count c.args.start c.args.b.now _ c.loop-i.i c.loop-i.at c.loop-i.channels c.loop-i.invariant.2 (omega arith)))
 
 pub returns : goal.returns
 returns c = read_all (channel_codec c.args.n) channel_count channel_count c.args.start c.args.b.now _ no_channel c.loop-i.i c.loop-i.at c.loop-i.channels c.loop-i.invariant.2 (omega arith) (ap (drop channel_count) c.loop-i.invariant.1)

@@ -22,7 +22,7 @@ pub overflow_add-at : goal.overflow_add-at
 overflow_add-at c = omega (arith, read_room unit_codec unit_count c.args.n c.args.start c.args.b.now _ c.loop-i.i c.loop-i.at c.loop-i.units c.loop-i.invariant.1 (omega arith), c.well_formed)
 
 pub loop-i-preserved : goal.loop-i-preserved
-loop-i-preserved c = (c.loop-i.invariant.0, rw c.unit_at_lem.ensures (read_one unit_codec unit_count c.args.n c.args.start c.args.b.now _ c.loop-i.i c.loop-i.at c.loop-i.units c.loop-i.invariant.1 (omega arith)))
+loop-i-preserved c = (c.loop-i.invariant.0, rw c.unit_at-u.ensures (read_one unit_codec unit_count c.args.n c.args.start c.args.b.now _ c.loop-i.i c.loop-i.at c.loop-i.units c.loop-i.invariant.1 (omega arith)))
 
 pub returns : goal.returns
 returns c = read_all unit_codec unit_count c.args.n c.args.start c.args.b.now _ (idle_unit false) c.loop-i.i c.loop-i.at c.loop-i.units c.loop-i.invariant.1 (omega arith) (ap (drop c.args.n) c.loop-i.invariant.0 ∙ drop_blanks (idle_unit false) c.args.n unit_count)

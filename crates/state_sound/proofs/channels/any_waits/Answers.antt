@@ -20,7 +20,7 @@ pub bounds-units-u : goal.bounds-units-u
 bounds-units-u c = omega arith
 
 pub returns-then-is_waiting : goal.returns-then-is_waiting
-returns-then-is_waiting c = let h : c.loop-u.u < length c.args.t1 = omega arith in any_hit unit_waits _ (idle_unit false) _ _ h c.loop-u.invariant.2 (sym c.is_waiting.ensures ∙ c.if-is_waiting.true)
+returns-then-is_waiting c = let h : c.loop-u.u < length c.args.units = omega arith in any_hit unit_waits _ (idle_unit false) _ _ h c.loop-u.invariant.2 (sym c.is_waiting.ensures ∙ c.if-is_waiting.true)
 
 pub overflow_add-u : goal.overflow_add-u
 overflow_add-u c = omega arith
@@ -29,7 +29,7 @@ pub loop-u-smaller : goal.loop-u-smaller
 loop-u-smaller c = omega arith
 
 pub loop-u-preserved : goal.loop-u-preserved
-loop-u-preserved c = let h : c.loop-u.u < length c.args.t1 = omega arith in (omega arith, c.loop-u.invariant.1, any_miss unit_waits _ (idle_unit false) _ _ h c.loop-u.invariant.2 (sym c.is_waiting.ensures ∙ c.if-is_waiting.false))
+loop-u-preserved c = let h : c.loop-u.u < length c.args.units = omega arith in (omega arith, c.loop-u.invariant.1, any_miss unit_waits _ (idle_unit false) _ _ h c.loop-u.invariant.2 (sym c.is_waiting.ensures ∙ c.if-is_waiting.false))
 
 pub returns : goal.returns
-returns c = let h : length c.args.t1 ≤ c.loop-u.u = omega arith in any_done unit_waits _ (idle_unit false) _ _ h c.loop-u.invariant.2
+returns c = let h : length c.args.units ≤ c.loop-u.u = omega arith in any_done unit_waits _ (idle_unit false) _ _ h c.loop-u.invariant.2

@@ -19,8 +19,8 @@ pub bounds-files-i : goal.bounds-files-i
 bounds-files-i c = omega arith
 
 pub returns-then-serves : goal.returns-then-serves
-returns-then-serves c = let h : c.loop-i.i < length c.args.t1 = omega arith in
-    any_hit (serves c.args.number c.args.unit) c.args.t1 _ c.loop-i.i _ h c.loop-i.invariant.2 (sym c.serves.ensures ∙ c.if-serves.true)
+returns-then-serves c = let h : c.loop-i.i < length c.args.files = omega arith in
+    any_hit (serves c.args.number c.args.unit) c.args.files _ c.loop-i.i _ h c.loop-i.invariant.2 (sym c.serves.ensures ∙ c.if-serves.true)
 
 pub overflow_add-i : goal.overflow_add-i
 overflow_add-i c = omega arith
@@ -29,9 +29,9 @@ pub loop-i-smaller : goal.loop-i-smaller
 loop-i-smaller c = omega arith
 
 pub loop-i-preserved : goal.loop-i-preserved
-loop-i-preserved c = let h : c.loop-i.i < length c.args.t1 = omega arith in
-    (omega arith, c.loop-i.invariant.1, any_miss (serves c.args.number c.args.unit) c.args.t1 _ c.loop-i.i _ h c.loop-i.invariant.2 (sym c.serves.ensures ∙ c.if-serves.false))
+loop-i-preserved c = let h : c.loop-i.i < length c.args.files = omega arith in
+    (omega arith, c.loop-i.invariant.1, any_miss (serves c.args.number c.args.unit) c.args.files _ c.loop-i.i _ h c.loop-i.invariant.2 (sym c.serves.ensures ∙ c.if-serves.false))
 
 pub returns : goal.returns
-returns c = let h : length c.args.t1 ≤ c.loop-i.i = omega arith in
-    any_done (serves c.args.number c.args.unit) c.args.t1 closed_file c.loop-i.i _ h c.loop-i.invariant.2
+returns c = let h : length c.args.files ≤ c.loop-i.i = omega arith in
+    any_done (serves c.args.number c.args.unit) c.args.files closed_file c.loop-i.i _ h c.loop-i.invariant.2

@@ -3,7 +3,7 @@
 use Rattle.state_sound.proofs.channels.turn_right.Goals as goal
 
 pub returns-in-Waiting : goal.returns-in-Waiting
-returns-in-Waiting c = rw c.in-Waiting.is c.is_counted_lem.ensures
+returns-in-Waiting c = rw c.in-Waiting.is c.is_counted.ensures
 
 pub returns-in-Displaced : goal.returns-in-Displaced
 returns-in-Displaced c = rw c.in-Displaced.is c.is_counted-in-Displaced.ensures

@@ -29,10 +29,10 @@ pub loop-u-smaller : goal.loop-u-smaller
 loop-u-smaller c = omega arith
 
 pub loop-u-preserved : goal.loop-u-preserved
-loop-u-preserved c = let h : c.loop-u.u < length c.args.t1 = omega arith in ⊎_elim
+loop-u-preserved c = let h : c.loop-u.u < length c.args.units = omega arith in ⊎_elim
     (λ w. (omega arith, omega arith, c.loop-u.invariant.2, rw w.1 (count_hit unit_works _ (idle_unit false) _ _ _ h c.loop-u.invariant.3 (sym c.is_working.ensures ∙ w.0.taken))))
     (λ w. (omega arith, omega arith, c.loop-u.invariant.2, rw w.1 (count_miss unit_works _ (idle_unit false) _ _ _ h c.loop-u.invariant.3 (sym c.is_working.ensures ∙ w.0.left))))
     c.if-is_working.branch
 
 pub returns : goal.returns
-returns c = let h : length c.args.t1 ≤ c.loop-u.u = omega arith in (count_done unit_works _ (idle_unit false) _ _ _ h c.loop-u.invariant.3, omega arith)
+returns c = let h : length c.args.units ≤ c.loop-u.u = omega arith in (count_done unit_works _ (idle_unit false) _ _ _ h c.loop-u.invariant.3, omega arith)

@@ -22,7 +22,7 @@ pub overflow_add-i : goal.overflow_add-i
 overflow_add-i c = omega arith
 
 pub returns-then-not-apart_from : goal.returns-then-not-apart_from
-returns-then-not-apart_from c = let h : c.loop-i.i < length c.args.t1 = omega arith in
+returns-then-not-apart_from c = let h : c.loop-i.i < length c.args.files = omega arith in
     pairs_hit _ _ _ _ _ h c.loop-i.invariant.2 (sym c.apart_from.ensures ∙ not-true _ c.if-not-apart_from.true)
 
 pub overflow_add-i-in-loop-i : goal.overflow_add-i-in-loop-i
@@ -32,9 +32,9 @@ pub loop-i-smaller : goal.loop-i-smaller
 loop-i-smaller c = omega arith
 
 pub loop-i-preserved : goal.loop-i-preserved
-loop-i-preserved c = let h : c.loop-i.i < length c.args.t1 = omega arith in
+loop-i-preserved c = let h : c.loop-i.i < length c.args.files = omega arith in
     (omega arith, c.loop-i.invariant.1, pairs_miss _ _ _ _ _ h c.loop-i.invariant.2 (sym c.apart_from.ensures ∙ not-false _ c.if-not-apart_from.false))
 
 pub returns : goal.returns
-returns c = let h : length c.args.t1 ≤ c.loop-i.i = omega arith in
+returns c = let h : length c.args.files ≤ c.loop-i.i = omega arith in
     pairs_done _ _ closed_file _ _ h c.loop-i.invariant.2

@@ -19,7 +19,7 @@ pub bounds-files-i : goal.bounds-files-i
 bounds-files-i c = omega arith
 
 pub returns-then-not-are_apart : goal.returns-then-not-are_apart
-returns-then-not-are_apart c = let h : c.loop-i.i < length c.args.t2 = omega arith in
+returns-then-not-are_apart c = let h : c.loop-i.i < length c.args.files = omega arith in
     all_hit _ _ _ _ _ h c.loop-i.invariant.1 (sym c.are_apart.ensures ∙ not-true _ c.if-not-are_apart.true)
 
 pub overflow_add-i : goal.overflow_add-i
@@ -29,9 +29,9 @@ pub loop-i-smaller : goal.loop-i-smaller
 loop-i-smaller c = omega arith
 
 pub loop-i-preserved : goal.loop-i-preserved
-loop-i-preserved c = let h : c.loop-i.i < length c.args.t2 = omega arith in
+loop-i-preserved c = let h : c.loop-i.i < length c.args.files = omega arith in
     (c.loop-i.invariant.0, all_miss _ _ _ _ _ h c.loop-i.invariant.1 (sym c.are_apart.ensures ∙ not-false _ c.if-not-are_apart.false))
 
 pub returns : goal.returns
-returns c = let h : length c.args.t2 ≤ c.loop-i.i = omega arith in
+returns c = let h : length c.args.files ≤ c.loop-i.i = omega arith in
     all_done _ _ closed_file _ _ h c.loop-i.invariant.1

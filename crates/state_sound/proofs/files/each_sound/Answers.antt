@@ -20,7 +20,7 @@ pub bounds-files-i : goal.bounds-files-i
 bounds-files-i c = omega arith
 
 pub returns-then-not-file_sound : goal.returns-then-not-file_sound
-returns-then-not-file_sound c = let h : c.loop-i.i < length c.args.t3 = omega arith in
+returns-then-not-file_sound c = let h : c.loop-i.i < length c.args.files = omega arith in
     all_hit _ _ _ _ _ h c.loop-i.invariant.2 (sym c.file_sound.ensures ∙ not-true _ c.if-not-file_sound.true)
 
 pub overflow_add-i : goal.overflow_add-i
@@ -30,9 +30,9 @@ pub loop-i-smaller : goal.loop-i-smaller
 loop-i-smaller c = omega arith
 
 pub loop-i-preserved : goal.loop-i-preserved
-loop-i-preserved c = let h : c.loop-i.i < length c.args.t3 = omega arith in
+loop-i-preserved c = let h : c.loop-i.i < length c.args.files = omega arith in
     (omega arith, c.loop-i.invariant.1, all_miss _ _ _ _ _ h c.loop-i.invariant.2 (sym c.file_sound.ensures ∙ not-false _ c.if-not-file_sound.false))
 
 pub returns : goal.returns
-returns c = let h : length c.args.t3 ≤ c.loop-i.i = omega arith in
+returns c = let h : length c.args.files ≤ c.loop-i.i = omega arith in
     all_done _ _ closed_file _ _ h c.loop-i.invariant.2

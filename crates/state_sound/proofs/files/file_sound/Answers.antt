@@ -6,7 +6,7 @@ use Rattle.state_sound.proofs.files.file_sound.Goals as goal
 
 pub returns-then-f : goal.returns-then-f
 unfolding file_sound
-returns-then-f c = c.open_sound_lem.ensures ∙ sym (cond_true _ _ c.if-f.true)
+returns-then-f c = c.open_sound.ensures ∙ sym (cond_true _ _ c.if-f.true)
 
 pub returns : goal.returns
 unfolding file_sound

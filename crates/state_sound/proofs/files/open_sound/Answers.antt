@@ -4,4 +4,4 @@ use Rattle.state_sound.proofs.files.open_sound.Goals as goal
 
 pub returns : goal.returns
 unfolding open_sound
-returns c = simp (c.in_range_lem.ensures, c.has_buffers-buffers.ensures, c.taken_right_lem.ensures, c.full_right-full.ensures, c.part_right-part.ensures, c.place_right-place.ensures, c.rest_is_zero-rest.ensures)
+returns c = simp (c.in_range-ranges.ensures, c.has_buffers-buffers.ensures, c.taken_right-taken.ensures, c.full_right-full.ensures, c.part_right-part.ensures, c.place_right-place.ensures, c.rest_is_zero-rest.ensures)

@@ -4,4 +4,4 @@ use Rattle.state_sound.proofs.sound.is_judged.Goals as goal
 
 pub returns : goal.returns
 unfolding judged_state
-returns c = simp (c.pool_sound-pool.ensures, c.files_sound_lem.ensures, c.files_fit-fits.ensures, c.channels_right-turns.ensures, c.free_mask-free.ensures, c.routines_right-right.ensures)
+returns c = simp (c.pool_sound-pool.ensures, c.files_sound-own.ensures, c.files_fit-fits.ensures, c.channels_right-turns.ensures, c.free_mask-free.ensures, c.routines_right-right.ensures)

@@ -15,7 +15,7 @@ loop-i-preserved c = let at = c in
     let i = at.loop-i.i in
     let t = at.loop-i.t in
     let h : i < length ws = omega arith in
-    let e = c.wrapping_add_u64-t.ensures in (
+    let e = c.wrapping_add_u64-t.ensures.value in (
       search rules,
       rw e (mod-lt (t + get_or ws i 0) (pow_pos 64)),
       ap (λ (n : ℕ). (n + total (drop (i + 1) ws)) % 2 ^ 64) e
