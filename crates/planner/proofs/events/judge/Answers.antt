@@ -8,10 +8,10 @@ use borrow.Author.Rules.{rules}
 use Rattle.planner.proofs.events.judge.Goals as goal
 
 pub returns-then-not-limit_fits : goal.returns-then-not-limit_fits
-returns-then-not-limit_fits c = judge_limit _ _ (sym c.limit_fits.ensures ∙ not-true _ c.if-not-limit_fits.true)
+returns-then-not-limit_fits c = judge_limit _ _ (sym c.limit_fits.ensures ∙ c.if-not-limit_fits.true)
 
 pub loop-i-init : goal.loop-i-init
-loop-i-init c = (search rules, search rules, judge_first _ _ (sym c.limit_fits.ensures ∙ not-false _ c.if-not-limit_fits.false))
+loop-i-init c = (search rules, search rules, judge_first _ _ (sym c.limit_fits.ensures ∙ c.if-not-limit_fits.false))
 
 pub returns-then-wrong_event : goal.returns-then-wrong_event
 returns-then-wrong_event c = let at-loop = c.loop-i in
