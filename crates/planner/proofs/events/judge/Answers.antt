@@ -24,7 +24,7 @@ loop-i-preserved c = let at-loop = c.loop-i in
     let at-loop-test = c.loop-i-test in
     let at-wrong-event = c.wrong_event in
     let at-if2 = c.if-wrong_event in
-    let at-opened-after = c.Opened-after in (
+    let at-opened-after = c.opened_after-after in (
       omega (arith, c.count_after-n.ensures.1),
       omega arith,
       judge_turn_lem _ _ _ _ _ at-loop.invariant.2 _ _ at-loop-test.true (sym at-wrong-event.ensures ∙ at-if2.false) at-opened-after.ensures c.count_after-n.ensures.0,
