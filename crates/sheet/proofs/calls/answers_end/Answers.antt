@@ -1,6 +1,4 @@
 -- `sheet::calls::answers_end` meets its contract, branch by branch. Assumes nothing.
-use mathlib.Core.Bool.{not}
-use mathlib.Core.Path.{ap}
 use Rattle.sheet.proofs.Steps.{ends_done, ends_idle, ends_begun, ends_missing}
 use Rattle.sheet.proofs.calls.answers_end.Goals as goal
 
@@ -8,10 +6,10 @@ pub returns-then-d : goal.returns-then-d
 returns-then-d c = ends_done c.args.d c.args.other.now c.args.out.now c.if-d.true
 
 pub returns-then-not-d : goal.returns-then-not-d
-returns-then-not-d c = ends_idle c.args.d c.args.other.now c.args.out.now c.if-d.false (ap not c.if-not-d.true) _ c.with_done.ensures
+returns-then-not-d c = ends_idle c.args.d c.args.other.now c.args.out.now c.if-d.false c.if-not-d.true _ c.with_done.ensures
 
 pub returns-then-begun : goal.returns-then-begun
-returns-then-begun c = ends_begun c.args.d c.args.other.now c.args.out.now c.if-d.false (ap not c.if-not-d.false) _ c.has_begun-begun.ensures c.if-begun.true _ c.text_of-text.ensures _ c.compared-last.ensures _ c.with_done-then-begun.ensures
+returns-then-begun c = ends_begun c.args.d c.args.other.now c.args.out.now c.if-d.false c.if-not-d.false _ c.has_begun-begun.ensures c.if-begun.true _ c.text_of-text.ensures _ c.compared-last.ensures _ c.with_done-then-begun.ensures
 
 pub returns : goal.returns
-returns c = ends_missing c.args.d c.args.other.now c.args.out.now c.if-d.false (ap not c.if-not-d.false) _ c.has_begun-begun.ensures c.if-begun.false _ c.missing-last.ensures _ c.with_done-2.ensures
+returns c = ends_missing c.args.d c.args.other.now c.args.out.now c.if-d.false c.if-not-d.false _ c.has_begun-begun.ensures c.if-begun.false _ c.missing-last.ensures _ c.with_done-2.ensures
