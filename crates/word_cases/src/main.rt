@@ -4,7 +4,8 @@
 
 ghost use Rattle.std.specs.Prelude.{◌≤◌, ◌<◌, length};
 
-use libc::{STDIN_FILENO, STDOUT_FILENO};
+use std::io::Stdout;
+use streams::{print_decimal, read_full, write_all};
 
 // The most words that a case has.
 const ROOM: usize = 1200;
@@ -68,35 +69,35 @@ fn word_count(kind: u64, head: &[u64]) -> usize {
 }
 
 // Writes a number, and one that is not the first of its line.
-fn say(x: u64) {
-    io::print_decimal(STDOUT_FILENO, x);
+fn say(to: Stdout, x: u64) {
+    print_decimal(to, x);
 }
 
-fn also(x: u64) {
-    io::write_all(STDOUT_FILENO, b" ");
-    io::print_decimal(STDOUT_FILENO, x);
+fn also(to: Stdout, x: u64) {
+    write_all(to, b" ");
+    print_decimal(to, x);
 }
 
 // `1 n words`: whether each is below 2^36, their logical sum, and its fold.
-fn play_sum(words: &[u64]) {
+fn play_sum(to: Stdout, words: &[u64]) {
     let s = word::logical_sum(words);
-    say(s.fits as u64);
-    also(s.sum);
-    also(word::folded(s.sum));
+    say(to, s.fits as u64);
+    also(to, s.sum);
+    also(to, word::folded(s.sum));
 }
 
 // `2 sequence check number sum`: the check word, its two fields, and the next block number.
-fn play_check_word(head: &[u64]) {
+fn play_check_word(to: Stdout, head: &[u64]) {
     let n = block_number(head, 2);
     let w = word::check_word(chosen(head, 0), chosen(head, 1), number(head, 3), n);
-    say(w);
-    also(word::sum_field(w));
-    also(word::number_field(w));
-    also(word::next_number(n) as u64);
+    say(to, w);
+    also(to, word::sum_field(w));
+    also(to, word::number_field(w));
+    also(to, word::next_number(n) as u64);
 }
 
 // `3 len n sequence check number words`: sealing, the refusal and every word of the slice afterwards.
-fn play_seal(head: &[u64], block: &mut [u64]) {
+fn play_seal(to: Stdout, head: &[u64], block: &mut [u64]) {
     let n = count(head, 1);
     let refusal = block::seal(
         block,
@@ -105,50 +106,50 @@ fn play_seal(head: &[u64], block: &mut [u64]) {
         chosen(head, 3),
         block_number(head, 4),
     );
-    say(refusal as u64);
+    say(to, refusal as u64);
     let mut i = 0;
     while i < block.len() {
-        also(block[i]);
+        also(to, block[i]);
         i += 1;
     }
 }
 
 // `4 sequence check number len words`: judging a block as delivered, the refusal, the error, the sum and the number worked out, and those read.
-fn play_judge(head: &[u64], block: &[u64]) {
+fn play_judge(to: Stdout, head: &[u64], block: &[u64]) {
     let j = block::judge(
         block,
         chosen(head, 0),
         chosen(head, 1),
         block_number(head, 2),
     );
-    say(j.refusal as u64);
+    say(to, j.refusal as u64);
     let found = j.found;
-    also(found.error as u64);
-    also(found.sum as u64);
-    also(found.number as u64);
-    also(found.sumread as u64);
-    also(found.numberread as u64);
+    also(to, found.error as u64);
+    also(to, found.sum as u64);
+    also(to, found.number as u64);
+    also(to, found.sumread as u64);
+    also(to, found.numberread as u64);
 }
 
 // The answer to a case with its words in the first n places of the room.
-fn answer(kind: u64, head: &[u64], room: &mut [u64], n: usize) {
+fn answer(to: Stdout, kind: u64, head: &[u64], room: &mut [u64], n: usize) {
     if room.len() < n {
         return;
     }
     if kind == 1 {
-        return play_sum(&room[..n]);
+        return play_sum(to, &room[..n]);
     }
     if kind == 2 {
-        return play_check_word(head);
+        return play_check_word(to, head);
     }
     if kind == 3 {
-        return play_seal(head, &mut room[..n]);
+        return play_seal(to, head, &mut room[..n]);
     }
-    play_judge(head, &room[..n])
+    play_judge(to, head, &room[..n])
 }
 
 // One case; the place after it. At the end of the text there is none.
-fn play_case(text: &[u8], at: usize, head: &mut [u64], room: &mut [u64]) -> usize
+fn play_case(to: Stdout, text: &[u8], at: usize, head: &mut [u64], room: &mut [u64]) -> usize
     requires { at < length text.now }
     ensures { (at < result) × (result ≤ length text.now) }
 {
@@ -159,23 +160,23 @@ fn play_case(text: &[u8], at: usize, head: &mut [u64], room: &mut [u64]) -> usiz
     let start = read_numbers(text, kind.at, head, head_count(kind.value));
     let n = word_count(kind.value, &head[..]);
     let end = read_numbers(text, start, room, n);
-    answer(kind.value, &head[..], room, n);
-    io::write_all(STDOUT_FILENO, b"\n");
+    answer(to, kind.value, &head[..], room, n);
+    write_all(to, b"\n");
     end
 }
 
 // Every case of the text.
-fn play(text: &[u8], head: &mut [u64], room: &mut [u64]) {
+fn play(to: Stdout, text: &[u8], head: &mut [u64], room: &mut [u64]) {
     let mut at = 0;
     while at < text.len() {
-        at = play_case(text, at, head, room);
+        at = play_case(to, text, at, head, room);
     }
 }
 
-fn main() {
+fn main(rt: HostRuntime) {
     let mut text = [0u8; 131072];
-    let n = io::read_full(STDIN_FILENO, &mut text);
+    let n = read_full(&mut rt.stdin(), &mut text);
     let mut head = [0u64; 8];
     let mut room = [0u64; ROOM];
-    play(&text[..n], &mut head, &mut room);
+    play(rt.stdout(), &text[..n], &mut head, &mut room);
 }
