@@ -6,9 +6,10 @@ mod print;
 
 use channel::{Channel, Op};
 use channel_outcomes::NO_LENGTH;
-use libc::STDIN_FILENO;
 use numbers::next;
 use print::{answer, end_line, number, whole};
+use std::io::Stdout;
+use streams::{large_buffer, read_full};
 
 // The channel, whether it is frozen, and where the next event is read.
 #[derive(Clone, Copy)]
@@ -23,11 +24,11 @@ fn small(n: u64) -> u8 {
     if n < 255 { n as u8 } else { 255 }
 }
 
-fn fresh_start(text: &[u8], p: Desk) -> Desk {
+fn fresh_start(to: Stdout, text: &[u8], p: Desk) -> Desk {
     let mask = next(text, p.at);
     let c = channel::fresh((mask.value % 65536) as u16);
-    answer(0);
-    end_line();
+    answer(to, 0);
+    end_line(to);
     Desk {
         channel: c,
         frozen: false,
@@ -36,42 +37,42 @@ fn fresh_start(text: &[u8], p: Desk) -> Desk {
 }
 
 // An ask for an operation that there is.
-fn ask_for(c: Channel, unit: usize, op: Op, priority: u64, frozen: bool) -> Channel {
+fn ask_for(to: Stdout, c: Channel, unit: usize, op: Op, priority: u64, frozen: bool) -> Channel {
     let asked = channel_turns::ask(c, unit, op, priority == 1, frozen);
     let d = asked.channel;
     let told = if asked.accepted { 1 } else { 0 };
-    answer(told);
-    number(channel_turns::working_number(d) as u64);
-    end_line();
+    answer(to, told);
+    number(to, channel_turns::working_number(d) as u64);
+    end_line(to);
     d
 }
 
-fn refuse(c: Channel) -> Channel {
-    answer(0);
-    number(channel_turns::working_number(c) as u64);
-    end_line();
+fn refuse(to: Stdout, c: Channel) -> Channel {
+    answer(to, 0);
+    number(to, channel_turns::working_number(c) as u64);
+    end_line(to);
     c
 }
 
-fn asked(c: Channel, unit: u64, op: u64, priority: u64, frozen: bool) -> Channel {
+fn asked(to: Stdout, c: Channel, unit: u64, op: u64, priority: u64, frozen: bool) -> Channel {
     if 1 < priority {
-        return refuse(c);
+        return refuse(to, c);
     }
     let u = unit as usize;
     match op {
-        0 => ask_for(c, u, Op::Read, priority, frozen),
-        1 => ask_for(c, u, Op::Write, priority, frozen),
-        2 => ask_for(c, u, Op::Mark, priority, frozen),
-        _ => refuse(c),
+        0 => ask_for(to, c, u, Op::Read, priority, frozen),
+        1 => ask_for(to, c, u, Op::Write, priority, frozen),
+        2 => ask_for(to, c, u, Op::Mark, priority, frozen),
+        _ => refuse(to, c),
     }
 }
 
-fn ask(text: &[u8], p: Desk) -> Desk {
+fn ask(to: Stdout, text: &[u8], p: Desk) -> Desk {
     let unit = next(text, p.at);
     let op = next(text, unit.at);
     let priority = next(text, op.at);
     let c = p.channel;
-    let d = asked(c, unit.value, op.value, priority.value, p.frozen);
+    let d = asked(to, c, unit.value, op.value, priority.value, p.frozen);
     Desk {
         channel: d,
         frozen: p.frozen,
@@ -84,7 +85,7 @@ fn length_of(n: u64) -> u32 {
     if n < 65536 { n as u32 } else { NO_LENGTH }
 }
 
-fn report(text: &[u8], p: Desk) -> Desk {
+fn report(to: Stdout, text: &[u8], p: Desk) -> Desk {
     let unit = next(text, p.at);
     let outcome = next(text, unit.at);
     let length = next(text, outcome.at);
@@ -100,10 +101,10 @@ fn report(text: &[u8], p: Desk) -> Desk {
     let stood = channel::position_of(c, u);
     let d = told.channel;
     let v = told.verdict;
-    answer(channel_outcomes::refusal_number(v) as u64);
-    number(channel_outcomes::result_number(stood, v) as u64);
-    number(channel_turns::working_number(d) as u64);
-    end_line();
+    answer(to, channel_outcomes::refusal_number(v) as u64);
+    number(to, channel_outcomes::result_number(stood, v) as u64);
+    number(to, channel_turns::working_number(d) as u64);
+    end_line(to);
     Desk {
         channel: d,
         frozen: p.frozen,
@@ -111,11 +112,11 @@ fn report(text: &[u8], p: Desk) -> Desk {
     }
 }
 
-fn hold(p: Desk, frozen: bool) -> Desk {
+fn hold(to: Stdout, p: Desk, frozen: bool) -> Desk {
     let c = p.channel;
     let d = if frozen { c } else { channel_turns::thaw(c) };
-    answer(channel_turns::working_number(d) as u64);
-    end_line();
+    answer(to, channel_turns::working_number(d) as u64);
+    end_line(to);
     Desk {
         channel: d,
         frozen,
@@ -123,26 +124,26 @@ fn hold(p: Desk, frozen: bool) -> Desk {
     }
 }
 
-fn show(p: Desk) -> Desk {
+fn show(to: Stdout, p: Desk) -> Desk {
     let c = p.channel;
-    whole(c, p.frozen);
+    whole(to, c, p.frozen);
     p
 }
 
 // One event, of which the kind has been read.
-fn event(text: &[u8], kind: u64, p: Desk) -> Desk {
+fn event(to: Stdout, text: &[u8], kind: u64, p: Desk) -> Desk {
     match kind {
-        0 => fresh_start(text, p),
-        1 => ask(text, p),
-        2 => report(text, p),
-        3 => hold(p, true),
-        4 => hold(p, false),
-        _ => show(p),
+        0 => fresh_start(to, text, p),
+        1 => ask(to, text, p),
+        2 => report(to, text, p),
+        3 => hold(to, p, true),
+        4 => hold(to, p, false),
+        _ => show(to, p),
     }
 }
 
 // Plays the whole text. There are no more events than bytes.
-fn play(text: &[u8]) {
+fn play(to: Stdout, text: &[u8]) {
     let mut p = Desk {
         channel: channel::fresh(0),
         frozen: false,
@@ -156,6 +157,7 @@ fn play(text: &[u8]) {
         }
         let c = p.channel;
         p = event(
+            to,
             text,
             kind.value,
             Desk {
@@ -168,8 +170,8 @@ fn play(text: &[u8]) {
     }
 }
 
-fn main() {
-    let mut buffer = io::large_buffer();
-    let n = io::read_full(STDIN_FILENO, &mut buffer);
-    play(&buffer[..n]);
+fn main(rt: HostRuntime) {
+    let mut buffer = large_buffer();
+    let n = read_full(&mut rt.stdin(), &mut buffer);
+    play(rt.stdout(), &buffer[..n]);
 }

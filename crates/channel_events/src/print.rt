@@ -1,20 +1,21 @@
 // Answers: numbers with one blank between them, a line feed after the last.
 use channel::{Channel, Op, Position, Request, Turn, UNITS};
-use libc::STDOUT_FILENO;
+use std::io::Stdout;
+use streams::{print_decimal, write_all};
 
 // The first number of a line.
-pub fn answer(n: u64) {
-    io::print_decimal(STDOUT_FILENO, n);
+pub fn answer(to: Stdout, n: u64) {
+    print_decimal(to, n);
 }
 
 // A further number of the line.
-pub fn number(n: u64) {
-    io::write_all(STDOUT_FILENO, b" ");
-    io::print_decimal(STDOUT_FILENO, n);
+pub fn number(to: Stdout, n: u64) {
+    write_all(to, b" ");
+    print_decimal(to, n);
 }
 
-pub fn end_line() {
-    io::write_all(STDOUT_FILENO, b"\n");
+pub fn end_line(to: Stdout) {
+    write_all(to, b"\n");
 }
 
 fn flag(b: bool) -> u64 {
@@ -29,62 +30,62 @@ fn op_number(op: Op) -> u64 {
     }
 }
 
-fn request(kind: u64, q: Request) {
+fn request(to: Stdout, kind: u64, q: Request) {
     let op = q.op;
-    number(kind);
-    number(op_number(op));
-    number(flag(q.priority));
-    number(q.attempts as u64);
-    number(q.incomplete as u64);
-    number(q.noise as u64);
+    number(to, kind);
+    number(to, op_number(op));
+    number(to, flag(q.priority));
+    number(to, q.attempts as u64);
+    number(to, q.incomplete as u64);
+    number(to, q.noise as u64);
 }
 
-fn idle() {
-    number(0);
-    number(0);
-    number(0);
-    number(0);
-    number(0);
-    number(0);
+fn idle(to: Stdout) {
+    number(to, 0);
+    number(to, 0);
+    number(to, 0);
+    number(to, 0);
+    number(to, 0);
+    number(to, 0);
 }
 
-fn turn(t: Turn) {
+fn turn(to: Stdout, t: Turn) {
     match t {
-        Turn::Idle => idle(),
-        Turn::Waiting(q) => request(1, q),
-        Turn::Displaced(q) => request(2, q),
-        Turn::Working(q) => request(3, q),
+        Turn::Idle => idle(to),
+        Turn::Waiting(q) => request(to, 1, q),
+        Turn::Displaced(q) => request(to, 2, q),
+        Turn::Working(q) => request(to, 3, q),
     }
 }
 
-fn position(p: Position) {
-    number(p.marks as u64);
-    number(p.records as u64);
-    number(flag(p.noisy));
+fn position(to: Stdout, p: Position) {
+    number(to, p.marks as u64);
+    number(to, p.records as u64);
+    number(to, flag(p.noisy));
 }
 
-fn declared(c: Channel, unit: usize) {
+fn declared(to: Stdout, c: Channel, unit: usize) {
     let known = flag(channel::is_declared(c, unit));
     if unit == 0 {
-        answer(known);
+        answer(to, known);
     } else {
-        number(known);
+        number(to, known);
     }
 }
 
 // Ten numbers for each unit, then the two marks, then whether the channel is frozen.
-pub fn whole(c: Channel, frozen: bool) {
+pub fn whole(to: Stdout, c: Channel, frozen: bool) {
     let mut u = 0;
     while u < UNITS {
-        declared(c, u);
+        declared(to, c, u);
         let t = channel::turn_of(c, u);
-        turn(t);
+        turn(to, t);
         let p = channel::position_of(c, u);
-        position(p);
+        position(to, p);
         u += 1;
     }
-    number(c.mark as u64);
-    number(c.urgent as u64);
-    number(flag(frozen));
-    end_line();
+    number(to, c.mark as u64);
+    number(to, c.urgent as u64);
+    number(to, flag(frozen));
+    end_line(to);
 }

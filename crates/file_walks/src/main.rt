@@ -6,9 +6,10 @@
 mod print;
 
 use file::{Arrival, File, Wish};
-use libc::STDIN_FILENO;
 use numbers::next;
 use print::{found, number, whole};
+use std::io::Stdout;
+use streams::read_full;
 use word::Checked;
 
 // The file, the words of a buffer, and where the next event is read.
@@ -59,54 +60,54 @@ fn open(text: &[u8], p: Desk) -> Desk {
     }
 }
 
-fn take(f: File, w: u16) -> File {
+fn take(to: Stdout, f: File, w: u16) -> File {
     let g = file_input::took_buffer(f);
-    number(file_input::taken_start(g, w) as u64);
+    number(to, file_input::taken_start(g, w) as u64);
     g
 }
 
-fn get(f: File, w: u16) -> File {
+fn get(to: Stdout, f: File, w: u16) -> File {
     let r = file_input::get(f, w);
     let g = r.got;
-    number(file_input::got_number(g) as u64);
-    number(file_input::got_start(g) as u64);
-    number(file_input::got_count(g) as u64);
-    found(file_input::got_found(g));
+    number(to, file_input::got_number(g) as u64);
+    number(to, file_input::got_start(g) as u64);
+    number(to, file_input::got_count(g) as u64);
+    found(to, file_input::got_found(g));
     r.file
 }
 
-fn put(f: File, w: u16) -> File {
+fn put(to: Stdout, f: File, w: u16) -> File {
     let g = file_output::added(f);
-    number(file_output::put_start(f, w) as u64);
-    number(file_output::part_length(g) as u64);
+    number(to, file_output::put_start(f, w) as u64);
+    number(to, file_output::part_length(g) as u64);
     let sealed = if file_output::is_complete(g) { 1 } else { 0 };
-    number(sealed);
+    number(to, sealed);
     file_output::after_put(f)
 }
 
-fn seal(f: File, w: u16) -> File {
-    number(file_output::part_start(f, w) as u64);
-    number(file_output::part_length(f) as u64);
+fn seal(to: Stdout, f: File, w: u16) -> File {
+    number(to, file_output::part_start(f, w) as u64);
+    number(to, file_output::part_length(f) as u64);
     file_output::sealed(f)
 }
 
-fn send(f: File, w: u16) -> File {
-    number(file_output::send_start(f, w) as u64);
-    number(file_output::send_words(f) as u64);
+fn send(to: Stdout, f: File, w: u16) -> File {
+    number(to, file_output::send_start(f, w) as u64);
+    number(to, file_output::send_words(f) as u64);
     f
 }
 
 // The file after an event that has no numbers of its own.
-fn after(kind: u64, f: File, w: u16) -> File {
+fn after(to: Stdout, kind: u64, f: File, w: u16) -> File {
     match kind {
-        2 => take(f, w),
+        2 => take(to, f, w),
         4 => file_input::gave_back(f),
         5 => file_input::met_mark(f),
-        6 => get(f, w),
+        6 => get(to, f, w),
         7 => file::without_oldest(f),
-        8 => put(f, w),
-        9 => seal(f, w),
-        10 => send(f, w),
+        8 => put(to, f, w),
+        9 => seal(to, f, w),
+        10 => send(to, f, w),
         11 => file_output::after_write(f, true),
         _ => file_output::after_write(f, false),
     }
@@ -140,7 +141,7 @@ fn deliver(text: &[u8], p: Desk) -> Desk {
 }
 
 // One event, of which the kind has been read.
-fn event(text: &[u8], kind: u64, p: Desk) -> Desk {
+fn event(to: Stdout, text: &[u8], kind: u64, p: Desk) -> Desk {
     if kind == 1 {
         return open(text, p);
     }
@@ -148,7 +149,7 @@ fn event(text: &[u8], kind: u64, p: Desk) -> Desk {
         return deliver(text, p);
     }
     let f = p.file;
-    let g = after(kind, f, p.w);
+    let g = after(to, kind, f, p.w);
     Desk {
         file: g,
         w: p.w,
@@ -157,7 +158,7 @@ fn event(text: &[u8], kind: u64, p: Desk) -> Desk {
 }
 
 // Plays the whole text. There are no more events than bytes.
-fn play(text: &[u8]) {
+fn play(to: Stdout, text: &[u8]) {
     let mut p = Desk {
         file: file::closed_file(),
         w: 0,
@@ -171,6 +172,7 @@ fn play(text: &[u8]) {
         }
         let f = p.file;
         p = event(
+            to,
             text,
             kind.value,
             Desk {
@@ -180,13 +182,13 @@ fn play(text: &[u8]) {
             },
         );
         let g = p.file;
-        whole(g);
+        whole(to, g);
         left = left - 1;
     }
 }
 
-fn main() {
+fn main(rt: HostRuntime) {
     let mut text = [0u8; 65536];
-    let n = io::read_full(STDIN_FILENO, &mut text);
-    play(&text[..n]);
+    let n = read_full(&mut rt.stdin(), &mut text);
+    play(rt.stdout(), &text[..n]);
 }

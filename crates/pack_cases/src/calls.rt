@@ -1,6 +1,7 @@
 // The thirteen calls: their numbers as a command has them, their answers printed. Each gives the state after it.
 use crate::print::{answer, checked, end_line, flag, number, program, words};
 use pack::{Adds, AnyAnswer, AnyCall, Delivery, Got, Masks, Naming, State};
+use std::io::Stdout;
 use word::{Checked, not_checked};
 
 // The i-th number of a command as a byte, as a number of two bytes, and of four.
@@ -138,61 +139,68 @@ fn told(d: Delivery) -> Checked {
     }
 }
 
-fn reported(res: u8, delivery: Delivery, working: u8) {
-    number(res as u64);
-    checked(told(delivery));
-    number(working as u64);
+fn reported(to: Stdout, res: u8, delivery: Delivery, working: u8) {
+    number(to, res as u64);
+    checked(to, told(delivery));
+    number(to, working as u64);
 }
 
-fn found(g: Got) {
-    number(pack::got_number(g) as u64);
-    checked(pack::got_found(g));
+fn found(to: Stdout, g: Got) {
+    number(to, pack::got_number(g) as u64);
+    checked(to, pack::got_found(g));
 }
 
 // Where the words that an answer shows begin, how many they are, and the words.
-fn shown(area: &[u64], r: AnyAnswer) {
-    number(r.start as u64);
-    number(r.count as u64);
-    words(pack::shown_words(area, r));
+fn shown(to: Stdout, area: &[u64], r: AnyAnswer) {
+    number(to, r.start as u64);
+    number(to, r.count as u64);
+    words(to, pack::shown_words(area, r));
 }
 
 // What the answer of an accepted call adds.
-fn added(area: &[u64], r: AnyAnswer) {
+fn added(to: Stdout, area: &[u64], r: AnyAnswer) {
     let adds = r.adds;
     match adds {
         Adds::Nothing => {}
-        Adds::Working(unit) => number(unit as u64),
+        Adds::Working(unit) => number(to, unit as u64),
         Adds::Reported {
             result,
             delivery,
             working,
         } => {
-            reported(result, delivery, working);
-            shown(area, r);
+            reported(to, result, delivery, working);
+            shown(to, area, r);
         }
         Adds::Found(g) => {
-            found(g);
-            shown(area, r);
+            found(to, g);
+            shown(to, area, r);
         }
         Adds::Returned {
             entered,
             program: now,
         } => {
-            number(flag(entered));
-            program(now);
+            number(to, flag(entered));
+            program(to, now);
         }
-        Adds::Runs(now) => program(now),
+        Adds::Runs(now) => program(to, now),
     }
 }
 
 // Makes the call of that number, and prints its answer.
-pub fn call(kind: u64, head: &[u64], s: State, area: &mut [u64], given: &[u64]) -> State {
+pub fn call(
+    to: Stdout,
+    kind: u64,
+    head: &[u64],
+    s: State,
+    area: &mut [u64],
+    given: &[u64],
+) -> State {
     let c = call_of(kind, head);
     let r = pack::answer(s, area, c, given);
-    answer(r.refusal as u64);
+    answer(to, r.refusal as u64);
     if r.refusal == 0 {
-        added(&area[..], r);
+        added(to, &area[..], r);
     }
-    end_line();
+    end_line(to);
     r.state
 }

@@ -11,9 +11,10 @@ mod print;
 
 ghost use Rattle.std.specs.Prelude.{◌≤◌, length};
 
-use libc::STDIN_FILENO;
 use numbers::next;
 use pack::State;
+use std::io::Stdout;
+use streams::read_full;
 
 // The words that can be lent, and how many of them are lent; the state that is passed.
 const ROOM: usize = 64;
@@ -161,20 +162,20 @@ fn changed(kind: u64, head: &[u64], d: Desk, room: &mut [u64]) -> Desk {
 }
 
 // A command that prints.
-fn printed(kind: u64, d: Desk, room: &[u64]) {
+fn printed(to: Stdout, kind: u64, d: Desk, room: &[u64]) {
     let s = d.state;
     match kind {
-        18 => print::room(room),
-        19 => print::state(s),
-        _ => print::alone(print::flag(pack::is_sound(s))),
+        18 => print::room(to, room),
+        19 => print::state(to, s),
+        _ => print::alone(to, print::flag(pack::is_sound(s))),
     }
 }
 
 // A call: its answer is printed, and the state after it is passed to the next.
-fn called(kind: u64, head: &[u64], d: Desk, room: &mut [u64], words: &[u64]) -> Desk {
+fn called(to: Stdout, kind: u64, head: &[u64], d: Desk, room: &mut [u64], words: &[u64]) -> Desk {
     let s = d.state;
     let n = within(d.lent, room.len());
-    let t = calls::call(kind, head, s, &mut room[..n], words);
+    let t = calls::call(to, kind, head, s, &mut room[..n], words);
     Desk {
         state: t,
         lent: d.lent,
@@ -191,14 +192,14 @@ fn is_change(kind: u64) -> bool {
 }
 
 // One command.
-fn done(kind: u64, head: &[u64], d: Desk, room: &mut [u64], words: &[u64]) -> Desk {
+fn done(to: Stdout, kind: u64, head: &[u64], d: Desk, room: &mut [u64], words: &[u64]) -> Desk {
     if is_call(kind) {
-        return called(kind, head, d, room, words);
+        return called(to, kind, head, d, room, words);
     }
     if is_change(kind) {
         return changed(kind, head, d, room);
     }
-    printed(kind, d, &room[..]);
+    printed(to, kind, d, &room[..]);
     d
 }
 
@@ -210,6 +211,7 @@ fn given(words: &[u64], n: usize) -> &[u64] {
 
 // The next command of the text from `at` on, done.
 fn command(
+    to: Stdout,
     text: &[u8],
     at: usize,
     d: Desk,
@@ -232,7 +234,7 @@ fn command(
     let mid = read_numbers(text, kind.at, head, n);
     let m = word_count(kind.value, &head[..]);
     let end = read_numbers(text, mid, words, m);
-    let e = done(kind.value, &head[..], d, room, given(&words[..], m));
+    let e = done(to, kind.value, &head[..], d, room, given(&words[..], m));
     Step {
         desk: e,
         at: end,
@@ -241,12 +243,12 @@ fn command(
 }
 
 // Plays the whole text. There are no more commands than bytes.
-fn play(text: &[u8], room: &mut [u64], head: &mut [u64], words: &mut [u64]) {
+fn play(to: Stdout, text: &[u8], room: &mut [u64], head: &mut [u64], words: &mut [u64]) {
     let mut d = start();
     let mut at = 0;
     let mut left = text.len();
     while 0 < left {
-        let x = command(text, at, d, room, head, words);
+        let x = command(to, text, at, d, room, head, words);
         if x.ended {
             return;
         }
@@ -256,11 +258,11 @@ fn play(text: &[u8], room: &mut [u64], head: &mut [u64], words: &mut [u64]) {
     }
 }
 
-fn main() {
+fn main(rt: HostRuntime) {
     let mut text = [0u8; 262144];
     let mut room = [0u64; ROOM];
     let mut head = [0u64; 8];
     let mut words = [0u64; ROOM];
-    let n = io::read_full(STDIN_FILENO, &mut text);
-    play(&text[..n], &mut room, &mut head, &mut words);
+    let n = read_full(&mut rt.stdin(), &mut text);
+    play(rt.stdout(), &text[..n], &mut room, &mut head, &mut words);
 }

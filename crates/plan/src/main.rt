@@ -2,52 +2,53 @@
 // A list that is good ends within the first 65,536 bytes, and one that is not has its first fault there.
 #![tactic(auto)]
 
-use libc::{STDERR_FILENO, STDIN_FILENO, STDOUT_FILENO};
 use planner::{FILES, Judged, Proposed, judge, plan};
 use planner_text::read_list;
+use std::io::Stdout;
 use std::num::wrapping_add_u64;
+use streams::{large_buffer, print_decimal, read_full, write_all};
 
 // One event more than a good list has.
 const ROOM: usize = 129;
 
 // Writes bytes, or a number in decimal.
-fn put(bytes: &[u8]) -> bool {
-    io::write_all(STDOUT_FILENO, bytes)
+fn put(to: Stdout, bytes: &[u8]) -> bool {
+    write_all(to, bytes)
 }
 
-fn put_number(n: u64) -> bool {
-    io::print_decimal(STDOUT_FILENO, n)
+fn put_number(to: Stdout, n: u64) -> bool {
+    print_decimal(to, n)
 }
 
 // The line for a list at fault.
-fn refused_at(line: u64) -> bool {
-    let word = put(b"refused 1 at line ");
-    let place = put_number(line);
-    word & place & put(b"\n")
+fn refused_at(to: Stdout, line: u64) -> bool {
+    let word = put(to, b"refused 1 at line ");
+    let place = put_number(to, line);
+    word & place & put(to, b"\n")
 }
 
 // The line for an opening: its file and its one or two buffers.
-fn put_row(row: u32) -> bool {
-    let file = put_number((row / 65536 % 256) as u64);
-    let blank = put(b" ");
-    let first = put_number((row % 256) as u64);
+fn put_row(to: Stdout, row: u32) -> bool {
+    let file = put_number(to, (row / 65536 % 256) as u64);
+    let blank = put(to, b" ");
+    let first = put_number(to, (row % 256) as u64);
     let mut good = file & blank & first;
     if row / 16777216 == 2 {
-        let gap = put(b" ");
-        let second = put_number((row / 256 % 256) as u64);
+        let gap = put(to, b" ");
+        let second = put_number(to, (row / 256 % 256) as u64);
         good = good & gap & second;
     }
-    good & put(b"\n")
+    good & put(to, b"\n")
 }
 
-fn put_rows(rows: [u32; FILES], count: usize) -> bool {
+fn put_rows(to: Stdout, rows: [u32; FILES], count: usize) -> bool {
     let mut i: usize = 0;
     while i < FILES {
         if count <= i {
             return true;
         }
         let row = rows[i];
-        if !put_row(row) {
+        if !put_row(to, row) {
             return false;
         }
         i += 1;
@@ -56,40 +57,40 @@ fn put_rows(rows: [u32; FILES], count: usize) -> bool {
 }
 
 // The proposal, or that no pool within the limit will do.
-fn put_plan(p: Proposed) -> bool {
+fn put_plan(to: Stdout, p: Proposed) -> bool {
     if p.refusal != 0 {
-        return put(b"refused 19\n");
+        return put(to, b"refused 19\n");
     }
-    let word = put(b"size ");
-    let size = put_number(p.size as u64);
-    let end = put(b"\n");
+    let word = put(to, b"size ");
+    let size = put_number(to, p.size as u64);
+    let end = put(to, b"\n");
     let rows = p.rows;
     let count = p.count;
     if word & size & end {
-        return put_rows(rows, count);
+        return put_rows(to, rows, count);
     }
     false
 }
 
 // What a list comes to. Line 1 is the limit, and the first event is on line 2.
-fn answer(limit: u8, events: &[u8]) -> bool {
+fn answer(to: Stdout, limit: u8, events: &[u8]) -> bool {
     let judged = judge(limit, events);
     match judged {
-        Judged::Good => put_plan(plan(limit, events)),
-        Judged::Limit => refused_at(1),
-        Judged::Event(i) => refused_at(wrapping_add_u64(i as u64, 2)),
+        Judged::Good => put_plan(to, plan(limit, events)),
+        Judged::Limit => refused_at(to, 1),
+        Judged::Event(i) => refused_at(to, wrapping_add_u64(i as u64, 2)),
     }
 }
 
-fn main() {
-    let mut text = io::large_buffer();
-    let n = io::read_full(STDIN_FILENO, &mut text);
+fn main(rt: HostRuntime) {
+    let mut text = large_buffer();
+    let n = read_full(&mut rt.stdin(), &mut text);
     let mut events = [0u8; ROOM];
     let list = read_list(&text[..n], &mut events);
     let limit = list.limit;
     let count = list.count;
-    let good = answer(limit, &events[..count]);
+    let good = answer(rt.stdout(), limit, &events[..count]);
     if !good {
-        io::write_all(STDERR_FILENO, b"plan: the plan cannot be written\n");
+        write_all(rt.stderr(), b"plan: the plan cannot be written\n");
     }
 }
