@@ -69,6 +69,7 @@ past_both ((x ∷ items) ∷ ys) h = some_owed
 
 fresh_head : (items : List Item) (blocks : List (List Item)) → Fresh (items ∷ blocks) → 1 ≤ length items
 fresh_head (x ∷ items) blocks f = omega arith
+fresh_head [] blocks f = elim f [ ]
 
 still_past : (r : ℕ) (marked : Bool) (owed : List (List Item)) (a : Added) (words : List ℕ) → Gives r marked (past_used owed) a words
     → Gives r marked owed a words

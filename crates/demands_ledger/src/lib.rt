@@ -2,4 +2,3 @@
 // It has no code: its definitions say what demand 2 promises of blocks and records, and its theorems prove it of every history in which
 // the pack alone writes the lent area.
 #![tactic(auto)]
-
