@@ -273,21 +273,10 @@ area_is wrong f c u outcome len w frozen area words = go (ℕ_discrete (report_r
 
 answer_by_lem : (s : State) (area : List ℕ) (x : Call) → Requests x → answer_of s area x ≡ answer_by (act_of s area x) s area
 unfolding answer_of ask_by report_by report_by_area ask_act report_act
-answer_by_lem s area (ask file op priority naming) asking = rw (cond_same (eqb (ask_change s file op priority naming).refusal 0) area)
-answer_by_lem s area (report channel unit outcome len words) reporting =
+answer_by_lem s area _ (asking {file} {op} {priority} {naming}) = rw (cond_same (eqb (ask_change s file op priority naming).refusal 0) area)
+answer_by_lem s area _ (reporting {channel} {unit} {outcome} {len} {words}) =
     ap (told (report_by s area channel unit outcome len words))
     (area_is (report_wrong s (length area) channel) (file_at s (file_of s channel unit)) (channel_at s channel) unit outcome len s.w s.frozen area words)
-answer_by_lem s area (fresh _ _ _) r = elim r [ ]
-answer_by_lem s area (opening _ _ _ _ _ _) r = elim r [ ]
-answer_by_lem s area (close _) r = elim r [ ]
-answer_by_lem s area (get _) r = elim r [ ]
-answer_by_lem s area (put _ _) r = elim r [ ]
-answer_by_lem s area (seal _) r = elim r [ ]
-answer_by_lem s area (skip _) r = elim r [ ]
-answer_by_lem s area freeze r = elim r [ ]
-answer_by_lem s area thaw r = elim r [ ]
-answer_by_lem s area return r = elim r [ ]
-answer_by_lem s area running r = elim r [ ]
 
 -- ---- an accepted one, of the file i and the channel c, from the state s to the state t
 
@@ -390,19 +379,8 @@ module _ (s : State) (area : List ℕ) (g : Good s) where
   did : (x : Call) → Requests x → (answer_of s area x).refusal ≡ 0
       → Did s area (act_of s area x).file (act_of s area x).channel (answer_of s area x).state (answer_of s area x).area
   unfolding ask_act report_act
-  did (ask file op priority naming) asking z = ask_did file op priority naming z
-  did (report channel unit outcome len words) reporting z = report_did channel unit outcome len words z
-  did (fresh _ _ _) r z = elim r [ ]
-  did (opening _ _ _ _ _ _) r z = elim r [ ]
-  did (close _) r z = elim r [ ]
-  did (get _) r z = elim r [ ]
-  did (put _ _) r z = elim r [ ]
-  did (seal _) r z = elim r [ ]
-  did (skip _) r z = elim r [ ]
-  did freeze r z = elim r [ ]
-  did thaw r z = elim r [ ]
-  did return r z = elim r [ ]
-  did running r z = elim r [ ]
+  did _ (asking {file} {op} {priority} {naming}) z = ask_did file op priority naming z
+  did _ (reporting {channel} {unit} {outcome} {len} {words}) z = report_did channel unit outcome len words z
 
 -- ---- what another call goes by
 
@@ -592,23 +570,12 @@ module _ (s : State) (area : List ℕ) (g : Good s) (i c : ℕ) (t : State) (zs 
     heard : (channel unit outcome len : ℕ) (words : List ℕ) → channel ≢ c → Elsewhere (report channel unit outcome len words)
 
   elsewhere : (y : Call) → Requests y → (On s c y → ⊥) → Elsewhere y
-  elsewhere (ask file op priority naming) asking apart = go (file_at s file).opened refl
+  elsewhere _ (asking {file} {op} {priority} {naming}) apart = go (file_at s file).opened refl
     where
       go : (b : Bool) → (file_at s file).opened ≡ b → Elsewhere (ask file op priority naming)
       go true o = asked file op priority naming o (λ e. apart (asks o e))
       go false o = closed file op priority naming o
-  elsewhere (report channel unit outcome len words) reporting apart = heard channel unit outcome len words (λ e. apart (reports e))
-  elsewhere (fresh _ _ _) r apart = elim r [ ]
-  elsewhere (opening _ _ _ _ _ _) r apart = elim r [ ]
-  elsewhere (close _) r apart = elim r [ ]
-  elsewhere (get _) r apart = elim r [ ]
-  elsewhere (put _ _) r apart = elim r [ ]
-  elsewhere (seal _) r apart = elim r [ ]
-  elsewhere (skip _) r apart = elim r [ ]
-  elsewhere freeze r apart = elim r [ ]
-  elsewhere thaw r apart = elim r [ ]
-  elsewhere return r apart = elim r [ ]
-  elsewhere running r apart = elim r [ ]
+  elsewhere _ (reporting {channel} {unit} {outcome} {len} {words}) apart = heard channel unit outcome len words (λ e. apart (reports e))
 
   says_same : (y : Call) → Elsewhere y → says (answer_of t zs y) ≡ says (answer_of s area y)
   unfolding ask_act
@@ -681,21 +648,10 @@ record Fits (s : State) (xs : List ℕ) (A : Act) : Type 0 where
 
 fits : (s : State) (area : List ℕ) → Good s → (x : Call) → Requests x → (answer_of s area x).refusal ≡ 0 → (act_of s area x).delivers ≡ true → Fits s area (act_of s area x)
 unfolding answer_of ask_act report_act report_refusal
-fits s area g (ask file op priority naming) asking z d = true_not_false d refl
-fits s area g (report channel unit outcome len words) reporting z d =
+fits s area g _ (asking {file} {op} {priority} {naming}) z d = true_not_false d refl
+fits s area g _ (reporting {channel} {unit} {outcome} {len} {words}) z d =
     let D = report_delivers s area channel unit outcome len words g.sixteen (sym (report_exactly s area channel unit outcome len words).number ∙ z) d in
     record { buffer = (buffer_at (file_at s (file_of s channel unit)) (taken_side (file_at s (file_of s channel unit)))).number; place = refl; held = D.held; room = D.room; inside = D.inside }
-fits s area g (fresh _ _ _) r z d = elim r [ ]
-fits s area g (opening _ _ _ _ _ _) r z d = elim r [ ]
-fits s area g (close _) r z d = elim r [ ]
-fits s area g (get _) r z d = elim r [ ]
-fits s area g (put _ _) r z d = elim r [ ]
-fits s area g (seal _) r z d = elim r [ ]
-fits s area g (skip _) r z d = elim r [ ]
-fits s area g freeze r z d = elim r [ ]
-fits s area g thaw r z d = elim r [ ]
-fits s area g return r z d = elim r [ ]
-fits s area g running r z d = elim r [ ]
 
 buffers_apart_lem : (w a b n k : ℕ) → a ≢ b → n ≤ w → k ≤ w → (a * w + n ≤ b * w) ⊎ (b * w + k ≤ a * w)
 buffers_apart_lem w a b n k ne l r = go (dec_lt a b) (dec_lt b a)
@@ -708,70 +664,26 @@ buffers_apart_lem w a b n k ne l r = go (dec_lt a b) (dec_lt b a)
 -- an accepted call is on its channel
 on_channel_lem : (s : State) (area : List ℕ) (g : Good s) (x : Call) → Requests x → (answer_of s area x).refusal ≡ 0 → On s (act_of s area x).channel x
 unfolding ask_act report_act
-on_channel_lem s area g (ask file op priority naming) asking z = asks (ask_did s area g file op priority naming z).is_open refl
-on_channel_lem s area g (report channel unit outcome len words) reporting z = reports refl
-on_channel_lem s area g (fresh _ _ _) r z = elim r [ ]
-on_channel_lem s area g (opening _ _ _ _ _ _) r z = elim r [ ]
-on_channel_lem s area g (close _) r z = elim r [ ]
-on_channel_lem s area g (get _) r z = elim r [ ]
-on_channel_lem s area g (put _ _) r z = elim r [ ]
-on_channel_lem s area g (seal _) r z = elim r [ ]
-on_channel_lem s area g (skip _) r z = elim r [ ]
-on_channel_lem s area g freeze r z = elim r [ ]
-on_channel_lem s area g thaw r z = elim r [ ]
-on_channel_lem s area g return r z = elim r [ ]
-on_channel_lem s area g running r z = elim r [ ]
+on_channel_lem s area g _ (asking {file} {op} {priority} {naming}) z = asks (ask_did s area g file op priority naming z).is_open refl
+on_channel_lem s area g _ (reporting {channel} {unit} {outcome} {len} {words}) z = reports refl
 
 -- what two of them make of the routines: not both answer requests that name one
 routines_comm : (s : State) (area : List ℕ) → Good s → (x y : Call) → Requests x → Requests y → (act_of s area x).channel ≢ (act_of s area y).channel
     → (AnswersNaming s area x → AnswersNaming s area y → ⊥) → (answer_of s area x).refusal ≡ 0 → (answer_of s area y).refusal ≡ 0
     → (act_of s area y).routines ((act_of s area x).routines s.routines) ≡ (act_of s area x).routines ((act_of s area y).routines s.routines)
 unfolding answer_of ask_act report_act report_by
-routines_comm s area g (ask file op priority naming) (ask j p q n) asking asking ne single zx zy =
+routines_comm s area g _ _ (asking {file} {op} {priority} {naming}) (asking {file = j} {op = p} {priority = q} {naming = n}) ne single zx zy =
     asks_comm s.routines (file_at s file).channel (file_at s file).unit (due_of naming) (file_at s j).channel (file_at s j).unit (due_of n) ne
-routines_comm s area g (ask file op priority naming) (report channel unit outcome len words) asking reporting ne single zx zy =
+routines_comm s area g _ _ (asking {file} {op} {priority} {naming}) (reporting {channel} {unit} {outcome} {len} {words}) ne single zx zy =
     ask_report_comm s.routines s.frozen channel unit _ (file_at s file).channel (file_at s file).unit (due_of naming) (settled s g) (λ e. ne (sym e))
-routines_comm s area g (report channel unit outcome len words) (ask file op priority naming) reporting asking ne single zx zy =
+routines_comm s area g _ _ (reporting {channel} {unit} {outcome} {len} {words}) (asking {file} {op} {priority} {naming}) ne single zx zy =
     sym (ask_report_comm s.routines s.frozen channel unit _ (file_at s file).channel (file_at s file).unit (due_of naming) (settled s g) ne)
-routines_comm s area g (report channel unit outcome len words) (report k v o n ws) reporting reporting ne single zx zy =
+routines_comm s area g _ _ (reporting {channel} {unit} {outcome} {len} {words}) (reporting {channel = k} {unit = v} {outcome = o} {len = n} {words = ws}) ne single zx zy =
     reports_comm s.routines s.frozen channel unit _ k v _ (settled s g) ne
     (λ p q.
     let a = is_answer (answer_of s area (report channel unit outcome len words)).added in
     let b = is_answer (answer_of s area (report k v o n ws)).added in
     single (answers_naming zx (and_left a _ p) (and_right a _ p)) (answers_naming zy (and_left b _ q) (and_right b _ q)))
-routines_comm s area g (fresh _ _ _) y r _ ne single zx zy = elim r [ ]
-routines_comm s area g (opening _ _ _ _ _ _) y r _ ne single zx zy = elim r [ ]
-routines_comm s area g (close _) y r _ ne single zx zy = elim r [ ]
-routines_comm s area g (ask file op priority naming) (fresh _ _ _) _ r ne single zx zy = elim r [ ]
-routines_comm s area g (ask file op priority naming) (opening _ _ _ _ _ _) _ r ne single zx zy = elim r [ ]
-routines_comm s area g (ask file op priority naming) (close _) _ r ne single zx zy = elim r [ ]
-routines_comm s area g (ask file op priority naming) (get _) _ r ne single zx zy = elim r [ ]
-routines_comm s area g (ask file op priority naming) (put _ _) _ r ne single zx zy = elim r [ ]
-routines_comm s area g (ask file op priority naming) (seal _) _ r ne single zx zy = elim r [ ]
-routines_comm s area g (ask file op priority naming) (skip _) _ r ne single zx zy = elim r [ ]
-routines_comm s area g (ask file op priority naming) freeze _ r ne single zx zy = elim r [ ]
-routines_comm s area g (ask file op priority naming) thaw _ r ne single zx zy = elim r [ ]
-routines_comm s area g (ask file op priority naming) return _ r ne single zx zy = elim r [ ]
-routines_comm s area g (ask file op priority naming) running _ r ne single zx zy = elim r [ ]
-routines_comm s area g (report channel unit outcome len words) (fresh _ _ _) _ r ne single zx zy = elim r [ ]
-routines_comm s area g (report channel unit outcome len words) (opening _ _ _ _ _ _) _ r ne single zx zy = elim r [ ]
-routines_comm s area g (report channel unit outcome len words) (close _) _ r ne single zx zy = elim r [ ]
-routines_comm s area g (report channel unit outcome len words) (get _) _ r ne single zx zy = elim r [ ]
-routines_comm s area g (report channel unit outcome len words) (put _ _) _ r ne single zx zy = elim r [ ]
-routines_comm s area g (report channel unit outcome len words) (seal _) _ r ne single zx zy = elim r [ ]
-routines_comm s area g (report channel unit outcome len words) (skip _) _ r ne single zx zy = elim r [ ]
-routines_comm s area g (report channel unit outcome len words) freeze _ r ne single zx zy = elim r [ ]
-routines_comm s area g (report channel unit outcome len words) thaw _ r ne single zx zy = elim r [ ]
-routines_comm s area g (report channel unit outcome len words) return _ r ne single zx zy = elim r [ ]
-routines_comm s area g (report channel unit outcome len words) running _ r ne single zx zy = elim r [ ]
-routines_comm s area g (get _) y r _ ne single zx zy = elim r [ ]
-routines_comm s area g (put _ _) y r _ ne single zx zy = elim r [ ]
-routines_comm s area g (seal _) y r _ ne single zx zy = elim r [ ]
-routines_comm s area g (skip _) y r _ ne single zx zy = elim r [ ]
-routines_comm s area g freeze y r _ ne single zx zy = elim r [ ]
-routines_comm s area g thaw y r _ ne single zx zy = elim r [ ]
-routines_comm s area g return y r _ ne single zx zy = elim r [ ]
-routines_comm s area g running y r _ ne single zx zy = elim r [ ]
 
 module _ (s : State) (area : List ℕ) (g : Good s) (x y : Call) (rx : Requests x) (ry : Requests y) (apart : (c : ℕ) → On s c x → On s c y → ⊥)
     (single : AnswersNaming s area x → AnswersNaming s area y → ⊥)
@@ -912,20 +824,9 @@ turned s area x y E = record { first = E.second; second = E.first; state = sym E
 -- an accepted one was given a sound state
 was_sound : (s : State) (area : List ℕ) (x : Call) → Requests x → length s.files ≡ file_count → (answer_of s area x).refusal ≡ 0 → sound s ≡ true
 unfolding answer_of ask_refusal report_refusal
-was_sound s area (ask file op priority naming) asking n z = ask_was_sound s file op priority naming (sym (ask_exactly s file op priority naming).number ∙ z)
-was_sound s area (report channel unit outcome len words) reporting n z =
+was_sound s area _ (asking {file} {op} {priority} {naming}) n z = ask_was_sound s file op priority naming (sym (ask_exactly s file op priority naming).number ∙ z)
+was_sound s area _ (reporting {channel} {unit} {outcome} {len} {words}) n z =
     report_was_sound s area channel unit outcome len words n (sym (report_exactly s area channel unit outcome len words).number ∙ z)
-was_sound s area (fresh _ _ _) r n z = elim r [ ]
-was_sound s area (opening _ _ _ _ _ _) r n z = elim r [ ]
-was_sound s area (close _) r n z = elim r [ ]
-was_sound s area (get _) r n z = elim r [ ]
-was_sound s area (put _ _) r n z = elim r [ ]
-was_sound s area (seal _) r n z = elim r [ ]
-was_sound s area (skip _) r n z = elim r [ ]
-was_sound s area freeze r n z = elim r [ ]
-was_sound s area thaw r n z = elim r [ ]
-was_sound s area return r n z = elim r [ ]
-was_sound s area running r n z = elim r [ ]
 
 pub either_order : (s : State) (area : List ℕ) (x y : Call) → length s.files ≡ file_count → Requests x → Requests y
     → ((c : ℕ) → On s c x → On s c y → ⊥) → (AnswersNaming s area x → AnswersNaming s area y → ⊥) → EitherOrder s area x y
