@@ -35,7 +35,7 @@ progress() {
             fflush("/dev/stderr")
         }
         { print >kept; fflush(kept) }
-        /^rt: [a-z0-9_]+ proved \(/ { tell("crates proved", ++proved, crates) }
+        /^rt: [a-z0-9_]+ (proved|is kept)/ || /^logic=proved/ { tell("crates proved", ++proved, crates) }
         /^rt: must-fail .*: refused/ { tell("wrong edits refused", ++refused, edits) }
         END { if (again && proved + refused) printf "\n" >"/dev/stderr" }'
 }
@@ -47,46 +47,40 @@ need_kit() {
     exit 1
 }
 
-# Proves the crate $1 and builds it by `rt $2` as the file $3, if that was never built, or if a file of the crates is newer. Ends the command with status 1 if
-# that fails; $4 says what it is.
+# Proves the crate $1 and builds it by `rt $2`, and puts what that made, the file $3 of the crate's out/, there as the file $4, if that was never built, or if
+# a file of the crates is newer. Ends the command with status 1 if that fails; $5 says what it is. A program that is built is run once, on nothing.
 build() {
     need_kit
-    if [ -f "$3" ] && [ -z "$(find "$here/crates" "$here/crates.txt" -newer "$3" -print 2>/dev/null | head -n 1)" ]; then
+    if [ -f "$4" ] && [ -z "$(find "$here/crates" -name out -prune -o -type f -newer "$4" -print 2>/dev/null | head -n 1)" ] && [ ! "$here/crates.txt" -nt "$4" ]; then
         return
     fi
     kept=$(mktemp) || exit 1
     say "proving and building $1 first; this takes some minutes"
-    { (cd "$here" && rt "$2" "$1") 2>&1 </dev/null; echo "$?" >"$kept.status"; } | progress "$kept" "$(crates_below "$1" | wc -l)"
+    { (cd "$here/crates/$1" && rt check && { [ "$2" = check ] || rt "$2" || [ "$2" = run ]; } && [ -f "out/$3" ]) 2>&1 </dev/null; echo "$?" >"$kept.status"; } |
+        progress "$kept" "$(crates_below "$1" | wc -l)"
     built=$(cat "$kept.status")
     [ "$built" -eq 0 ] || tail -n 20 "$kept" >&2
     rm -f "$kept" "$kept.status"
     if [ "$built" -ne 0 ]; then
-        say "the $4 $1 could not be proved and built"
+        say "the $5 $1 could not be proved and built"
         exit 1
     fi
-    touch "$3"
+    mkdir -p "$(dirname "$4")" && cp "$here/crates/$1/out/$3" "$4" && touch "$4" || exit 1
 }
 
 build_program() {
-    build "$1" check "$here/target/bin/$1" program
+    build "$1" run "$1" "$here/target/bin/$1" program
 }
 
+# The calls from C stand in the library $1, and in $1_c as functions that C links.
 build_library() {
-    build "$1" staticlib "$here/target/staticlib/lib$1.a" library
+    build "$1_c" lib "lib$1_c.a" "$here/target/staticlib/lib$1.a" library
 }
 
-# Finds the kit: its compiler and C library, $tools, and its emulator, which it has on Arm alone.
+# Finds the kit: its compiler and C library, $tools.
 find_tools() {
-    kit=$(dirname "$(dirname "$(rt doc)")")
-    tools=$kit/on/$(uname -m)/toolchain
-    emulator=$tools/bin/qemu-x86_64
-    [ -x "$emulator" ] || emulator=
-}
-
-# Runs a program that the kit linked, with the arguments that follow; on Arm under the kit's emulator.
-run_linked() {
-    find_tools
-    $emulator "$tools/lib/ld-linux-x86-64.so.2" --library-path "$tools/lib" "$@"
+    kit=$(dirname "$(rt doc)")
+    tools=$kit/toolchain
 }
 
 # Runs the program $1, which build_program built, with the arguments that follow. A program has no status of its own: what it says on standard error is a
@@ -95,7 +89,7 @@ run_program() {
     program=$here/target/bin/$1
     shift
     said=$(mktemp) || exit 1
-    run_linked "$program" "$@" 2>"$said"
+    "$program" "$@" 2>"$said"
     status=$?
     if [ -s "$said" ]; then
         cat "$said" >&2
@@ -119,7 +113,7 @@ link_c() {
     find_tools
     to=$1
     shift
-    linked=$("$kit/on/$(uname -m)/bin/rattle-link" --target x86_64-unknown-linux-gnu --toolchain "$tools" -o "$to" "$@" 2>&1) && return
+    linked=$("$kit/bin/rattle-link" --target x86_64-unknown-linux-gnu --toolchain "$tools" -o "$to" "$@" 2>&1) && return
     echo "$linked" >&2
     return 1
 }

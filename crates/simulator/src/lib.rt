@@ -1,4 +1,5 @@
 // The calls of the C simulator: numbers and lent byte areas alone. Whatever is kept between calls stands in the state area, as an image.
+// The crate `simulator_c` has them as functions that C links.
 // Each call gives 0 or more, or minus its refusal; refused, it changes no byte.
 #![tactic(auto)]
 
@@ -19,8 +20,7 @@ use state_image::{IMAGE, image_in, put_image, read_area};
 const AREA: usize = 4096;
 
 // Fills the state area with the image of the state before the first fresh start, its area all zero. 0, or -1 for an area of another size.
-#[unsafe(no_mangle)]
-pub extern "C" fn plorrettix_start(state: &mut [u8]) -> i64
+pub fn plorrettix_start(state: &mut [u8]) -> i64
     ensures value { result ≡ (start_call state.old).result }
     ensures state_after { state.new ≡ (start_call state.old).state }
 {
@@ -35,8 +35,7 @@ pub extern "C" fn plorrettix_start(state: &mut [u8]) -> i64
 
 // Answers one frame, a line without its line feed: the length of the answer line, which stands at the front of the answer area, line feed last. The state
 // area has the image of the state after it. -16 for a state area that is no image of a sound state, then -1 for an answer area under 10,249 bytes.
-#[unsafe(no_mangle)]
-pub extern "C" fn plorrettix_answer(state: &mut [u8], frame: &[u8], answer: &mut [u8]) -> i64
+pub fn plorrettix_answer(state: &mut [u8], frame: &[u8], answer: &mut [u8]) -> i64
     ensures value { result ≡ (answer_call state.old frame.now answer.old).result }
     ensures state_after { state.new ≡ (answer_call state.old frame.now answer.old).state }
     ensures answer_after { answer.new ≡ (answer_call state.old frame.now answer.old).answer }
@@ -72,8 +71,7 @@ fn result_of(refusal: u8, value: u8) -> i64
 
 // Seals a block: five bytes a word, highest first, the data words and, if a field is chosen (4 sequence, 8 check sums), five bytes more, which become the
 // check word. 0, or -1, -2, -13.
-#[unsafe(no_mangle)]
-pub extern "C" fn plorrettix_seal(block: &mut [u8], fields: u32, number: u32) -> i64
+pub fn plorrettix_seal(block: &mut [u8], fields: u32, number: u32) -> i64
     ensures value { result ≡ result_of (seal_refusal block.old fields number) 0 }
     ensures block_after { block.new ≡ sealed_bytes block.old fields number }
 {
@@ -82,8 +80,7 @@ pub extern "C" fn plorrettix_seal(block: &mut [u8], fields: u32, number: u32) ->
 }
 
 // Checks a block as delivered, check word last if a field is chosen: the error, 0 for none. What was found goes to the front of `found`. -1, -2, -13.
-#[unsafe(no_mangle)]
-pub extern "C" fn plorrettix_check(block: &[u8], fields: u32, number: u32, found: &mut [u8]) -> i64
+pub fn plorrettix_check(block: &[u8], fields: u32, number: u32, found: &mut [u8]) -> i64
     ensures value { result ≡ result_of (verdict_on block.now fields number (length found.old)).refusal (verdict_on block.now fields number (length found.old)).error }
     ensures found_after { found.new ≡ found_after block.now fields number found.old }
 {

@@ -21,13 +21,13 @@ returns-then-not-is_digit c = let text = c.args.text.now in
     let i = c.loop-i.i in
     let s = c.digit_from-i.result in
     let h : i < length text = omega arith in
-    let none : is_digit (get_or text i 0) ≡ false = sym c.is_digit.ensures ∙ not-true _ c.if-not-is_digit.true in
+    let none : is_digit (get_or text i 0) ≡ false = sym c.is_digit.ensures ∙ c.if-not-is_digit.true in
     let value = sym (value_stop text i h c.loop-i.v none) ∙ c.loop-i.invariant.2 in
     let ends : i ≡ s + digits (drop s text) = omega (arith, digits_stop text i h none, c.loop-i.invariant.3) in record { value = next_read text at s c.loop-i.v i c.digit_from-i.ensures.0 ends value; at_le_at = (omega (arith, c.digit_from-i.ensures.1, c.loop-i.invariant.0), next_later text at s c.loop-i.v i c.digit_from-i.ensures.0 ends, omega arith) }
 
 pub with_digit-v-requires : goal.with_digit-v-requires
 with_digit-v-requires c = let text = c.args.text.now in
-    let some : is_digit (get_or text c.loop-i.i 0) ≡ true = sym c.is_digit.ensures ∙ not-false _ c.if-not-is_digit.false in
+    let some : is_digit (get_or text c.loop-i.i 0) ≡ true = sym c.is_digit.ensures ∙ c.if-not-is_digit.false in
     let d = get_or text c.loop-i.i 0 in
     (leb-true 48 d (and_left (leb 48 d) (leb d 57) some), leb-true d 57 (and_right (leb 48 d) (leb d 57) some))
 
@@ -35,7 +35,7 @@ pub loop-i-preserved : goal.loop-i-preserved
 loop-i-preserved c = let text = c.args.text.now in
     let i = c.loop-i.i in
     let h : i < length text = omega arith in
-    let some : is_digit (get_or text i 0) ≡ true = sym c.is_digit.ensures ∙ not-false _ c.if-not-is_digit.false in (
+    let some : is_digit (get_or text i 0) ≡ true = sym c.is_digit.ensures ∙ c.if-not-is_digit.false in (
       omega (arith, c.loop-i.invariant.0),
       omega arith,
       ap (λ (v : ℕ). value_from v (drop (i + 1) text)) c.with_digit-v.ensures ∙ sym (value_go text i h c.loop-i.v some) ∙ c.loop-i.invariant.2,

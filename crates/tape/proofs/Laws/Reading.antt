@@ -13,12 +13,12 @@ use Rattle.area.specs.Lists.{all_of}
 use Rattle.area.specs.Parts.{is_word}
 use Rattle.area.proofs.Walks.{and_left, and_right, true_not_false}
 use Rattle.tape.specs.declared.Next.{Next}
-use Rattle.tape.specs.declared.Next.TheVariants.{End, Mark, Block, Fault}
+use Rattle.tape.specs.declared.Next.TheVariants.{More, End, Mark, Block, Fault}
 use Rattle.tape.specs.Lengths.{length_at, length_bytes, padded, record_size}
 use Rattle.tape.specs.Characters.{words_from, data_bytes}
 use Rattle.tape.specs.Faults.{differ_at, fault_of}
 use Rattle.tape.specs.Records.{record_of, record_at, next_in}
-use Rattle.tape.specs.Reels.{Piece, Words, TapeMark, Ending, Ended, Faulty, Reel, onto, read_next, read_on, read_all, reel_of}
+use Rattle.tape.specs.Reels.{Piece, Words, TapeMark, Ending, Open, Ended, Faulty, Reel, onto, read_next, read_on, read_all, reel_of}
 use Rattle.tape.specs.Images.{is_byte, Holds, IsImage, nothing, Stops, IsReel, is_piece, image_bytes}
 use Rattle.tape.specs.Images as images
 use Rattle.tape.specs.Writing.{block_bytes, is_sized}
@@ -144,6 +144,7 @@ image_then back (suc k) xs rs at (images.block {bs} {ps} held ws some most holds
 -- after its records a reel has what stands there
 stop_read : (back : List ℕ) (at : ℕ) (e : Ending) → Stops back at e → read_all true back at ≡ record { pieces = []; ending = e; place = at; left = [] }
 unfolding read_all read_on read_next next_in
+stop_read back at Open none = elim none [ ]
 stop_read back at Ended (images.end z) = ap (λ (l : List ℕ). read_all true l at) z ∙ ap (read_next (read_on 0 true) [] at) (next_end at)
 stop_read back at (Faulty n) (images.fault m e) = ap (read_next (read_on (length back) true) back at) e
 
@@ -282,6 +283,7 @@ read_reel (suc k) bs at good h = go (λ n some room. read_reel k (drop n bs)) (r
     Rest = (n : ℕ) → 1 ≤ n → n ≤ length bs → (place : ℕ) → all_of is_byte (drop n bs) ≡ true → length (drop n bs) < k → IsReel (drop n bs) place (read_on k true (drop n bs) place)
 
     go : Rest → (x : Next) → Seen bs at x → IsReel bs at (read_next (read_on k true) bs at x)
+    go rec More none = elim none [ ]
     go rec End (end z e) = nothing_read bs at Ended (images.end (no_bytes bs z))
     go rec (Fault n p) (fault m e) = nothing_read bs at (Faulty n) (images.fault n e)
     go rec (Mark n) (mark room e) =

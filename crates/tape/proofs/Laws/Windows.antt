@@ -29,6 +29,7 @@ module _ (ended : Bool) where
       Rest = (n : ℕ) → 1 ≤ n → (place : ℕ) → length (drop n bs) < k → length (drop n bs) < j → read_on k ended (drop n bs) place ≡ read_on j ended (drop n bs) place
 
       found : Rest → (x : Next) → Seen bs at x → read_next (read_on k ended) bs at x ≡ read_next (read_on j ended) bs at x
+      found rec More none = elim none [ ]
       found rec End (end z e) = refl
       found rec (Fault n p) (fault m e) = refl
       found rec (Mark n) (mark room e) =
@@ -98,6 +99,7 @@ module _ (rest : List ℕ) where
 
       sure : Rest → (x : Next) → Seen bs at x → read_next (read_on j true) (bs ++ rest) at x
           ≡ and_then later (read_next (read_on k false) bs at x).ending (read_next (read_on k false) bs at x)
+      sure rec More none = elim none [ ]
       sure rec End (end z e) = refl
       sure rec (Fault n p) (fault m e) = refl
       sure rec (Mark n) (mark room e) =
@@ -162,6 +164,7 @@ small (suc k) bs at h = go (dec_lt (length bs) largest) (λ n some room. small k
     Rest = (n : ℕ) → 1 ≤ n → n ≤ length bs → (place : ℕ) → length (drop n bs) < k → length (read_on k false (drop n bs) place).left < largest
 
     sure : Rest → (x : Next) → Seen bs at x → length (read_next (read_on k false) bs at x).left < largest
+    sure rec More none = elim none [ ]
     sure rec End (end z e) = omega arith
     sure rec (Fault n p) (fault m e) = omega arith
     sure rec (Mark n) (mark room e) = rec (n - at) (omega arith) (omega arith) n (omega (arith, length-drop (n - at) bs))

@@ -8,8 +8,8 @@ returns-then-area-at c = let a = c.args in
 
 pub returns-then-area-at-2 : goal.returns-then-area-at-2
 returns-then-area-at-2 c = let a = c.args in
-    sealed_rest a.n a.sequence a.check a.number a.at a.w a.area.now c.seal.new.0 c.if-area-at.false c.if-area-at-2.true c.seal.ensures.block_after
+    sealed_rest a.n a.sequence a.check a.number a.at a.w a.area.now c.seal.new.block c.if-area-at.false c.if-area-at-2.true c.seal.ensures.block_after
 
 pub returns : goal.returns
 returns c = let a = c.args in
-    sealed_whole a.n a.sequence a.check a.number a.at a.w a.area.now c.seal-2.new.0 c.if-area-at.false c.if-area-at-2.false c.seal-2.ensures.block_after
+    sealed_whole a.n a.sequence a.check a.number a.at a.w a.area.now c.seal-2.new.block c.if-area-at.false c.if-area-at-2.false c.seal-2.ensures.block_after

@@ -33,11 +33,11 @@ loop-i-smaller c = omega arith
 
 pub loop-i-preserved : goal.loop-i-preserved
 loop-i-preserved c = let x = c in (
-      omega arith,
-      length-set x.loop-i.units x.loop-i.i _ ∙ x.loop-i.invariant.1,
-      rw c.idle_unit-u.ensures
-          (fresh_step x.args.mask unit_count x.loop-i.units _ x.loop-i.i x.loop-i.invariant.1 (omega arith) x.loop-i.invariant.2),
-    )
+  omega arith,
+  length-set x.loop-i.units x.loop-i.i _ ∙ x.loop-i.invariant.1,
+  rw c.idle_unit-u.ensures
+      (fresh_step x.args.mask unit_count x.loop-i.units _ x.loop-i.i x.loop-i.invariant.1 (omega arith) x.loop-i.invariant.2),
+)
 
 pub returns : goal.returns
 unfolding fresh_of fresh_with

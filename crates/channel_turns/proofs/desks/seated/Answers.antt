@@ -11,8 +11,8 @@ returns-then-u-ge-UNITS c = rw (le-ltb c.args.u unit_count c.if-u-ge-UNITS.true)
 pub returns : goal.returns
 unfolding seated_at
 returns c = rw (
-      lt-ltb c.args.u unit_count c.if-u-ge-UNITS.false,
-      c.with_bit-working.ensures,
-      c.with_bit-priority.ensures,
-      c.with_bit-ordinary.ensures,
-    )
+  lt-ltb c.args.u unit_count c.if-u-ge-UNITS.false,
+  c.with_bit-working.ensures,
+  c.with_bit-priority.ensures,
+  c.with_bit-ordinary.ensures,
+)

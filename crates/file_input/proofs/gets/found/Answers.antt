@@ -8,4 +8,4 @@ returns-then-is_side c = rw (← c.oldest-k.ensures, ← c.is_side.ensures, c.if
 
 pub returns : goal.returns
 unfolding found
-returns c = rw (← c.oldest-k.ensures, ← c.is_side.ensures, c.if-is_side.false) c.Found-None.ensures
+returns c = rw (← c.oldest-k.ensures, ← c.is_side.ensures, c.if-is_side.false) c.found_none.ensures

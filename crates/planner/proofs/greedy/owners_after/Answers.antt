@@ -10,7 +10,7 @@ returns-then-not-opens c = let at-args = c.args in
     let at-file-of = c.file_of-v in
     let at-opens = c.opens in
     let at-if1 = c.if-not-opens in
-    c.freed.ensures ∙ after_closing at-args.owner at-args.e _ at-file-of.ensures.0 (sym at-opens.ensures ∙ not-true _ at-if1.true)
+    c.freed.ensures ∙ after_closing at-args.owner at-args.e _ at-file-of.ensures.0 (sym at-opens.ensures ∙ at-if1.true)
 
 pub returns-then-e-lt-DOUBLE : goal.returns-then-e-lt-DOUBLE
 returns-then-e-lt-DOUBLE c = let at-taken = c.taken-one in
@@ -26,4 +26,4 @@ returns c = let at-taken = c.taken-one in
     let at-if1 = c.if-not-opens in
     let at-if2 = c.if-e-lt-DOUBLE in
     c.taken.ensures
-    ∙ (ap (taken _) at-taken.ensures ∙ after_double at-args.owner at-args.e _ at-file-of.ensures.0 (sym at-opens.ensures ∙ not-false _ at-if1.false) at-if2.false)
+    ∙ (ap (taken _) at-taken.ensures ∙ after_double at-args.owner at-args.e _ at-file-of.ensures.0 (sym at-opens.ensures ∙ at-if1.false) at-if2.false)

@@ -10,10 +10,10 @@ pub returns-then-not-good : goal.returns-then-not-good
 returns-then-not-good c = let both = (let at-is-good = c.is_good-good in
     let at-judge = c.judge in
     let at-if1 = c.if-not-good in
-    told (planned_refused _ _ c.refused.result c.refused.ensures (sym (at-is-good.ensures ∙ ap is_good at-judge.ensures) ∙ not-true _ at-if1.true))) in record { refusal_value = both.0; size_value = both.1 }
+    told (planned_refused _ _ c.refused.result c.refused.ensures (sym (at-is-good.ensures ∙ ap is_good at-judge.ensures) ∙ at-if1.true))) in record { refusal_value = both.0; size_value = both.1 }
 
 pub made-p-requires : goal.made-p-requires
-made-p-requires c = list_fits _ _ (sym (c.is_good-good.ensures ∙ ap is_good c.judge.ensures) ∙ not-false _ c.if-not-good.false)
+made-p-requires c = list_fits _ _ (sym (c.is_good-good.ensures ∙ ap is_good c.judge.ensures) ∙ c.if-not-good.false)
 
 pub returns-then-limit-p : goal.returns-then-limit-p
 returns-then-limit-p c = let both = (let at-is-good = c.is_good-good in
@@ -21,11 +21,11 @@ returns-then-limit-p c = let both = (let at-is-good = c.is_good-good in
     let at-if1 = c.if-not-good in
     let at-made = c.made-p in
     let at-if2 = c.if-limit-p in
-    told (planned_wanting _ _ c.refused-then-limit-p.result c.refused-then-limit-p.ensures (sym (at-is-good.ensures ∙ ap is_good at-judge.ensures) ∙ not-false _ at-if1.false) at-made.ensures.1 at-if2.true)) in record { refusal_value = both.0; size_value = both.1 }
+    told (planned_wanting _ _ c.refused-then-limit-p.result c.refused-then-limit-p.ensures (sym (at-is-good.ensures ∙ ap is_good at-judge.ensures) ∙ at-if1.false) at-made.ensures.1 at-if2.true)) in record { refusal_value = both.0; size_value = both.1 }
 
 pub returns : goal.returns
 returns c = let both = (let at-made = c.made-p in
     let at-is-good = c.is_good-good in
     let at-judge = c.judge in
     let at-if1 = c.if-not-good in
-    told (planned_proposed _ _ at-made.result (sym (at-is-good.ensures ∙ ap is_good at-judge.ensures) ∙ not-false _ at-if1.false) at-made.ensures c.if-limit-p.false)) in record { refusal_value = both.0; size_value = both.1 }
+    told (planned_proposed _ _ at-made.result (sym (at-is-good.ensures ∙ ap is_good at-judge.ensures) ∙ at-if1.false) at-made.ensures c.if-limit-p.false)) in record { refusal_value = both.0; size_value = both.1 }

@@ -10,7 +10,7 @@ use Rattle.planner.proofs.greedy.wanted.Goals as goal
 pub returns-then-not-opens : goal.returns-then-not-opens
 returns-then-not-opens c = let at-args = c.args in
     let at-opens = c.opens in
-    (wants_closing at-args.owner at-args.e (sym at-opens.ensures ∙ not-true _ c.if-not-opens.true), search rules)
+    (wants_closing at-args.owner at-args.e (sym at-opens.ensures ∙ c.if-not-opens.true), search rules)
 
 pub returns-then-e-lt-DOUBLE : goal.returns-then-e-lt-DOUBLE
 returns-then-e-lt-DOUBLE c = let at-args = c.args in
@@ -26,6 +26,6 @@ returns c = let at-args = c.args in
     let at-opens = c.opens in
     let at-if1 = c.if-not-opens in
     let at-if2 = c.if-e-lt-DOUBLE in (
-      c.larger.ensures ∙ wants_double at-args.owner at-args.e _ at-file-of.ensures.0 _ _ at-first-free.ensures.0 (at-first-free2.ensures.0 ∙ ap first_free at-taken.ensures) (sym at-opens.ensures ∙ not-false _ at-if1.false) at-if2.false,
+      c.larger.ensures ∙ wants_double at-args.owner at-args.e _ at-file-of.ensures.0 _ _ at-first-free.ensures.0 (at-first-free2.ensures.0 ∙ ap first_free at-taken.ensures) (sym at-opens.ensures ∙ at-if1.false) at-if2.false,
       omega (arith, at-first-free.ensures.1, at-first-free2.ensures.1, c.larger.ensures),
     )

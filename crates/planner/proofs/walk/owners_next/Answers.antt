@@ -11,7 +11,7 @@ returns-then-not-opens c = let at-args = c.args in
     let at-opens = c.opens in
     let at-if1 = c.if-not-opens in
     c.release.ensures
-    ∙ next_closing _ at-args.e _ (ap (λ f. f + 1) at-file-of.ensures.0) _ (sym at-opens.ensures ∙ not-true _ at-if1.true)
+    ∙ next_closing _ at-args.e _ (ap (λ f. f + 1) at-file-of.ensures.0) _ (sym at-opens.ensures ∙ at-if1.true)
 
 pub returns-then-rows-n : goal.returns-then-rows-n
 returns-then-rows-n c = let at-args = c.args in
@@ -20,7 +20,7 @@ returns-then-rows-n c = let at-args = c.args in
     let at-if1 = c.if-not-opens in
     let at-if2 = c.if-rows-n in
     c.claim.ensures
-    ∙ next_missing _ at-args.e _ (ap (λ f. f + 1) at-file-of.ensures.0) _ _ (sym at-opens.ensures ∙ not-false _ at-if1.false) at-if2.true
+    ∙ next_missing _ at-args.e _ (ap (λ f. f + 1) at-file-of.ensures.0) _ _ (sym at-opens.ensures ∙ at-if1.false) at-if2.true
 
 pub returns : goal.returns
 returns c = let at-args = c.args in
@@ -28,4 +28,4 @@ returns c = let at-args = c.args in
     let at-opens = c.opens in
     let at-if1 = c.if-not-opens in
     c.claim-2.ensures
-    ∙ next_row at-args.owner at-args.e _ (ap (λ f. f + 1) at-file-of.ensures.0) at-args.rows.now at-args.n (sym at-opens.ensures ∙ not-false _ at-if1.false)
+    ∙ next_row at-args.owner at-args.e _ (ap (λ f. f + 1) at-file-of.ensures.0) at-args.rows.now at-args.n (sym at-opens.ensures ∙ at-if1.false)

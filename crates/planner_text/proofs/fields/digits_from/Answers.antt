@@ -20,7 +20,7 @@ returns-then-not-is_digit c = let at-args = c.args in
     let at-loop = c.loop-i in
     let at-loop-test = c.loop-i-test in
     let at-is-digit = c.is_digit in (
-      sym (digits_stop at-args.field.now at-loop.i _ at-loop-test.true (sym at-is-digit.ensures ∙ not-true _ c.if-not-is_digit.true)) ∙ at-loop.invariant.2,
+      sym (digits_stop at-args.field.now at-loop.i _ at-loop-test.true (sym at-is-digit.ensures ∙ c.if-not-is_digit.true)) ∙ at-loop.invariant.2,
       search rules,
     )
 
@@ -29,7 +29,7 @@ with_digit-v-requires c = let at-args = c.args in
     let at-loop = c.loop-i in
     let at-is-digit = c.is_digit in
     let d = get_or at-args.field.now at-loop.i 0 in
-    let some : digit d ≡ true = sym at-is-digit.ensures ∙ not-false _ c.if-not-is_digit.false in
+    let some : digit d ≡ true = sym at-is-digit.ensures ∙ c.if-not-is_digit.false in
     (at-loop.invariant.1, leb-true 48 d (and_left (leb 48 d) (leb d 57) some), leb-true d 57 (and_right (leb 48 d) (leb d 57) some))
 
 pub loop-i-preserved : goal.loop-i-preserved
@@ -40,7 +40,7 @@ loop-i-preserved c = let at-loop = c.loop-i in
     let at-if1 = c.if-not-is_digit in (
       omega arith,
       c.with_digit-v.ensures.1,
-      ap (λ v. digits_from v (drop (at-loop.i + 1) at-args.field.now)) c.with_digit-v.ensures.0 ∙ (sym (digits_go at-args.field.now at-loop.i _ at-loop-test.true (sym at-is-digit.ensures ∙ not-false _ at-if1.false)) ∙ at-loop.invariant.2),
+      ap (λ v. digits_from v (drop (at-loop.i + 1) at-args.field.now)) c.with_digit-v.ensures.0 ∙ (sym (digits_go at-args.field.now at-loop.i _ at-loop-test.true (sym at-is-digit.ensures ∙ at-if1.false)) ∙ at-loop.invariant.2),
     )
 
 pub returns : goal.returns

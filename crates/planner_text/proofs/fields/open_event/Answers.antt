@@ -6,14 +6,14 @@ use Rattle.planner_text.proofs.fields.open_event.Goals as goal
 
 pub returns-then-not-is_open : goal.returns-then-not-is_open
 unfolding open_event
-returns-then-not-is_open c = rw (sym c.is_open.ensures ∙ not-true _ c.if-not-is_open.true)
+returns-then-not-is_open c = rw (sym c.is_open.ensures ∙ c.if-not-is_open.true)
 
 pub returns-then-is_single : goal.returns-then-is_single
 unfolding open_event
 returns-then-is_single c = let at-is-open = c.is_open in
     let at-if1 = c.if-not-is_open in
     let at-is-single = c.is_single in
-    rw (sym at-is-open.ensures ∙ not-false _ at-if1.false, sym at-is-single.ensures ∙ c.if-is_single.true)
+    rw (sym at-is-open.ensures ∙ at-if1.false, sym at-is-single.ensures ∙ c.if-is_single.true)
 
 pub returns-then-is_double : goal.returns-then-is_double
 unfolding open_event
@@ -22,7 +22,7 @@ returns-then-is_double c = let at-is-open = c.is_open in
     let at-is-single = c.is_single in
     let at-if2 = c.if-is_single in
     let at-is-double = c.is_double in
-    rw (sym at-is-open.ensures ∙ not-false _ at-if1.false, sym at-is-single.ensures ∙ at-if2.false, sym at-is-double.ensures ∙ c.if-is_double.true)
+    rw (sym at-is-open.ensures ∙ at-if1.false, sym at-is-single.ensures ∙ at-if2.false, sym at-is-double.ensures ∙ c.if-is_double.true)
 
 pub returns : goal.returns
 unfolding open_event
@@ -31,4 +31,4 @@ returns c = let at-is-open = c.is_open in
     let at-is-single = c.is_single in
     let at-if2 = c.if-is_single in
     let at-is-double = c.is_double in
-    rw (sym at-is-open.ensures ∙ not-false _ at-if1.false, sym at-is-single.ensures ∙ at-if2.false, sym at-is-double.ensures ∙ c.if-is_double.false)
+    rw (sym at-is-open.ensures ∙ at-if1.false, sym at-is-single.ensures ∙ at-if2.false, sym at-is-double.ensures ∙ c.if-is_double.false)

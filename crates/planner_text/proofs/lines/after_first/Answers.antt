@@ -8,4 +8,4 @@ pub returns-then-text-eq0 : goal.returns-then-text-eq0
 returns-then-text-eq0 c = (first_none _ c.if-text-eq0.true, search rules)
 
 pub returns : goal.returns
-returns c = (first_after c.args.text.now _ (omega arith) c.after_Line.ensures.0, c.after_Line.ensures.2)
+returns c = (first_after c.args.text.now _ (omega arith) c.after_line.ensures.0, c.after_line.ensures.2)

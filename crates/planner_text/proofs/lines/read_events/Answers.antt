@@ -10,11 +10,11 @@ use Rattle.planner_text.proofs.lines.read_events.Goals as goal
 
 pub loop-i-init : goal.loop-i-init
 loop-i-init c = let at-args = c.args in (
-      search rules,
-      refl,
-      search rules,
-      put_start_lem event_of at-args.text.now at-args.events.now at-args.events.now at-args.at 0 (length at-args.events.now),
-    )
+  search rules,
+  refl,
+  search rules,
+  put_start_lem event_of at-args.text.now at-args.events.now at-args.events.now at-args.at 0 (length at-args.events.now),
+)
 
 pub returns-then-events-n : goal.returns-then-events-n
 returns-then-events-n c = let at-args = c.args in
@@ -27,10 +27,10 @@ loop-i-preserved c = let at-loop = c.loop-i in
     let long = length-set at-loop.events at-loop.n said.result in (
       omega (arith, long),
       long ∙ at-loop.invariant.1,
-      c.after_Line.ensures.2,
-      put_line event_of text at-loop.events _ at-loop.i at-loop.n c.after_Line.result _ said.result
+      c.after_line-i.ensures.2,
+      put_line event_of text at-loop.events _ at-loop.i at-loop.n c.after_line-i.result _ said.result
           c.loop-i-test.true c.if-events-n.false at-loop.invariant.1
-          (said.ensures ∙ ap event_of c.first.ensures) c.after_Line.ensures.0 at-loop.invariant.3,
+          (said.ensures ∙ ap event_of c.first.ensures) c.after_line-i.ensures.0 at-loop.invariant.3,
     )
 
 pub returns : goal.returns

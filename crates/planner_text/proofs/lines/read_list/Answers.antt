@@ -12,7 +12,8 @@ returns c = let at-limit-of = c.limit_of-limit in
     let at_first = c.first in
     let at-args = c.args in
     let at-read-events = c.read_events-count in
-    let at-after-first = c.after_first-at in (
-      at-limit-of.ensures ∙ ap limit_of (at_first.ensures ∙ first_line_lem at-args.text.now),
-      (at-read-events.ensures.events_after ∙ ap (λ ls. take (length at-args.events.now) (map event_of ls)) at-after-first.ensures.0, at-read-events.ensures.upper_bound),
-    )
+    let at-after-first = c.after_first-at in record {
+      limit_value = at-limit-of.ensures ∙ ap limit_of (at_first.ensures ∙ first_line_lem at-args.text.now);
+      events_after = at-read-events.ensures.events_after ∙ ap (λ ls. take (length at-args.events.now) (map event_of ls)) at-after-first.ensures.0;
+      count_in_bounds = at-read-events.ensures.upper_bound;
+    }

@@ -10,11 +10,11 @@ use Rattle.planner_text.proofs.lines.read_rows.Goals as goal
 
 pub loop-i-init : goal.loop-i-init
 loop-i-init c = let at-args = c.args in (
-      search rules,
-      refl,
-      search rules,
-      put_start_lem row_of at-args.text.now at-args.rows.now at-args.rows.now at-args.at 0 (length at-args.rows.now),
-    )
+  search rules,
+  refl,
+  search rules,
+  put_start_lem row_of at-args.text.now at-args.rows.now at-args.rows.now at-args.at 0 (length at-args.rows.now),
+)
 
 pub returns-then-rows-n : goal.returns-then-rows-n
 returns-then-rows-n c = let at-args = c.args in
@@ -27,10 +27,10 @@ loop-i-preserved c = let at-loop = c.loop-i in
     let long = length-set at-loop.rows at-loop.n said.result in (
       omega (arith, long),
       long ∙ at-loop.invariant.1,
-      c.after_Line.ensures.2,
-      put_line row_of text at-loop.rows _ at-loop.i at-loop.n c.after_Line.result _ said.result
+      c.after_line-i.ensures.2,
+      put_line row_of text at-loop.rows _ at-loop.i at-loop.n c.after_line-i.result _ said.result
           c.loop-i-test.true c.if-rows-n.false at-loop.invariant.1
-          (said.ensures ∙ ap row_of c.first.ensures) c.after_Line.ensures.0 at-loop.invariant.3,
+          (said.ensures ∙ ap row_of c.first.ensures) c.after_line-i.ensures.0 at-loop.invariant.3,
     )
 
 pub returns : goal.returns

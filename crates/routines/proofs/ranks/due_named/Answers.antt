@@ -7,12 +7,12 @@ use Rattle.routines.proofs.ranks.due_named.Goals as goal
 
 pub returns-then-not-named : goal.returns-then-not-named
 unfolding due_named
-returns-then-not-named c = let no : c.args.named ≡ false = not-true _ c.if-not-named.true in rw (no) c.nothing_due.ensures
+returns-then-not-named c = let no : c.args.named ≡ false = c.if-not-named.true in rw (no) c.nothing_due.ensures
 
 pub returns-then-priority-gt-HIGHEST : goal.returns-then-priority-gt-HIGHEST
 unfolding due_named
-returns-then-priority-gt-HIGHEST c = let yes : c.args.named ≡ true = not-false _ c.if-not-named.false in rw (yes, lt-leb _ _ c.if-priority-gt-HIGHEST.true) c.nothing_due-then-priority-gt-HIGHEST.ensures
+returns-then-priority-gt-HIGHEST c = let yes : c.args.named ≡ true = c.if-not-named.false in rw (yes, lt-leb _ _ c.if-priority-gt-HIGHEST.true) c.nothing_due-then-priority-gt-HIGHEST.ensures
 
 pub returns : goal.returns
 unfolding due_named
-returns c = let yes : c.args.named ≡ true = not-false _ c.if-not-named.false in rw (yes, le-leb _ _ c.if-priority-gt-HIGHEST.false)
+returns c = let yes : c.args.named ≡ true = c.if-not-named.false in rw (yes, le-leb _ _ c.if-priority-gt-HIGHEST.false)

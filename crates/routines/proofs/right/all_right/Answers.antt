@@ -20,7 +20,7 @@ pub bounds-pushed-i : goal.bounds-pushed-i
 bounds-pushed-i c = omega arith
 
 pub returns-then-not-program_right : goal.returns-then-not-program_right
-returns-then-not-program_right c = let h : c.loop-i.i < length c.args.pushed = omega arith in all_hit _ _ _ _ _ h c.loop-i.invariant.2 (sym c.program_right.ensures ∙ not-true _ c.if-not-program_right.true)
+returns-then-not-program_right c = let h : c.loop-i.i < length c.args.pushed = omega arith in all_hit _ _ _ _ _ h c.loop-i.invariant.2 (sym c.program_right.ensures ∙ c.if-not-program_right.true)
 
 pub overflow_add-i : goal.overflow_add-i
 overflow_add-i c = omega arith
@@ -29,7 +29,7 @@ pub loop-i-smaller : goal.loop-i-smaller
 loop-i-smaller c = omega arith
 
 pub loop-i-preserved : goal.loop-i-preserved
-loop-i-preserved c = let h : c.loop-i.i < length c.args.pushed = omega arith in (omega arith, c.loop-i.invariant.1, all_miss _ _ _ _ _ h c.loop-i.invariant.2 (sym c.program_right.ensures ∙ not-false _ c.if-not-program_right.false))
+loop-i-preserved c = let h : c.loop-i.i < length c.args.pushed = omega arith in (omega arith, c.loop-i.invariant.1, all_miss _ _ _ _ _ h c.loop-i.invariant.2 (sym c.program_right.ensures ∙ c.if-not-program_right.false))
 
 pub returns : goal.returns
 returns c = let h : length c.args.pushed ≤ c.loop-i.i = omega arith in all_done _ _ main_program _ _ h c.loop-i.invariant.2

@@ -1,6 +1,5 @@
 -- `all_posts` meets its contract: what is left of the posts gives the answer of the whole. Assumes nothing.
 use borrow.Author.Rules.{rules}
-use borrow.Author.Tests.{not-true, not-false}
 use mathlib.Core.Path.{refl, sym, ◌∙◌}
 use Prim.Native.Nat.{◌≤◌, ◌<◌, ◌-◌}
 use native.Mathlib.Omega.{arith}
@@ -20,7 +19,7 @@ pub bounds-units-u : goal.bounds-units-u
 bounds-units-u c = omega arith
 
 pub returns-then-not-post_right : goal.returns-then-not-post_right
-returns-then-not-post_right c = let h : c.loop-u.u < length c.args.units = omega arith in from_hit _ _ empty_post _ _ h c.loop-u.invariant.2 (rw (← c.is_declared-declared.ensures, ← c.has_request-asked.ensures) (sym c.post_right.ensures ∙ not-true _ c.if-not-post_right.true))
+returns-then-not-post_right c = let h : c.loop-u.u < length c.args.units = omega arith in from_hit _ _ empty_post _ _ h c.loop-u.invariant.2 (rw (← c.is_declared-declared.ensures, ← c.has_request-asked.ensures) (sym c.post_right.ensures ∙ c.if-not-post_right.true))
 
 pub overflow_add-u : goal.overflow_add-u
 overflow_add-u c = omega arith
@@ -29,7 +28,7 @@ pub loop-u-smaller : goal.loop-u-smaller
 loop-u-smaller c = omega arith
 
 pub loop-u-preserved : goal.loop-u-preserved
-loop-u-preserved c = let h : c.loop-u.u < length c.args.units = omega arith in (omega arith, c.loop-u.invariant.1, from_miss _ _ empty_post _ _ h c.loop-u.invariant.2 (rw (← c.is_declared-declared.ensures, ← c.has_request-asked.ensures) (sym c.post_right.ensures ∙ not-false _ c.if-not-post_right.false)))
+loop-u-preserved c = let h : c.loop-u.u < length c.args.units = omega arith in (omega arith, c.loop-u.invariant.1, from_miss _ _ empty_post _ _ h c.loop-u.invariant.2 (rw (← c.is_declared-declared.ensures, ← c.has_request-asked.ensures) (sym c.post_right.ensures ∙ c.if-not-post_right.false)))
 
 pub returns : goal.returns
 returns c = let h : length c.args.units ≤ c.loop-u.u = omega arith in from_done _ _ empty_post _ _ h c.loop-u.invariant.2

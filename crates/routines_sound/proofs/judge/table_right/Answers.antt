@@ -1,6 +1,5 @@
 -- `table_right` meets its contract: what is left of the channels gives the answer of the whole. Assumes nothing.
 use borrow.Author.Rules.{rules}
-use borrow.Author.Tests.{not-true, not-false}
 use mathlib.Core.Path.{refl, sym, ◌∙◌}
 use Prim.Native.Nat.{◌≤◌, ◌<◌, ◌-◌}
 use native.Mathlib.Omega.{arith}
@@ -21,7 +20,7 @@ bounds-posts-i c = omega arith
 
 pub returns-then-not-posts_right : goal.returns-then-not-posts_right
 unfolding posts_right
-returns-then-not-posts_right c = let h : c.loop-i.i < length c.args.posts = omega arith in from_hit _ _ no_posts _ _ h c.loop-i.invariant.2 (rw (← c.channel_in-c.ensures) (sym c.posts_right.ensures ∙ not-true _ c.if-not-posts_right.true))
+returns-then-not-posts_right c = let h : c.loop-i.i < length c.args.posts = omega arith in from_hit _ _ no_posts _ _ h c.loop-i.invariant.2 (rw (← c.channel_in-c.ensures) (sym c.posts_right.ensures ∙ c.if-not-posts_right.true))
 
 pub overflow_add-i : goal.overflow_add-i
 overflow_add-i c = omega arith
@@ -31,7 +30,7 @@ loop-i-smaller c = omega arith
 
 pub loop-i-preserved : goal.loop-i-preserved
 unfolding posts_right
-loop-i-preserved c = let h : c.loop-i.i < length c.args.posts = omega arith in (omega arith, c.loop-i.invariant.1, from_miss _ _ no_posts _ _ h c.loop-i.invariant.2 (rw (← c.channel_in-c.ensures) (sym c.posts_right.ensures ∙ not-false _ c.if-not-posts_right.false)))
+loop-i-preserved c = let h : c.loop-i.i < length c.args.posts = omega arith in (omega arith, c.loop-i.invariant.1, from_miss _ _ no_posts _ _ h c.loop-i.invariant.2 (rw (← c.channel_in-c.ensures) (sym c.posts_right.ensures ∙ c.if-not-posts_right.false)))
 
 pub returns : goal.returns
 returns c = let h : length c.args.posts ≤ c.loop-i.i = omega arith in from_done _ _ no_posts _ _ h c.loop-i.invariant.2

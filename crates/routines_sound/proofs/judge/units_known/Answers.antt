@@ -4,4 +4,4 @@ use Rattle.routines_sound.proofs.judge.units_known.Goals as goal
 
 pub returns : goal.returns
 unfolding units_known
-returns c = rw (c.unit_known-own.ensures, c.all_Known.ensures)
+returns c = rw (c.unit_known-own.ensures, c.all_known-all.ensures)

@@ -32,7 +32,7 @@ pub returns-in-Report : goal.returns-in-Report
 unfolding given_in
 returns-in-Report c = let a = c.args in
     let start = c.words_at-start.ensures in
-    let words = c.words_into.ensures in record { value = rw c.in-Report.is (words.0 ∙ ap (λ (k : ℕ). length (words_from a.line.now k (length a.room.now))) start); room_after = rw c.in-Report.is (words.1 ∙ ap (λ (k : ℕ). paste 0 (words_from a.line.now k (length a.room.now)) a.room.now) start) }
+    let words = c.words_into.ensures in record { value = rw c.in-Report.is (words.value ∙ ap (λ (k : ℕ). length (words_from a.line.now k (length a.room.now))) start); room_after = rw c.in-Report.is (words.room_after ∙ ap (λ (k : ℕ). paste 0 (words_from a.line.now k (length a.room.now)) a.room.now) start) }
 
 pub returns-in-Get : goal.returns-in-Get
 unfolding given_in

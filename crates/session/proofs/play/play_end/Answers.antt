@@ -9,8 +9,8 @@ play_part-p-requires c = c.requires.0
 
 pub returns-then-begun : goal.returns-then-begun
 unfolding IsFed IsPlayer
-returns-then-begun c = let both = end_some c.args.s c.args.area.now c.args.line c.args.room.now c.args.words.now c.args.out.now _ c.has_begun-begun.ensures c.if-begun.true _ _ _ _ _ _ (fed false c.args.s c.args.area.now c.args.line c.args.room.now c.args.words.now c.args.out.now c.requires.1 c.play_part-p.result _ _ _ _ c.play_part-p.ensures) in record { state_value = both.0; length_value = both.1; area_after = both.2; words_after = both.3; out_after = both.4; room_unchanged = both.5 }
+returns-then-begun c = let both = end_some c.args.s c.args.area.now c.args.line c.args.room.now c.args.words.now c.args.out.now _ c.has_begun-begun.ensures c.if-begun.true _ _ _ _ _ _ (fed false c.args.s c.args.area.now c.args.line c.args.room.now c.args.words.now c.args.out.now c.requires.1 c.play_part-p.result _ _ _ _ (c.play_part-p.ensures.value, (c.play_part-p.ensures.area_after, (c.play_part-p.ensures.room_after, (c.play_part-p.ensures.words_after, c.play_part-p.ensures.out_after))))) in record { state_value = both.0; length_value = both.1.0; area_after = both.1.1.0; words_after = both.1.1.1.0; out_after = both.1.1.1.1.0; room_unchanged = both.1.1.1.1.1 }
 
 pub returns : goal.returns
 unfolding IsFed
-returns c = let both = end_none c.args.s c.args.area.now c.args.line c.args.room.now c.args.words.now c.args.out.now _ c.has_begun-begun.ensures c.if-begun.false in record { state_value = both.0; length_value = both.1; area_after = both.2; words_after = both.3; out_after = both.4; room_unchanged = both.5 }
+returns c = let both = end_none c.args.s c.args.area.now c.args.line c.args.room.now c.args.words.now c.args.out.now _ c.has_begun-begun.ensures c.if-begun.false in record { state_value = both.0; length_value = both.1.0; area_after = both.1.1.0; words_after = both.1.1.1.0; out_after = both.1.1.1.1.0; room_unchanged = both.1.1.1.1.1 }

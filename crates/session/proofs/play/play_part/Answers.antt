@@ -11,11 +11,11 @@ use Rattle.session.proofs.Onwards.{step_on, onward_open, onward_still, onward_po
 use Rattle.session.proofs.play.play_part.Goals as goal
 
 pub loop-place-init : goal.loop-place-init
-loop-place-init c = (refl, omega arith, record { files = c.well_formed.1.0.1.1.1.1.1.1.0.1.0.1; channels = c.well_formed.1.0.1.1.1.1.1.0.1.0.1 }, c.requires, refl, refl, refl, refl)
+loop-place-init c = (refl, omega arith, record { files = search rules; channels = search rules }, c.requires, refl, refl, refl, refl)
 
 pub returns-then-out-end-lt-ANSWER : goal.returns-then-out-end-lt-ANSWER
 unfolding IsPlayer
-returns-then-out-end-lt-ANSWER c = let both = full_up c.args.unsound c.args.bytes.now _ (player_with c.loop-place.t c.loop-place.area c.loop-place.more c.loop-place.room c.loop-place.words c.loop-place.place c.loop-place.out c.loop-place.end) c.loop-place.invariant.0 c.if-out-end-lt-ANSWER.true in record { value = both.0; area_after = both.1; room_after = both.2; words_after = both.3; out_after = both.4 }
+returns-then-out-end-lt-ANSWER c = let both = full_up c.args.unsound c.args.bytes.now _ (player_with c.loop-place.t c.loop-place.area c.loop-place.more c.loop-place.room c.loop-place.words c.loop-place.place c.loop-place.out c.loop-place.end) c.loop-place.invariant.0 c.if-out-end-lt-ANSWER.true in record { value = both.0; area_after = both.1.0; room_after = both.1.1.0; words_after = both.1.1.1.0; out_after = both.1.1.1.1 }
 
 pub loop-place-smaller-then-not-step : goal.loop-place-smaller-then-not-step
 loop-place-smaller-then-not-step c = step_on c.loop-place.more c.args.bytes.now c.loop-place.place c.loop-place.room c.next_line-step.result c.next_line-step.ensures.value c.loop-place-test.true
@@ -24,7 +24,7 @@ pub loop-place-preserved-then-not-step : goal.loop-place-preserved-then-not-step
 loop-place-preserved-then-not-step c = let O = onward_open c.args.unsound c.args.bytes.now _ c.loop-place.t c.loop-place.area c.loop-place.more c.loop-place.room c.loop-place.words c.loop-place.place c.loop-place.out c.loop-place.end c.loop-place.invariant.0 c.loop-place.invariant.2 c.loop-place-test.true c.if-out-end-lt-ANSWER.false c.next_line-step.result _ c.next_line-step.ensures.value c.next_line-step.ensures.room_after c.loop-place.invariant.1 c.loop-place.invariant.3 c.if-not-step.true in (O.same, O.within, O.counts, O.roomy, search rules, search rules, search rules, search rules)
 
 pub slice_bounds-request_on-end-then-group-eq-REQUEST : goal.slice_bounds-request_on-end-then-group-eq-REQUEST
-slice_bounds-request_on-end-then-group-eq-REQUEST c = sym (length-take-le _ _ (front_fits _ c.loop-place.words _ _ _ c.frame_in-q.ensures.count_value.0 c.frame_in-q.ensures.count_value.1).0)
+slice_bounds-request_on-end-then-group-eq-REQUEST c = sym (length-take-le _ _ (front_fits _ c.loop-place.words _ _ _ c.frame_in-q.ensures.count_value c.frame_in-q.ensures.words_after).0)
 
 pub answer_at-end-requires : goal.answer_at-end-requires
 answer_at-end-requires c = c.loop-place.invariant.1
@@ -33,13 +33,13 @@ pub loop-place-smaller-then-still : goal.loop-place-smaller-then-still
 loop-place-smaller-then-still c = step_on c.loop-place.more c.args.bytes.now c.loop-place.place c.loop-place.room c.next_line-step.result c.next_line-step.ensures.value c.loop-place-test.true
 
 pub loop-place-preserved-then-still : goal.loop-place-preserved-then-still
-loop-place-preserved-then-still c = let O = onward_still c.args.unsound c.args.bytes.now _ c.loop-place.t c.loop-place.area c.loop-place.more c.loop-place.room c.loop-place.words c.loop-place.place c.loop-place.out c.loop-place.end c.loop-place.invariant.0 c.loop-place.invariant.2 c.loop-place-test.true c.if-out-end-lt-ANSWER.false c.next_line-step.result _ c.next_line-step.ensures.value c.next_line-step.ensures.room_after c.loop-place.invariant.1 c.loop-place.invariant.3 c.if-not-step.false _ _ _ c.frame_in-q.ensures.frame_value.0 c.frame_in-q.ensures.count_value.0 c.frame_in-q.ensures.count_value.1 _ c.no_line-more.ensures _ c.Group-of.ensures c.if-group-eq-REQUEST.true _ _ _ _ c.file_number-i.ensures c.index_in-k.ensures.0 refl _ _ _ c.channel_place-l.ensures.0 refl _ c.post_for-stood.ensures _ _ _ c.request_on-x.ensures.value c.request_on-x.ensures.area_after c.free_after-free.ensures _ _ c.answer_at-end.ensures _ c.is_still-still.ensures c.if-still.true in (O.same, O.within, O.counts, O.roomy, c.area-1.given ∙ c.loop-place.invariant.4, c.room-1.given ∙ c.loop-place.invariant.5, c.words-1.given ∙ c.loop-place.invariant.6, c.out-1.given ∙ c.loop-place.invariant.7)
+loop-place-preserved-then-still c = let O = onward_still c.args.unsound c.args.bytes.now _ c.loop-place.t c.loop-place.area c.loop-place.more c.loop-place.room c.loop-place.words c.loop-place.place c.loop-place.out c.loop-place.end c.loop-place.invariant.0 c.loop-place.invariant.2 c.loop-place-test.true c.if-out-end-lt-ANSWER.false c.next_line-step.result _ c.next_line-step.ensures.value c.next_line-step.ensures.room_after c.loop-place.invariant.1 c.loop-place.invariant.3 c.if-not-step.false _ _ _ c.frame_in-q.ensures.frame_value.0 c.frame_in-q.ensures.count_value c.frame_in-q.ensures.words_after _ c.no_line-more.ensures _ c.group_of-group.ensures c.if-group-eq-REQUEST.true _ _ _ _ c.file_number-i.ensures c.index_in-k.ensures.0 refl _ _ _ c.channel_place-l.ensures.0 refl _ c.post_for-stood.ensures _ _ _ c.request_on-x.ensures.value c.request_on-x.ensures.area_after c.free_after-free.ensures _ _ (c.answer_at-end.ensures.value, c.answer_at-end.ensures.out_after) _ c.is_still-still.ensures c.if-still.true in (O.same, O.within, O.counts, O.roomy, search rules, search rules, search rules, search rules)
 
 pub loop-place-smaller-then-group-eq-REQUEST : goal.loop-place-smaller-then-group-eq-REQUEST
 loop-place-smaller-then-group-eq-REQUEST c = step_on c.loop-place.more c.args.bytes.now c.loop-place.place c.loop-place.room c.next_line-step.result c.next_line-step.ensures.value c.loop-place-test.true
 
 pub loop-place-preserved-then-group-eq-REQUEST : goal.loop-place-preserved-then-group-eq-REQUEST
-loop-place-preserved-then-group-eq-REQUEST c = let O = onward_posted c.args.unsound c.args.bytes.now _ c.loop-place.t c.loop-place.area c.loop-place.more c.loop-place.room c.loop-place.words c.loop-place.place c.loop-place.out c.loop-place.end c.loop-place.invariant.0 c.loop-place.invariant.2 c.loop-place-test.true c.if-out-end-lt-ANSWER.false c.next_line-step.result _ c.next_line-step.ensures.value c.next_line-step.ensures.room_after c.loop-place.invariant.1 c.loop-place.invariant.3 c.if-not-step.false _ _ _ c.frame_in-q.ensures.frame_value.0 c.frame_in-q.ensures.count_value.0 c.frame_in-q.ensures.count_value.1 _ c.no_line-more.ensures _ c.Group-of.ensures c.if-group-eq-REQUEST.true _ _ _ _ c.file_number-i.ensures c.index_in-k.ensures.0 refl _ _ _ c.channel_place-l.ensures.0 refl _ c.post_for-stood.ensures _ _ _ c.request_on-x.ensures.value c.request_on-x.ensures.area_after c.free_after-free.ensures _ _ c.answer_at-end.ensures _ c.posted-after.ensures in (O.same, O.within, O.counts, O.roomy, c.area-1.given ∙ c.loop-place.invariant.4, c.room-1.given ∙ c.loop-place.invariant.5, c.words-1.given ∙ c.loop-place.invariant.6, c.out-1.given ∙ c.loop-place.invariant.7)
+loop-place-preserved-then-group-eq-REQUEST c = let O = onward_posted c.args.unsound c.args.bytes.now _ c.loop-place.t c.loop-place.area c.loop-place.more c.loop-place.room c.loop-place.words c.loop-place.place c.loop-place.out c.loop-place.end c.loop-place.invariant.0 c.loop-place.invariant.2 c.loop-place-test.true c.if-out-end-lt-ANSWER.false c.next_line-step.result _ c.next_line-step.ensures.value c.next_line-step.ensures.room_after c.loop-place.invariant.1 c.loop-place.invariant.3 c.if-not-step.false _ _ _ c.frame_in-q.ensures.frame_value.0 c.frame_in-q.ensures.count_value c.frame_in-q.ensures.words_after _ c.no_line-more.ensures _ c.group_of-group.ensures c.if-group-eq-REQUEST.true _ _ _ _ c.file_number-i.ensures c.index_in-k.ensures.0 refl _ _ _ c.channel_place-l.ensures.0 refl _ c.post_for-stood.ensures _ _ _ c.request_on-x.ensures.value c.request_on-x.ensures.area_after c.free_after-free.ensures _ _ (c.answer_at-end.ensures.value, c.answer_at-end.ensures.out_after) _ c.posted-after.ensures in (O.same, O.within, O.counts, O.roomy, search rules, search rules, search rules, search rules)
 
 pub answer_at-end-requires-then-group-eq-WHOLE : goal.answer_at-end-requires-then-group-eq-WHOLE
 answer_at-end-requires-then-group-eq-WHOLE c = c.loop-place.invariant.1
@@ -48,13 +48,13 @@ pub loop-place-smaller-then-no-eq0 : goal.loop-place-smaller-then-no-eq0
 loop-place-smaller-then-no-eq0 c = step_on c.loop-place.more c.args.bytes.now c.loop-place.place c.loop-place.room c.next_line-step.result c.next_line-step.ensures.value c.loop-place-test.true
 
 pub loop-place-preserved-then-no-eq0 : goal.loop-place-preserved-then-no-eq0
-loop-place-preserved-then-no-eq0 c = let O = onward_whole c.args.unsound c.args.bytes.now _ c.loop-place.t c.loop-place.area c.loop-place.more c.loop-place.room c.loop-place.words c.loop-place.place c.loop-place.out c.loop-place.end c.loop-place.invariant.0 c.loop-place.invariant.2 c.loop-place-test.true c.if-out-end-lt-ANSWER.false c.next_line-step.result _ c.next_line-step.ensures.value c.next_line-step.ensures.room_after c.loop-place.invariant.1 c.loop-place.invariant.3 c.if-not-step.false _ _ _ c.frame_in-q.ensures.frame_value.0 c.frame_in-q.ensures.count_value.0 c.frame_in-q.ensures.count_value.1 _ c.no_line-more.ensures _ c.Group-of.ensures c.if-group-eq-REQUEST.false c.if-group-eq-WHOLE.true _ c.whole_refusal-no.ensures _ c.answer_or-a.ensures _ _ c.answer_at-end-then-group-eq-WHOLE.ensures c.if-no-eq0.true _ c.whole_state-t.ensures in (O.same, O.within, O.counts, O.roomy, c.loop-place.invariant.4, c.room-1.given ∙ c.loop-place.invariant.5, c.words-1.given ∙ c.loop-place.invariant.6, c.out-then-group-eq-WHOLE-1.given ∙ c.loop-place.invariant.7)
+loop-place-preserved-then-no-eq0 c = let O = onward_whole c.args.unsound c.args.bytes.now _ c.loop-place.t c.loop-place.area c.loop-place.more c.loop-place.room c.loop-place.words c.loop-place.place c.loop-place.out c.loop-place.end c.loop-place.invariant.0 c.loop-place.invariant.2 c.loop-place-test.true c.if-out-end-lt-ANSWER.false c.next_line-step.result _ c.next_line-step.ensures.value c.next_line-step.ensures.room_after c.loop-place.invariant.1 c.loop-place.invariant.3 c.if-not-step.false _ _ _ c.frame_in-q.ensures.frame_value.0 c.frame_in-q.ensures.count_value c.frame_in-q.ensures.words_after _ c.no_line-more.ensures _ c.group_of-group.ensures c.if-group-eq-REQUEST.false c.if-group-eq-WHOLE.true _ c.whole_refusal-no.ensures _ c.answer_or-a.ensures _ _ (c.answer_at-end-then-group-eq-WHOLE.ensures.value, c.answer_at-end-then-group-eq-WHOLE.ensures.out_after) c.if-no-eq0.true _ c.whole_state-t.ensures in (O.same, O.within, O.counts, O.roomy, c.loop-place.invariant.4, search rules, search rules, search rules)
 
 pub loop-place-smaller-else-no-eq0 : goal.loop-place-smaller-else-no-eq0
 loop-place-smaller-else-no-eq0 c = step_on c.loop-place.more c.args.bytes.now c.loop-place.place c.loop-place.room c.next_line-step.result c.next_line-step.ensures.value c.loop-place-test.true
 
 pub loop-place-preserved-else-no-eq0 : goal.loop-place-preserved-else-no-eq0
-loop-place-preserved-else-no-eq0 c = let O = onward_refused c.args.unsound c.args.bytes.now _ c.loop-place.t c.loop-place.area c.loop-place.more c.loop-place.room c.loop-place.words c.loop-place.place c.loop-place.out c.loop-place.end c.loop-place.invariant.0 c.loop-place.invariant.2 c.loop-place-test.true c.if-out-end-lt-ANSWER.false c.next_line-step.result _ c.next_line-step.ensures.value c.next_line-step.ensures.room_after c.loop-place.invariant.1 c.loop-place.invariant.3 c.if-not-step.false _ _ _ c.frame_in-q.ensures.frame_value.0 c.frame_in-q.ensures.count_value.0 c.frame_in-q.ensures.count_value.1 _ c.no_line-more.ensures _ c.Group-of.ensures c.if-group-eq-REQUEST.false c.if-group-eq-WHOLE.true _ c.whole_refusal-no.ensures _ c.answer_or-a.ensures _ _ c.answer_at-end-then-group-eq-WHOLE.ensures c.if-no-eq0.false in (O.same, O.within, O.counts, O.roomy, c.loop-place.invariant.4, c.room-1.given ∙ c.loop-place.invariant.5, c.words-1.given ∙ c.loop-place.invariant.6, c.out-then-group-eq-WHOLE-1.given ∙ c.loop-place.invariant.7)
+loop-place-preserved-else-no-eq0 c = let O = onward_refused c.args.unsound c.args.bytes.now _ c.loop-place.t c.loop-place.area c.loop-place.more c.loop-place.room c.loop-place.words c.loop-place.place c.loop-place.out c.loop-place.end c.loop-place.invariant.0 c.loop-place.invariant.2 c.loop-place-test.true c.if-out-end-lt-ANSWER.false c.next_line-step.result _ c.next_line-step.ensures.value c.next_line-step.ensures.room_after c.loop-place.invariant.1 c.loop-place.invariant.3 c.if-not-step.false _ _ _ c.frame_in-q.ensures.frame_value.0 c.frame_in-q.ensures.count_value c.frame_in-q.ensures.words_after _ c.no_line-more.ensures _ c.group_of-group.ensures c.if-group-eq-REQUEST.false c.if-group-eq-WHOLE.true _ c.whole_refusal-no.ensures _ c.answer_or-a.ensures _ _ (c.answer_at-end-then-group-eq-WHOLE.ensures.value, c.answer_at-end-then-group-eq-WHOLE.ensures.out_after) c.if-no-eq0.false in (O.same, O.within, O.counts, O.roomy, c.loop-place.invariant.4, search rules, search rules, search rules)
 
 pub answer_at-end-requires-then-group-eq-ROUTINE : goal.answer_at-end-requires-then-group-eq-ROUTINE
 answer_at-end-requires-then-group-eq-ROUTINE c = c.loop-place.invariant.1
@@ -63,7 +63,7 @@ pub loop-place-smaller-then-group-eq-ROUTINE : goal.loop-place-smaller-then-grou
 loop-place-smaller-then-group-eq-ROUTINE c = step_on c.loop-place.more c.args.bytes.now c.loop-place.place c.loop-place.room c.next_line-step.result c.next_line-step.ensures.value c.loop-place-test.true
 
 pub loop-place-preserved-then-group-eq-ROUTINE : goal.loop-place-preserved-then-group-eq-ROUTINE
-loop-place-preserved-then-group-eq-ROUTINE c = let O = onward_routine c.args.unsound c.args.bytes.now _ c.loop-place.t c.loop-place.area c.loop-place.more c.loop-place.room c.loop-place.words c.loop-place.place c.loop-place.out c.loop-place.end c.loop-place.invariant.0 c.loop-place.invariant.2 c.loop-place-test.true c.if-out-end-lt-ANSWER.false c.next_line-step.result _ c.next_line-step.ensures.value c.next_line-step.ensures.room_after c.loop-place.invariant.1 c.loop-place.invariant.3 c.if-not-step.false _ _ _ c.frame_in-q.ensures.frame_value.0 c.frame_in-q.ensures.count_value.0 c.frame_in-q.ensures.count_value.1 _ c.no_line-more.ensures _ c.Group-of.ensures c.if-group-eq-REQUEST.false c.if-group-eq-WHOLE.false c.if-group-eq-ROUTINE.true _ c.routine_on-x.ensures _ _ c.answer_at-end-then-group-eq-ROUTINE.ensures in (O.same, O.within, O.counts, O.roomy, c.loop-place.invariant.4, c.room-1.given ∙ c.loop-place.invariant.5, c.words-1.given ∙ c.loop-place.invariant.6, c.out-then-group-eq-ROUTINE-1.given ∙ c.loop-place.invariant.7)
+loop-place-preserved-then-group-eq-ROUTINE c = let O = onward_routine c.args.unsound c.args.bytes.now _ c.loop-place.t c.loop-place.area c.loop-place.more c.loop-place.room c.loop-place.words c.loop-place.place c.loop-place.out c.loop-place.end c.loop-place.invariant.0 c.loop-place.invariant.2 c.loop-place-test.true c.if-out-end-lt-ANSWER.false c.next_line-step.result _ c.next_line-step.ensures.value c.next_line-step.ensures.room_after c.loop-place.invariant.1 c.loop-place.invariant.3 c.if-not-step.false _ _ _ c.frame_in-q.ensures.frame_value.0 c.frame_in-q.ensures.count_value c.frame_in-q.ensures.words_after _ c.no_line-more.ensures _ c.group_of-group.ensures c.if-group-eq-REQUEST.false c.if-group-eq-WHOLE.false c.if-group-eq-ROUTINE.true _ c.routine_on-x.ensures _ _ (c.answer_at-end-then-group-eq-ROUTINE.ensures.value, c.answer_at-end-then-group-eq-ROUTINE.ensures.out_after) in (O.same, O.within, O.counts, O.roomy, c.loop-place.invariant.4, search rules, search rules, search rules)
 
 pub answer_at-end-requires-then-group-eq-BINDING : goal.answer_at-end-requires-then-group-eq-BINDING
 answer_at-end-requires-then-group-eq-BINDING c = c.loop-place.invariant.1
@@ -72,10 +72,10 @@ pub loop-place-smaller-then-group-eq-BINDING : goal.loop-place-smaller-then-grou
 loop-place-smaller-then-group-eq-BINDING c = step_on c.loop-place.more c.args.bytes.now c.loop-place.place c.loop-place.room c.next_line-step.result c.next_line-step.ensures.value c.loop-place-test.true
 
 pub loop-place-preserved-then-group-eq-BINDING : goal.loop-place-preserved-then-group-eq-BINDING
-loop-place-preserved-then-group-eq-BINDING c = let O = onward_binding c.args.unsound c.args.bytes.now _ c.loop-place.t c.loop-place.area c.loop-place.more c.loop-place.room c.loop-place.words c.loop-place.place c.loop-place.out c.loop-place.end c.loop-place.invariant.0 c.loop-place.invariant.2 c.loop-place-test.true c.if-out-end-lt-ANSWER.false c.next_line-step.result _ c.next_line-step.ensures.value c.next_line-step.ensures.room_after c.loop-place.invariant.1 c.loop-place.invariant.3 c.if-not-step.false _ _ _ c.frame_in-q.ensures.frame_value.0 c.frame_in-q.ensures.count_value.0 c.frame_in-q.ensures.count_value.1 _ c.no_line-more.ensures _ c.Group-of.ensures c.if-group-eq-REQUEST.false c.if-group-eq-WHOLE.false c.if-group-eq-ROUTINE.false _ _ _ _ c.named_file-i.ensures c.index_in-k-in-loop-place.ensures.0 refl c.if-group-eq-BINDING.true _ _ _ c.channel_place-l-then-group-eq-BINDING.ensures.0 refl _ _ c.binding_on-x.ensures c.free_after-free-then-group-eq-BINDING.ensures _ _ c.answer_at-end-then-group-eq-BINDING.ensures in (O.same, O.within, O.counts, O.roomy, c.loop-place.invariant.4, c.room-1.given ∙ c.loop-place.invariant.5, c.words-1.given ∙ c.loop-place.invariant.6, c.out-then-group-eq-BINDING-1.given ∙ c.loop-place.invariant.7)
+loop-place-preserved-then-group-eq-BINDING c = let O = onward_binding c.args.unsound c.args.bytes.now _ c.loop-place.t c.loop-place.area c.loop-place.more c.loop-place.room c.loop-place.words c.loop-place.place c.loop-place.out c.loop-place.end c.loop-place.invariant.0 c.loop-place.invariant.2 c.loop-place-test.true c.if-out-end-lt-ANSWER.false c.next_line-step.result _ c.next_line-step.ensures.value c.next_line-step.ensures.room_after c.loop-place.invariant.1 c.loop-place.invariant.3 c.if-not-step.false _ _ _ c.frame_in-q.ensures.frame_value.0 c.frame_in-q.ensures.count_value c.frame_in-q.ensures.words_after _ c.no_line-more.ensures _ c.group_of-group.ensures c.if-group-eq-REQUEST.false c.if-group-eq-WHOLE.false c.if-group-eq-ROUTINE.false _ _ _ _ c.named_file-i.ensures c.index_in-k-in-loop-place.ensures.0 refl c.if-group-eq-BINDING.true _ _ _ c.channel_place-l-then-group-eq-BINDING.ensures.0 refl _ _ c.binding_on-x.ensures c.free_after-free-then-group-eq-BINDING.ensures _ _ (c.answer_at-end-then-group-eq-BINDING.ensures.value, c.answer_at-end-then-group-eq-BINDING.ensures.out_after) in (O.same, O.within, O.counts, O.roomy, c.loop-place.invariant.4, search rules, search rules, search rules)
 
 pub slice_bounds-record_on-end-in-loop-place : goal.slice_bounds-record_on-end-in-loop-place
-slice_bounds-record_on-end-in-loop-place c = sym (length-take-le _ _ (front_fits _ c.loop-place.words _ _ _ c.frame_in-q.ensures.count_value.0 c.frame_in-q.ensures.count_value.1).0)
+slice_bounds-record_on-end-in-loop-place c = sym (length-take-le _ _ (front_fits _ c.loop-place.words _ _ _ c.frame_in-q.ensures.count_value c.frame_in-q.ensures.words_after).0)
 
 pub answer_at-end-requires-in-loop-place : goal.answer_at-end-requires-in-loop-place
 answer_at-end-requires-in-loop-place c = c.loop-place.invariant.1
@@ -84,8 +84,8 @@ pub loop-place-smaller : goal.loop-place-smaller
 loop-place-smaller c = step_on c.loop-place.more c.args.bytes.now c.loop-place.place c.loop-place.room c.next_line-step.result c.next_line-step.ensures.value c.loop-place-test.true
 
 pub loop-place-preserved : goal.loop-place-preserved
-loop-place-preserved c = let O = onward_record c.args.unsound c.args.bytes.now _ c.loop-place.t c.loop-place.area c.loop-place.more c.loop-place.room c.loop-place.words c.loop-place.place c.loop-place.out c.loop-place.end c.loop-place.invariant.0 c.loop-place.invariant.2 c.loop-place-test.true c.if-out-end-lt-ANSWER.false c.next_line-step.result _ c.next_line-step.ensures.value c.next_line-step.ensures.room_after c.loop-place.invariant.1 c.loop-place.invariant.3 c.if-not-step.false _ _ _ c.frame_in-q.ensures.frame_value.0 c.frame_in-q.ensures.count_value.0 c.frame_in-q.ensures.count_value.1 _ c.no_line-more.ensures _ c.Group-of.ensures c.if-group-eq-REQUEST.false c.if-group-eq-WHOLE.false c.if-group-eq-ROUTINE.false _ _ _ _ c.named_file-i.ensures c.index_in-k-in-loop-place.ensures.0 refl c.if-group-eq-BINDING.false _ _ _ c.record_on-x.ensures.value c.record_on-x.ensures.area_after c.free_after-free-in-loop-place.ensures _ _ c.answer_at-end-in-loop-place.ensures in (O.same, O.within, O.counts, O.roomy, c.area-in-loop-place-1.given ∙ c.loop-place.invariant.4, c.room-1.given ∙ c.loop-place.invariant.5, c.words-1.given ∙ c.loop-place.invariant.6, c.out-in-loop-place-1.given ∙ c.loop-place.invariant.7)
+loop-place-preserved c = let O = onward_record c.args.unsound c.args.bytes.now _ c.loop-place.t c.loop-place.area c.loop-place.more c.loop-place.room c.loop-place.words c.loop-place.place c.loop-place.out c.loop-place.end c.loop-place.invariant.0 c.loop-place.invariant.2 c.loop-place-test.true c.if-out-end-lt-ANSWER.false c.next_line-step.result _ c.next_line-step.ensures.value c.next_line-step.ensures.room_after c.loop-place.invariant.1 c.loop-place.invariant.3 c.if-not-step.false _ _ _ c.frame_in-q.ensures.frame_value.0 c.frame_in-q.ensures.count_value c.frame_in-q.ensures.words_after _ c.no_line-more.ensures _ c.group_of-group.ensures c.if-group-eq-REQUEST.false c.if-group-eq-WHOLE.false c.if-group-eq-ROUTINE.false _ _ _ _ c.named_file-i.ensures c.index_in-k-in-loop-place.ensures.0 refl c.if-group-eq-BINDING.false _ _ _ c.record_on-x.ensures.value c.record_on-x.ensures.area_after c.free_after-free-in-loop-place.ensures _ _ (c.answer_at-end-in-loop-place.ensures.value, c.answer_at-end-in-loop-place.ensures.out_after) in (O.same, O.within, O.counts, O.roomy, search rules, search rules, search rules, search rules)
 
 pub returns : goal.returns
 unfolding IsPlayer
-returns c = let both = used_up_lem c.args.unsound c.args.bytes.now _ (player_with c.loop-place.t c.loop-place.area c.loop-place.more c.loop-place.room c.loop-place.words c.loop-place.place c.loop-place.out c.loop-place.end) c.loop-place.invariant.0 c.loop-place-test.false in record { value = both.0; area_after = both.1; room_after = both.2; words_after = both.3; out_after = both.4 }
+returns c = let both = used_up_lem c.args.unsound c.args.bytes.now _ (player_with c.loop-place.t c.loop-place.area c.loop-place.more c.loop-place.room c.loop-place.words c.loop-place.place c.loop-place.out c.loop-place.end) c.loop-place.invariant.0 c.loop-place-test.false in record { value = both.0; area_after = both.1.0; room_after = both.1.1.0; words_after = both.1.1.1.0; out_after = both.1.1.1.1 }

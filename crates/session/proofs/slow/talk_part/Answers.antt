@@ -9,12 +9,12 @@ use Rattle.session.proofs.slow.talk_part.Goals as goal
 pub returns-then-over : goal.returns-then-over
 unfolding IsCall
 returns-then-over c = let both = (let a = c.args in
-    part_refused (desk_with a.t a.area.now a.room.now a.words.now) c.if-over.true a.bytes.now a.at a.out.now _ c.refused.ensures) in record { value = both.0; area_after = both.1; room_after = both.2; words_after = both.3; out_after = both.4 }
+    part_refused (desk_with a.t a.area.now a.room.now a.words.now) c.if-over.true a.bytes.now a.at a.out.now _ c.refused.ensures) in record { value = both.0; area_after = both.1.0; room_after = both.1.1.0; words_after = both.1.1.1.0; out_after = both.1.1.1.1 }
 
 pub returns-then-short : goal.returns-then-short
 unfolding IsCall
 returns-then-short c = let both = (let a = c.args in
-    part_short (desk_with a.t a.area.now a.room.now a.words.now) c.if-over.false a.out.now (sym c.lacks_room-short.ensures ∙ c.if-short.true) a.bytes.now a.at _ c.refused-then-short.ensures) in record { value = both.0; area_after = both.1; room_after = both.2; words_after = both.3; out_after = both.4 }
+    part_short (desk_with a.t a.area.now a.room.now a.words.now) c.if-over.false a.out.now (sym c.lacks_room-short.ensures ∙ c.if-short.true) a.bytes.now a.at _ c.refused-then-short.ensures) in record { value = both.0; area_after = both.1.0; room_after = both.1.1.0; words_after = both.1.1.1.0; out_after = both.1.1.1.1 }
 
 pub play_part-p-requires : goal.play_part-p-requires
 play_part-p-requires c = words_there (desk_with c.args.t c.args.area.now c.args.room.now c.args.words.now) c.if-over.false c.args.out.now (sym c.lacks_room-short.ensures ∙ c.if-short.false)
@@ -22,4 +22,4 @@ play_part-p-requires c = words_there (desk_with c.args.t c.args.area.now c.args.
 pub returns : goal.returns
 unfolding IsCall IsPlayer
 returns c = let both = (let a = c.args in
-    part_played (desk_with a.t a.area.now a.room.now a.words.now) c.if-over.false a.out.now (sym c.lacks_room-short.ensures ∙ c.if-short.false) a.bytes.now a.at c.play_part-p.result _ _ _ _ c.play_part-p.ensures) in record { value = both.0; area_after = both.1; room_after = both.2; words_after = both.3; out_after = both.4 }
+    part_played (desk_with a.t a.area.now a.room.now a.words.now) c.if-over.false a.out.now (sym c.lacks_room-short.ensures ∙ c.if-short.false) a.bytes.now a.at c.play_part-p.result _ _ _ _ (c.play_part-p.ensures.value, (c.play_part-p.ensures.area_after, (c.play_part-p.ensures.room_after, (c.play_part-p.ensures.words_after, c.play_part-p.ensures.out_after))))) in record { value = both.0; area_after = both.1.0; room_after = both.1.1.0; words_after = both.1.1.1.0; out_after = both.1.1.1.1 }

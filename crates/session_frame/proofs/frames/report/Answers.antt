@@ -1,6 +1,5 @@
 -- `session_frame::frames::report` meets its contract, by whether its bytes show a length and, if so, its outcome. Assumes nothing.
 use mathlib.Core.Path.{sym, ap, ◌∙◌}
-use borrow.Author.Tests.{not-true, not-false}
 use Rattle.session_frame.specs.Digits.{bytes_of}
 use Rattle.session_frame.specs.Frames.{length_head, report_with}
 use Rattle.session_frame.proofs.Laws.Sizes.{report_plain, report_other, report_measured}
@@ -8,13 +7,13 @@ use Rattle.session_frame.proofs.frames.report.Goals as goal
 
 pub returns-then-not-shown : goal.returns-then-not-shown
 returns-then-not-shown c = let a = c.args in
-    c.report_with.ensures ∙ sym (report_plain a.n (bytes_of a.line.now) (sym c.shows_length-shown.ensures ∙ not-true _ c.if-not-shown.true))
+    c.report_with.ensures ∙ sym (report_plain a.n (bytes_of a.line.now) (sym c.shows_length-shown.ensures ∙ c.if-not-shown.true))
 
 pub returns-then-outcome-ne-REDUNDANCY : goal.returns-then-outcome-ne-REDUNDANCY
 returns-then-outcome-ne-REDUNDANCY c = let a = c.args in
-    sym (report_other a.n (bytes_of a.line.now) (sym c.shows_length-shown.ensures ∙ not-false _ c.if-not-shown.false) (λ e. c.if-outcome-ne-REDUNDANCY.true (c.byte_at-outcome.ensures ∙ e)))
+    sym (report_other a.n (bytes_of a.line.now) (sym c.shows_length-shown.ensures ∙ c.if-not-shown.false) (λ e. c.if-outcome-ne-REDUNDANCY.true (c.byte_at-outcome.ensures ∙ e)))
 
 pub returns : goal.returns
 returns c = let a = c.args in
     c.report_with-2.ensures ∙ ap (λ k. report_with length_head k a.n (bytes_of a.line.now)) c.size_at-length.ensures
-    ∙ sym (report_measured a.n (bytes_of a.line.now) (sym c.shows_length-shown.ensures ∙ not-false _ c.if-not-shown.false) (sym c.byte_at-outcome.ensures ∙ c.if-outcome-ne-REDUNDANCY.false))
+    ∙ sym (report_measured a.n (bytes_of a.line.now) (sym c.shows_length-shown.ensures ∙ c.if-not-shown.false) (sym c.byte_at-outcome.ensures ∙ c.if-outcome-ne-REDUNDANCY.false))

@@ -19,7 +19,7 @@ pub returns-then-not-none : goal.returns-then-not-none
 returns-then-not-none c = (c.loop-i.invariant.2, c.loop-i.invariant.0, c.loop-i.invariant.1)
 
 pub loop-i-preserved : goal.loop-i-preserved
-loop-i-preserved c = (omega (arith, c.loop-i.invariant.0), omega (arith, c.loop-i-test.true, c.if-bytes-i-lt-STRIDE.false), stride_over c.args.bytes.now c.loop-i.i 16 _ (omega (arith, c.loop-i-test.true, c.if-bytes-i-lt-STRIDE.false)) c.loop-i.invariant.2 (let same : c.loop-i.i + 16 - c.loop-i.i ≡ 16 = omega arith in ap (λ (n : ℕ). feedless (take n (drop c.loop-i.i c.args.bytes.now))) (sym same) ∙ sym c.is_feedless-none.ensures ∙ not-false _ c.if-not-none.false))
+loop-i-preserved c = (omega (arith, c.loop-i.invariant.0), omega (arith, c.loop-i-test.true, c.if-bytes-i-lt-STRIDE.false), stride_over c.args.bytes.now c.loop-i.i 16 _ (omega (arith, c.loop-i-test.true, c.if-bytes-i-lt-STRIDE.false)) c.loop-i.invariant.2 (let same : c.loop-i.i + 16 - c.loop-i.i ≡ 16 = omega arith in ap (λ (n : ℕ). feedless (take n (drop c.loop-i.i c.args.bytes.now))) (sym same) ∙ sym c.is_feedless-none.ensures ∙ c.if-not-none.false))
 
 pub returns : goal.returns
 returns c = (c.loop-i.invariant.2, c.loop-i.invariant.0, c.loop-i.invariant.1)

@@ -21,7 +21,7 @@ pub overflow_add-to : goal.overflow_add-to
 overflow_add-to c = let a = c.args in omega (arith, written_room post_codec post_keeps.sized a.n a.at a.units a.out.now c.loop-i.i c.loop-i.to c.loop-i.out c.loop-i.invariant (omega arith), written_length post_codec post_keeps.sized a.n a.at a.units a.out.now c.loop-i.i c.loop-i.to c.loop-i.out c.loop-i.invariant, c.well_formed)
 
 pub loop-i-preserved : goal.loop-i-preserved
-loop-i-preserved c = let a = c.args in rw c.Put-post.ensures (written_one post_codec post_keeps.sized a.n a.at a.units a.out.now empty_post c.loop-i.i c.loop-i.to c.loop-i.out c.loop-i.invariant (omega arith))
+loop-i-preserved c = let a = c.args in rw c.put_post.ensures (written_one post_codec post_keeps.sized a.n a.at a.units a.out.now empty_post c.loop-i.i c.loop-i.to c.loop-i.out c.loop-i.invariant (omega arith))
 
 pub shape_of-out : goal.shape_of-out
 shape_of-out c = let a = c.args in written_length post_codec post_keeps.sized a.n a.at a.units a.out.now c.loop-i.i c.loop-i.to c.loop-i.out c.loop-i.invariant

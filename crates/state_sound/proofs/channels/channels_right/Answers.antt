@@ -1,6 +1,5 @@
 -- `state_sound::channels_right` meets its contract, channel by channel, from the contract of `channel_right`. Assumes nothing.
 use borrow.Author.Rules.{rules}
-use borrow.Author.Tests.{not-true, not-false}
 use mathlib.Core.Path.{refl, sym, ◌∙◌}
 use Prim.Native.Nat.{◌≤◌, ◌<◌, ◌-◌}
 use native.Mathlib.Omega.{arith}
@@ -26,7 +25,7 @@ pub bounds-channels-i : goal.bounds-channels-i
 bounds-channels-i c = omega arith
 
 pub returns-then-not-channel_right : goal.returns-then-not-channel_right
-returns-then-not-channel_right c = let h : c.loop-i.i < length c.args.channels = omega arith in from_hit _ _ _ _ _ h c.loop-i.invariant.2 (sym c.channel_right.ensures ∙ not-true _ c.if-not-channel_right.true)
+returns-then-not-channel_right c = let h : c.loop-i.i < length c.args.channels = omega arith in from_hit _ _ _ _ _ h c.loop-i.invariant.2 (sym c.channel_right.ensures ∙ c.if-not-channel_right.true)
 
 pub overflow_add-i : goal.overflow_add-i
 overflow_add-i c = omega arith
@@ -35,7 +34,7 @@ pub loop-i-smaller : goal.loop-i-smaller
 loop-i-smaller c = omega arith
 
 pub loop-i-preserved : goal.loop-i-preserved
-loop-i-preserved c = let h : c.loop-i.i < length c.args.channels = omega arith in (omega arith, c.loop-i.invariant.1, from_miss _ _ _ _ _ h c.loop-i.invariant.2 (sym c.channel_right.ensures ∙ not-false _ c.if-not-channel_right.false))
+loop-i-preserved c = let h : c.loop-i.i < length c.args.channels = omega arith in (omega arith, c.loop-i.invariant.1, from_miss _ _ _ _ _ h c.loop-i.invariant.2 (sym c.channel_right.ensures ∙ c.if-not-channel_right.false))
 
 pub returns : goal.returns
 returns c = let h : length c.args.channels ≤ c.loop-i.i = omega arith in from_done _ _ no_channel _ _ h c.loop-i.invariant.2

@@ -1,6 +1,5 @@
 -- `state_sound::files_fit` meets its contract, branch by branch, from the contract of `file_fits`. Assumes nothing.
 use borrow.Author.Rules.{rules}
-use borrow.Author.Tests.{not-true, not-false}
 use mathlib.Core.Path.{refl, sym, ◌∙◌}
 use Prim.Native.Nat.{◌≤◌, ◌<◌, ◌-◌}
 use native.Mathlib.Omega.{arith}
@@ -20,7 +19,7 @@ pub bounds-files-i : goal.bounds-files-i
 bounds-files-i c = omega arith
 
 pub returns-then-not-file_fits : goal.returns-then-not-file_fits
-returns-then-not-file_fits c = let h : c.loop-i.i < length c.args.files = omega arith in all_hit _ _ _ _ _ h c.loop-i.invariant.2 (sym c.file_fits.ensures ∙ not-true _ c.if-not-file_fits.true)
+returns-then-not-file_fits c = let h : c.loop-i.i < length c.args.files = omega arith in all_hit _ _ _ _ _ h c.loop-i.invariant.2 (sym c.file_fits.ensures ∙ c.if-not-file_fits.true)
 
 pub overflow_add-i : goal.overflow_add-i
 overflow_add-i c = omega arith
@@ -29,7 +28,7 @@ pub loop-i-smaller : goal.loop-i-smaller
 loop-i-smaller c = omega arith
 
 pub loop-i-preserved : goal.loop-i-preserved
-loop-i-preserved c = let h : c.loop-i.i < length c.args.files = omega arith in (omega arith, c.loop-i.invariant.1, all_miss _ _ _ _ _ h c.loop-i.invariant.2 (sym c.file_fits.ensures ∙ not-false _ c.if-not-file_fits.false))
+loop-i-preserved c = let h : c.loop-i.i < length c.args.files = omega arith in (omega arith, c.loop-i.invariant.1, all_miss _ _ _ _ _ h c.loop-i.invariant.2 (sym c.file_fits.ensures ∙ c.if-not-file_fits.false))
 
 pub returns : goal.returns
 returns c = let h : length c.args.files ≤ c.loop-i.i = omega arith in all_done _ _ closed_file _ _ h c.loop-i.invariant.2

@@ -1,6 +1,5 @@
 -- `state_sound::units_served` meets its contract, branch by branch, from the contract of `unit_served`. Assumes nothing.
 use borrow.Author.Rules.{rules}
-use borrow.Author.Tests.{not-true, not-false}
 use mathlib.Core.Path.{refl, sym, ◌∙◌}
 use mathlib.Core.Bool.{false}
 use Prim.Native.Nat.{◌≤◌, ◌<◌, ◌-◌}
@@ -27,7 +26,7 @@ pub bounds-units-u : goal.bounds-units-u
 bounds-units-u c = omega arith
 
 pub returns-then-not-unit_served : goal.returns-then-not-unit_served
-returns-then-not-unit_served c = let h : c.loop-u.u < length c.args.units = omega arith in from_hit _ _ _ _ _ h c.loop-u.invariant.2 (sym c.unit_served.ensures ∙ not-true _ c.if-not-unit_served.true)
+returns-then-not-unit_served c = let h : c.loop-u.u < length c.args.units = omega arith in from_hit _ _ _ _ _ h c.loop-u.invariant.2 (sym c.unit_served.ensures ∙ c.if-not-unit_served.true)
 
 pub overflow_add-u : goal.overflow_add-u
 overflow_add-u c = omega arith
@@ -36,7 +35,7 @@ pub loop-u-smaller : goal.loop-u-smaller
 loop-u-smaller c = omega arith
 
 pub loop-u-preserved : goal.loop-u-preserved
-loop-u-preserved c = let h : c.loop-u.u < length c.args.units = omega arith in (omega arith, c.loop-u.invariant.1, from_miss _ _ _ _ _ h c.loop-u.invariant.2 (sym c.unit_served.ensures ∙ not-false _ c.if-not-unit_served.false))
+loop-u-preserved c = let h : c.loop-u.u < length c.args.units = omega arith in (omega arith, c.loop-u.invariant.1, from_miss _ _ _ _ _ h c.loop-u.invariant.2 (sym c.unit_served.ensures ∙ c.if-not-unit_served.false))
 
 pub returns : goal.returns
 returns c = let h : length c.args.units ≤ c.loop-u.u = omega arith in from_done _ _ (idle_unit false) _ _ h c.loop-u.invariant.2

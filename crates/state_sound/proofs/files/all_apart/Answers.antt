@@ -1,6 +1,5 @@
 -- `state_sound::all_apart` meets its contract, branch by branch, from the contract of `apart_from`. Assumes nothing.
 use borrow.Author.Rules.{rules}
-use borrow.Author.Tests.{not-true, not-false}
 use mathlib.Core.Path.{refl, sym, ◌∙◌}
 use Prim.Native.Nat.{◌≤◌, ◌<◌, ◌-◌}
 use native.Mathlib.Omega.{arith}
@@ -23,7 +22,7 @@ overflow_add-i c = omega arith
 
 pub returns-then-not-apart_from : goal.returns-then-not-apart_from
 returns-then-not-apart_from c = let h : c.loop-i.i < length c.args.files = omega arith in
-    pairs_hit _ _ _ _ _ h c.loop-i.invariant.2 (sym c.apart_from.ensures ∙ not-true _ c.if-not-apart_from.true)
+    pairs_hit _ _ _ _ _ h c.loop-i.invariant.2 (sym c.apart_from.ensures ∙ c.if-not-apart_from.true)
 
 pub overflow_add-i-in-loop-i : goal.overflow_add-i-in-loop-i
 overflow_add-i-in-loop-i c = omega arith
@@ -33,7 +32,7 @@ loop-i-smaller c = omega arith
 
 pub loop-i-preserved : goal.loop-i-preserved
 loop-i-preserved c = let h : c.loop-i.i < length c.args.files = omega arith in
-    (omega arith, c.loop-i.invariant.1, pairs_miss _ _ _ _ _ h c.loop-i.invariant.2 (sym c.apart_from.ensures ∙ not-false _ c.if-not-apart_from.false))
+    (omega arith, c.loop-i.invariant.1, pairs_miss _ _ _ _ _ h c.loop-i.invariant.2 (sym c.apart_from.ensures ∙ c.if-not-apart_from.false))
 
 pub returns : goal.returns
 returns c = let h : length c.args.files ≤ c.loop-i.i = omega arith in

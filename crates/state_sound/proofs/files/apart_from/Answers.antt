@@ -1,6 +1,5 @@
 -- `state_sound::apart_from` meets its contract, branch by branch, from the contract of `are_apart`. Assumes nothing.
 use borrow.Author.Rules.{rules}
-use borrow.Author.Tests.{not-true, not-false}
 use mathlib.Core.Path.{refl, sym, ◌∙◌}
 use Prim.Native.Nat.{◌≤◌, ◌<◌, ◌-◌}
 use native.Mathlib.Omega.{arith}
@@ -20,7 +19,7 @@ bounds-files-i c = omega arith
 
 pub returns-then-not-are_apart : goal.returns-then-not-are_apart
 returns-then-not-are_apart c = let h : c.loop-i.i < length c.args.files = omega arith in
-    all_hit _ _ _ _ _ h c.loop-i.invariant.1 (sym c.are_apart.ensures ∙ not-true _ c.if-not-are_apart.true)
+    all_hit _ _ _ _ _ h c.loop-i.invariant.1 (sym c.are_apart.ensures ∙ c.if-not-are_apart.true)
 
 pub overflow_add-i : goal.overflow_add-i
 overflow_add-i c = omega arith
@@ -30,7 +29,7 @@ loop-i-smaller c = omega arith
 
 pub loop-i-preserved : goal.loop-i-preserved
 loop-i-preserved c = let h : c.loop-i.i < length c.args.files = omega arith in
-    (c.loop-i.invariant.0, all_miss _ _ _ _ _ h c.loop-i.invariant.1 (sym c.are_apart.ensures ∙ not-false _ c.if-not-are_apart.false))
+    (c.loop-i.invariant.0, all_miss _ _ _ _ _ h c.loop-i.invariant.1 (sym c.are_apart.ensures ∙ c.if-not-are_apart.false))
 
 pub returns : goal.returns
 returns c = let h : length c.args.files ≤ c.loop-i.i = omega arith in

@@ -1,6 +1,5 @@
 -- `state_sound::each_sound` meets its contract, branch by branch, from the contract of `file_sound`. Assumes nothing.
 use borrow.Author.Rules.{rules}
-use borrow.Author.Tests.{not-true, not-false}
 use mathlib.Core.Path.{refl, sym, ◌∙◌}
 use Prim.Native.Nat.{◌≤◌, ◌<◌, ◌-◌}
 use native.Mathlib.Omega.{arith}
@@ -21,7 +20,7 @@ bounds-files-i c = omega arith
 
 pub returns-then-not-file_sound : goal.returns-then-not-file_sound
 returns-then-not-file_sound c = let h : c.loop-i.i < length c.args.files = omega arith in
-    all_hit _ _ _ _ _ h c.loop-i.invariant.2 (sym c.file_sound.ensures ∙ not-true _ c.if-not-file_sound.true)
+    all_hit _ _ _ _ _ h c.loop-i.invariant.2 (sym c.file_sound.ensures ∙ c.if-not-file_sound.true)
 
 pub overflow_add-i : goal.overflow_add-i
 overflow_add-i c = omega arith
@@ -31,7 +30,7 @@ loop-i-smaller c = omega arith
 
 pub loop-i-preserved : goal.loop-i-preserved
 loop-i-preserved c = let h : c.loop-i.i < length c.args.files = omega arith in
-    (omega arith, c.loop-i.invariant.1, all_miss _ _ _ _ _ h c.loop-i.invariant.2 (sym c.file_sound.ensures ∙ not-false _ c.if-not-file_sound.false))
+    (omega arith, c.loop-i.invariant.1, all_miss _ _ _ _ _ h c.loop-i.invariant.2 (sym c.file_sound.ensures ∙ c.if-not-file_sound.false))
 
 pub returns : goal.returns
 returns c = let h : length c.args.files ≤ c.loop-i.i = omega arith in

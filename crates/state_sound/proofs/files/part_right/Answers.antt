@@ -3,4 +3,4 @@
 use Rattle.state_sound.proofs.files.part_right.Goals as goal
 
 pub returns : goal.returns
-returns c = simp (c.Parts-held.ensures, c.one_if-most.ensures.0, c.part_fits-a.ensures, c.part_fits-b.ensures)
+returns c = simp (c.parts_held-n.ensures, c.one_if-most.ensures.0, c.part_fits-a.ensures, c.part_fits-b.ensures)

@@ -6,11 +6,11 @@ use Rattle.tape.proofs.read.block_words.Goals as goal
 
 pub returns-then-not-fits : goal.returns-then-not-fits
 returns-then-not-fits c = let both = (let a = c.args in
-    brought_not a.image.now a.area.now a.place a.n a.at _ c.words_fit-fits.ensures (not-true _ c.if-not-fits.true)) in record { value = both.0; area_after = both.1 }
+    brought_not a.image.now a.area.now a.place a.n a.at _ c.words_fit-fits.ensures (c.if-not-fits.true)) in record { value = both.0; area_after = both.1 }
 
 pub loop-left-init : goal.loop-left-init
 loop-left-init c = let a = c.args in
-    brought_none a.image.now a.area.now a.place a.n a.at (fit_facts a.image.now a.area.now a.place a.n a.at _ c.words_fit-fits.ensures (not-false _ c.if-not-fits.false))
+    brought_none a.image.now a.area.now a.place a.n a.at (fit_facts a.image.now a.area.now a.place a.n a.at _ c.words_fit-fits.ensures (c.if-not-fits.false))
 
 pub word_at-requires : goal.word_at-requires
 word_at-requires c = let t = c.loop-left in
@@ -39,4 +39,4 @@ shape_of-area c = c.loop-left.invariant.long
 pub returns : goal.returns
 returns c = let both = (let a = c.args in
     let t = c.loop-left in
-    brought_all a.image.now a.area.now a.place a.n a.at t.area t.from t.to t.left c.loop-left-test.false t.invariant _ c.words_fit-fits.ensures (not-false _ c.if-not-fits.false)) in record { value = both.0; area_after = both.1 }
+    brought_all a.image.now a.area.now a.place a.n a.at t.area t.from t.to t.left c.loop-left-test.false t.invariant _ c.words_fit-fits.ensures (c.if-not-fits.false)) in record { value = both.0; area_after = both.1 }

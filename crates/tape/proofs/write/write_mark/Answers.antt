@@ -6,11 +6,11 @@ use Rattle.tape.proofs.write.write_mark.Goals as goal
 
 pub returns-then-not-room : goal.returns-then-not-room
 returns-then-not-room c = let both = (let a = c.args in
-    mark_left a.area.now a.at _ c.has_room-room.ensures (not-true _ c.if-not-room.true)) in record { value = both.0; area_after = both.1 }
+    mark_left a.area.now a.at _ c.has_room-room.ensures (c.if-not-room.true)) in record { value = both.0; area_after = both.1 }
 
 pub write_length-requires : goal.write_length-requires
-write_length-requires c = leb-true _ _ (sym c.has_room-room.ensures ∙ not-false _ c.if-not-room.false)
+write_length-requires c = leb-true _ _ (sym c.has_room-room.ensures ∙ c.if-not-room.false)
 
 pub returns : goal.returns
 returns c = let both = (let a = c.args in
-    mark_put a.area.now a.at _ c.has_room-room.ensures (not-false _ c.if-not-room.false) _ c.write_length.ensures) in record { value = both.0; area_after = both.1 }
+    mark_put a.area.now a.at _ c.has_room-room.ensures (c.if-not-room.false) _ c.write_length.ensures) in record { value = both.0; area_after = both.1 }
