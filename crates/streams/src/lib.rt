@@ -2,9 +2,17 @@
 // each program says what it does then.
 #![tactic(auto)]
 
-ghost use Rattle.std.specs.Prelude.{◌≡◌, ◌≤◌, length};
+ghost use Rattle.std.specs.Prelude.{◌≡◌, ◌≤◌, length, IfSome};
 
-use std::io::{Print, Read, Stderr, Stdin, Stdout};
+use std::env::FillError;
+use std::fs;
+use std::io::{Error, Print, Read, Stderr, Stdin, Stdout, Write};
+use std::rt::{Env, Files};
+
+// The system's numbers for a wrong argument and for a name that is too long.
+const INVALID: i32 = 22;
+
+const TOO_LONG: i32 = 36;
 
 // The three standard streams of a program.
 #[derive(Clone, Copy)]
@@ -50,4 +58,65 @@ pub fn read_full<R: Read>(input: &mut R, room: &mut [u8]) -> usize
         }
     }
     done
+}
+
+// The place of the blank before a parenthesis, or of the first zero, or the length.
+fn words_of(text: &[u8]) -> usize
+    ensures { result ≤ length text.now }
+{
+    let mut i = 0;
+    while i < text.len() {
+        if text[i] == 0 {
+            return i;
+        }
+        if text[i..].starts_with(b" (os error ") {
+            return i;
+        }
+        i += 1;
+    }
+    i
+}
+
+// Says a line on standard error: what failed, a colon, and the system's words for the error, without its number.
+pub fn fail(to: Stderr, what: &[u8], e: Error) {
+    let mut text = [0u8; 256];
+    let mut rest = &mut text[..];
+    let _ = write!(rest, "{e}");
+    let n = words_of(&text);
+    write_all(to, what);
+    write_all(to, b": ");
+    write_all(to, &text[..n]);
+    write_all(to, b"\n");
+}
+
+// Puts argument i at the front of the room and says how long it is, or says on standard error that there is none, or that it is too long.
+pub fn argument<V: Env>(rt: &V, to: Stderr, i: usize, room: &mut [u8], what: &[u8]) -> Option<usize>
+    ensures { IfSome result (λ n. n ≤ length room.new) }
+{
+    match rt.arg(i, room) {
+        Ok(n) => Some(n),
+        Err(FillError::NotPresent) => {
+            fail(to, what, Error::from_raw_os_error(INVALID));
+            None
+        }
+        Err(FillError::TooLong) => {
+            fail(to, what, Error::from_raw_os_error(TOO_LONG));
+            None
+        }
+    }
+}
+
+// Opens the file of that name for reading, or says on standard error that it cannot. A name is text.
+pub fn opened<F: Files>(rt: &F, to: Stderr, name: &[u8]) -> Option<F::File> {
+    let Ok(path) = str::from_utf8(name) else {
+        fail(to, name, Error::from_raw_os_error(INVALID));
+        return None;
+    };
+    match fs::open(rt, path) {
+        Ok(file) => Some(file),
+        Err(e) => {
+            fail(to, name, e);
+            None
+        }
+    }
 }
