@@ -48,4 +48,4 @@ pub overflow_mul-n : goal.overflow_mul-n
 overflow_mul-n c = let a = c.args in let right : argument_wrong (length a.block.now) a.fields a.number ≡ false = sym c.argument_wrong-wrong.ensures ∙ c.if-wrong.false in let ee : c.extra-e.result ≡ check_words a.fields = c.extra-e.ensures.0 ∙ ap₂ extra c.has_sequence-sequence.ensures c.has_check-check.ensures in let ek : c.words_in-k.result ≡ length (words_of a.block.now) = c.words_in-k.ensures.value in omega (arith, ek, length_words a.block.now, right_room a.block.now a.fields a.number right)
 
 pub returns : goal.returns
-returns c = let a = c.args in let right : argument_wrong (length a.block.now) a.fields a.number ≡ false = sym c.argument_wrong-wrong.ensures ∙ c.if-wrong.false in let ee : c.extra-e.result ≡ check_words a.fields = c.extra-e.ensures.0 ∙ ap₂ extra c.has_sequence-sequence.ensures c.has_check-check.ensures in let ek : c.words_in-k.result ≡ length (words_of a.block.now) = c.words_in-k.ensures.value in let some : 1 + check_words a.fields ≤ length (words_of a.block.now) = omega (arith, ee, ek, c.if-k-e.false) in let same = sealed_room a.block.now (replicate 1025 0) (right_room a.block.now a.fields a.number right) _ _ _ a.fields a.number _ _ _ ek c.words_in-k.ensures.room_after c.extra-e.ensures.0 c.has_sequence-sequence.ensures c.has_check-check.ensures c.seal-refusal.ensures.value ∙ sealed_as a.block.now a.fields a.number right some in let none = sym c.if-refusal-ne0.false ∙ same in let en : c.words_in-k.result - c.extra-e.result ≡ data_count a.block.now a.fields = ap₂ ◌-◌ ek ee in let part = written_room a.block.now (replicate 1025 0) (right_room a.block.now a.fields a.number right) _ _ _ _ a.fields a.number _ _ ek c.words_in-k.ensures.room_after c.extra-e.ensures.0 c.has_sequence-sequence.ensures c.has_check-check.ensures c.seal-refusal.ensures.block_after in record { value = none; block_after = c.put_bytes.ensures ∙ ap (λ (l : List ℕ). pasted_in ((c.words_in-k.result - c.extra-e.result) * 5) l a.block.now) c.word_Bytes.ensures ∙ sealed_last a.block.now a.fields a.number right some none (λ z. c.if-e-eq0.false (ee ∙ z)) _ _ _ en part }
+returns c = let a = c.args in let right : argument_wrong (length a.block.now) a.fields a.number ≡ false = sym c.argument_wrong-wrong.ensures ∙ c.if-wrong.false in let ee : c.extra-e.result ≡ check_words a.fields = c.extra-e.ensures.0 ∙ ap₂ extra c.has_sequence-sequence.ensures c.has_check-check.ensures in let ek : c.words_in-k.result ≡ length (words_of a.block.now) = c.words_in-k.ensures.value in let some : 1 + check_words a.fields ≤ length (words_of a.block.now) = omega (arith, ee, ek, c.if-k-e.false) in let same = sealed_room a.block.now (replicate 1025 0) (right_room a.block.now a.fields a.number right) _ _ _ a.fields a.number _ _ _ ek c.words_in-k.ensures.room_after c.extra-e.ensures.0 c.has_sequence-sequence.ensures c.has_check-check.ensures c.seal-refusal.ensures.value ∙ sealed_as a.block.now a.fields a.number right some in let none = sym c.if-refusal-ne0.false ∙ same in let en : c.words_in-k.result - c.extra-e.result ≡ data_count a.block.now a.fields = ap₂ ◌-◌ ek ee in let part = written_room a.block.now (replicate 1025 0) (right_room a.block.now a.fields a.number right) _ _ _ _ a.fields a.number _ _ ek c.words_in-k.ensures.room_after c.extra-e.ensures.0 c.has_sequence-sequence.ensures c.has_check-check.ensures c.seal-refusal.ensures.block_after in record { value = none; block_after = c.put_bytes.ensures ∙ ap (λ (l : List ℕ). pasted_in ((c.words_in-k.result - c.extra-e.result) * 5) l a.block.now) c.word_bytes-last.ensures ∙ sealed_last a.block.now a.fields a.number right some none (λ z. c.if-e-eq0.false (ee ∙ z)) _ _ _ en part }
