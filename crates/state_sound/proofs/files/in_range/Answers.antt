@@ -4,9 +4,9 @@ use Rattle.state_sound.proofs.files.in_range.Goals as goal
 
 pub returns : goal.returns
 returns c = simp (
-      c.sizes_fit-sizes.ensures,
-      c.is_arrival-a.ensures,
-      c.full_arrival.ensures,
-      c.is_arrival-b.ensures,
-      c.full_arrival-2.ensures,
-    )
+  c.sizes_fit-sizes.ensures,
+  c.is_arrival-a.ensures,
+  c.full_arrival.ensures,
+  c.is_arrival-b.ensures,
+  c.full_arrival-2.ensures,
+)
