@@ -2,12 +2,14 @@
 // The planner is not run: the verdict is that of the check alone.
 #![tactic(auto)]
 
-ghost use Rattle.io.specs.Counts.{IsPrefixLen};
+ghost use Rattle.std.specs.Prelude.{◌≤◌, length};
 
-use libc::{STDERR_FILENO, STDOUT_FILENO};
 use planner::{Judged, Verdict, check, judge};
 use planner_text::{read_list, read_proposal};
+use std::io::{Stderr, Stdout};
 use std::num::wrapping_add_u64;
+use std::rt::{Env, Files};
+use streams::{argument, large_buffer, opened, print_decimal, read_full, write_all};
 
 // One event, and one row, more than a good list has.
 const EVENTS: usize = 129;
@@ -22,95 +24,90 @@ struct Text {
 }
 
 // Writes bytes, or a number in decimal.
-fn put(bytes: &[u8]) -> bool {
-    io::write_all(STDOUT_FILENO, bytes)
+fn put(to: Stdout, bytes: &[u8]) -> bool {
+    write_all(to, bytes)
 }
 
-fn put_line(number: u64) -> bool {
-    let word = put(b" at line ");
-    let place = io::print_decimal(STDOUT_FILENO, number);
-    word & place & put(b"\n")
+fn put_line(to: Stdout, number: u64) -> bool {
+    let word = put(to, b" at line ");
+    let place = print_decimal(to, number);
+    word & place & put(to, b"\n")
 }
 
 // The line for a list at fault.
-fn refused_at(line: u64) -> bool {
-    let word = put(b"refused 1");
-    word & put_line(line)
+fn refused_at(to: Stdout, line: u64) -> bool {
+    let word = put(to, b"refused 1");
+    word & put_line(to, line)
 }
 
 // Why a proposal is not accepted.
-fn put_reason(reason: u8) -> bool {
+fn put_reason(to: Stdout, reason: u8) -> bool {
     match reason {
-        1 => put(b"size"),
-        2 => put(b"count of openings"),
-        3 => put(b"no line of this opening"),
-        4 => put(b"wrong count of buffers"),
-        5 => put(b"a buffer outside the size"),
-        6 => put(b"the same buffer twice"),
-        _ => put(b"a buffer that serves two open files"),
+        1 => put(to, b"size"),
+        2 => put(to, b"count of openings"),
+        3 => put(to, b"no line of this opening"),
+        4 => put(to, b"wrong count of buffers"),
+        5 => put(to, b"a buffer outside the size"),
+        6 => put(to, b"the same buffer twice"),
+        _ => put(to, b"a buffer that serves two open files"),
     }
 }
 
 // The verdict. Line 1 is the size, and the first row is on line 2.
-fn put_verdict(v: Verdict) -> bool {
+fn put_verdict(to: Stdout, v: Verdict) -> bool {
     match v {
-        Verdict::Accepted => put(b"accepted\n"),
-        Verdict::Refused => put(b"refused 1\n"),
+        Verdict::Accepted => put(to, b"accepted\n"),
+        Verdict::Refused => put(to, b"refused 1\n"),
         Verdict::Fault(reason, row) => {
-            let word = put(b"not accepted: ");
-            let why = put_reason(reason);
+            let word = put(to, b"not accepted: ");
+            let why = put_reason(to, reason);
             if reason == 1 {
-                return word & why & put_line(1);
+                return word & why & put_line(to, 1);
             }
-            word & why & put_line(wrapping_add_u64(row as u64, 2))
+            word & why & put_line(to, wrapping_add_u64(row as u64, 2))
         }
     }
 }
 
 // What a list and a proposal come to.
-fn answer(limit: u8, events: &[u8], size: u8, rows: &[u32]) -> bool {
+fn answer(to: Stdout, limit: u8, events: &[u8], size: u8, rows: &[u32]) -> bool {
     let judged = judge(limit, events);
     match judged {
-        Judged::Good => put_verdict(check(limit, events, size, rows)),
-        Judged::Limit => refused_at(1),
-        Judged::Event(i) => refused_at(wrapping_add_u64(i as u64, 2)),
+        Judged::Good => put_verdict(to, check(limit, events, size, rows)),
+        Judged::Limit => refused_at(to, 1),
+        Judged::Event(i) => refused_at(to, wrapping_add_u64(i as u64, 2)),
     }
 }
 
 // Reads the file that argument i names, as far as the room goes, or says that it cannot be read.
-fn read_file(i: usize, text: &mut [u8]) -> Text
-    ensures { IsPrefixLen result.length text.new }
+fn read_file<R: Env + Files>(rt: &R, err: Stderr, i: usize, text: &mut [u8]) -> Text
+    ensures { result.length ≤ length text.new }
 {
-    let mut path = io::buffer();
-    let length = os::arg(i, &mut path);
-    if os::errno() != 0 {
-        os::fail(b"plan: argument");
+    let mut path = [0u8; 4096];
+    let Some(length) = argument(rt, err, i, &mut path, b"plan: argument") else {
         return Text {
             good: false,
             length: 0,
         };
-    }
-    let fd = os::open_read(&path[..length]);
-    if fd < 0 {
-        os::fail(&path[..length]);
+    };
+    let Some(mut file) = opened(rt, err, &path[..length]) else {
         return Text {
             good: false,
             length: 0,
         };
-    }
-    let n = io::read_full(fd, text);
-    libc::close(fd);
+    };
+    let n = read_full(&mut file, text);
     Text {
         good: true,
         length: n,
     }
 }
 
-fn main() {
-    let mut list_text = io::large_buffer();
-    let list_file = read_file(1, &mut list_text);
-    let mut proposal_text = io::large_buffer();
-    let proposal_file = read_file(2, &mut proposal_text);
+fn main(rt: HostRuntime) {
+    let mut list_text = large_buffer();
+    let list_file = read_file(&rt, rt.stderr(), 1, &mut list_text);
+    let mut proposal_text = large_buffer();
+    let proposal_file = read_file(&rt, rt.stderr(), 2, &mut proposal_text);
     if !(list_file.good & proposal_file.good) {
         return;
     }
@@ -122,8 +119,14 @@ fn main() {
     let proposal = read_proposal(&proposal_text[..m], &mut rows);
     let count = list.count;
     let served = proposal.count;
-    let good = answer(list.limit, &events[..count], proposal.size, &rows[..served]);
+    let good = answer(
+        rt.stdout(),
+        list.limit,
+        &events[..count],
+        proposal.size,
+        &rows[..served],
+    );
     if !good {
-        io::write_all(STDERR_FILENO, b"plan: the verdict cannot be written\n");
+        write_all(rt.stderr(), b"plan: the verdict cannot be written\n");
     }
 }

@@ -10,10 +10,12 @@ mod reads;
 mod runs;
 mod writes;
 
-use libc::{STDERR_FILENO, STDIN_FILENO};
 use reel::{Options, WORDS};
 use runs::Run;
 use session_line::{Line, has_begun, next_line, no_line};
+use std::io::Read;
+use std::rt::Env;
+use streams::{large_buffer, print_decimal, write_all};
 
 // The most characters of a line: those of 1,024 words.
 const LINE: usize = 10 * WORDS;
@@ -157,13 +159,13 @@ fn once(
     o: Options,
 ) -> Text {
     let line = p.line;
-    let got = libc::read(STDIN_FILENO, input);
-    if got < 0 {
-        io::write_all(STDERR_FILENO, b"reel: the text cannot be read\n");
-        let run = runs::stopped(p.run);
+    let before = p.run;
+    let mut reader = before.rt.stdin();
+    let Ok(n) = reader.read(input) else {
+        write_all(before.rt.stderr(), b"reel: the text cannot be read\n");
+        let run = runs::stopped(before);
         return Text { run, line };
-    }
-    let n = io::count(got, input);
+    };
     if n == 0 {
         let run = last(p, &room[..], words, area, out, writes, o);
         return Text { run, line };
@@ -196,26 +198,26 @@ fn pass(
 }
 
 // An argument that is a number of two bytes.
-fn size(i: usize) -> u16 {
+fn size<V: Env>(rt: &V, i: usize) -> u16 {
     let mut name = [0u8; 8];
-    os::arg(i, &mut name);
+    let _ = rt.arg(i, &mut name);
     let x = numbers::next(&name, 0);
     (x.value % 65536) as u16
 }
 
 // The first letter of an argument.
-fn letter(i: usize) -> u8 {
+fn letter<V: Env>(rt: &V, i: usize) -> u8 {
     let mut name = [0u8; 8];
-    os::arg(i, &mut name);
+    let _ = rt.arg(i, &mut name);
     name[0]
 }
 
-fn main() {
-    let writes = letter(1) == b'w';
-    let b = size(2);
-    let rlen = size(3);
-    let flags = (size(4) % 256) as u8;
-    let shown = letter(5) == b't';
+fn main(rt: HostRuntime) {
+    let writes = letter(&rt, 1) == b'w';
+    let b = size(&rt, 2);
+    let rlen = size(&rt, 3);
+    let flags = (size(&rt, 4) % 256) as u8;
+    let shown = letter(&rt, 5) == b't';
     let o = Options {
         flags,
         size: b,
@@ -224,18 +226,18 @@ fn main() {
     let mut area = [0u64; WORDS];
     let begun = reel::begun(&mut area, o);
     if begun.refusal != 0 {
-        io::write_all(STDERR_FILENO, b"refused ");
-        io::print_decimal(STDERR_FILENO, begun.refusal as u64);
-        io::write_all(
-            STDERR_FILENO,
+        write_all(rt.stderr(), b"refused ");
+        print_decimal(rt.stderr(), begun.refusal as u64);
+        write_all(
+            rt.stderr(),
             b": a block has 1 to 1,024 words with its check word, and a record 1 to as many words as a block without it\n",
         );
         return;
     }
     let state = begun.state;
-    let first = runs::start(state, shown);
-    let mut input = io::large_buffer();
-    let mut out = io::large_buffer();
+    let first = runs::start(rt, state, shown);
+    let mut input = large_buffer();
+    let mut out = large_buffer();
     let mut room = [0u8; LINE];
     let mut words = [0u64; WORDS];
     pass(

@@ -1,5 +1,7 @@
 // Text into the output, from a place on; the answer is the place after it. What has no room is left out.
 
+use streams::decimal;
+
 // The first n elements, or all.
 pub fn front(bytes: &[u8], n: usize) -> &[u8] {
     if bytes.len() < n {
@@ -35,7 +37,7 @@ pub fn put_text(out: &mut [u8], at: usize, text: &[u8]) -> usize {
 
 pub fn put_decimal(out: &mut [u8], at: usize, x: u64) -> usize {
     let mut text = [0u8; 20];
-    let k = io::decimal(x, &mut text);
+    let k = decimal(x, &mut text);
     put_text(out, at, &text[..k])
 }
 

@@ -1,13 +1,16 @@
 // Where a run stands, and what it has to write.
 use crate::output::{front, put_both, put_text};
-use libc::{STDERR_FILENO, STDOUT_FILENO};
 use pack::State;
 use reel::Options;
+use std::fs::{File, OpenOptions};
+use std::io::Write;
+use streams::write_all;
 
-// The pack's state; the lines before; how many characters wait to be written; what was counted so far; whether anything came after the last mark;
+// The system; the pack's state; the lines before; how many characters wait to be written; what was counted so far; whether anything came after the last mark;
 // whether progress is shown; whether the run goes on.
 #[derive(Clone, Copy)]
 pub struct Run {
+    pub rt: HostRuntime,
     pub state: State,
     pub lines: u64,
     pub used: usize,
@@ -26,10 +29,11 @@ const WAITING: usize = 32768;
 // Progress is told after so many blocks, on a descriptor of its own.
 const OFTEN: u64 = 1024;
 
-const PROGRESS: i32 = 3;
+const PROGRESS: &str = "/dev/fd/3";
 
-pub fn start(state: State, shown: bool) -> Run {
+pub fn start(rt: HostRuntime, state: State, shown: bool) -> Run {
     Run {
+        rt,
         state,
         lines: 0,
         used: 0,
@@ -65,9 +69,9 @@ pub fn next_line(run: Run) -> Run {
 
 // What waits is written, or said that it cannot be.
 pub fn flushed(run: Run, out: &[u8]) -> Run {
-    let good = io::write_all(STDOUT_FILENO, front(out, run.used));
+    let good = write_all(run.rt.stdout(), front(out, run.used));
     if !good {
-        io::write_all(STDERR_FILENO, b"reel: the output cannot be written\n");
+        write_all(run.rt.stderr(), b"reel: the output cannot be written\n");
         return stopped(run);
     }
     let mut r = run;
@@ -98,13 +102,24 @@ pub fn error_more(run: Run) -> Run {
     r
 }
 
+// The descriptor of progress, if there is one: std reaches it by its name.
+fn progress_file(run: Run) -> Option<File> {
+    OpenOptions::new().append(true).open(&run.rt, PROGRESS).ok()
+}
+
+fn progress(run: Run) {
+    if let Some(mut file) = progress_file(run) {
+        let blocks = run.blocks;
+        let _ = write!(file, "\rreel: blocks {blocks}");
+    }
+}
+
 pub fn block_more(run: Run) -> Run {
     let mut r = run;
     r.blocks = std::num::wrapping_add_u64(r.blocks, 1);
     r.begun = true;
     if r.shown & (r.blocks % OFTEN == 0) {
-        io::write_all(PROGRESS, b"\rreel: blocks ");
-        io::print_decimal(PROGRESS, r.blocks);
+        progress(r);
     }
     r
 }
@@ -119,7 +134,9 @@ pub fn file_more(run: Run) -> Run {
 // The line of progress ends.
 pub fn progress_ended(run: Run) {
     if run.shown & (OFTEN <= run.blocks) {
-        io::write_all(PROGRESS, b"\n");
+        if let Some(mut file) = progress_file(run) {
+            let _ = file.write_all(b"\n");
+        }
     }
 }
 
@@ -131,7 +148,7 @@ pub fn told(run: Run, out: &mut [u8]) {
     let c = put_both(out, b, b", records ", run.records);
     let d = put_both(out, c, b", errors ", run.errors);
     let e = put_text(out, d, b"\n");
-    io::write_all(STDERR_FILENO, front(&out[..], e));
+    write_all(run.rt.stderr(), front(&out[..], e));
 }
 
 // A refusal that no text and no image can bring about: it is said, and nothing follows.
@@ -139,7 +156,7 @@ pub fn misled(run: Run, refusal: u8, out: &mut [u8]) -> Run {
     let done = flushed(run, &out[..]);
     let a = put_both(out, 0, b"reel: the pack refused ", refusal as u64);
     let b = put_text(out, a, b"\n");
-    io::write_all(STDERR_FILENO, front(&out[..], b));
+    write_all(run.rt.stderr(), front(&out[..], b));
     stopped(done)
 }
 

@@ -5,9 +5,9 @@ use crate::runs::{
     Run, again, block_more, flushed, misled, next_line, progress_ended, stopped, with_output,
     with_state,
 };
-use libc::STDERR_FILENO;
 use pack::AnyAnswer;
 use reel::Options;
+use streams::write_all;
 
 // A block that goes out, as its words.
 fn shown(run: Run, a: AnyAnswer, area: &[u64], out: &mut [u8]) -> Run {
@@ -74,7 +74,7 @@ fn refused(run: Run, number: u8, area: &mut [u64], out: &mut [u8], o: Options) -
     let done = write_end(run, area, out);
     let line = std::num::wrapping_add_u64(run.lines, 1);
     let n = put_refusal(out, number, line, o.rlen);
-    io::write_all(STDERR_FILENO, front(&out[..], n));
+    write_all(run.rt.stderr(), front(&out[..], n));
     done
 }
 

@@ -2,20 +2,23 @@
 // If a file cannot be read it says so in one line on standard error, and writes no sheet.
 #![tactic(auto)]
 
-use libc::{STDERR_FILENO, STDOUT_FILENO};
 use session::{ANSWER, WORDS};
 use session_frame::LONGEST;
 use sheet::{Desk, LISTED, Row, answers_end, answers_part, new_desk, session_end, session_part};
+use std::fs::File;
+use std::io::{Read, Stderr, Stdout};
+use std::rt::{Env, Files};
+use streams::{argument, decimal, large_buffer, opened, write_all};
 
 // The words of the area, and the bytes that are read at once.
 const AREA: usize = 4096;
 
 const INPUT: usize = 65536;
 
-// A file that is read: the bytes of its room from `from` up to `to` are still to come.
+// How far a file is read: the bytes of its room from `from` up to `to` are still to come. It has failed if it could not be read.
 #[derive(Clone, Copy)]
 struct Source {
-    fd: i32,
+    failed: bool,
     from: usize,
     to: usize,
     ended: bool,
@@ -42,34 +45,24 @@ fn front(bytes: &[u8], n: usize) -> &[u8] {
 // ---- reading
 
 // Opens the file that argument i names, or says that it cannot.
-fn opened(i: usize) -> i32 {
-    let mut path = io::buffer();
-    let length = os::arg(i, &mut path);
-    if os::errno() != 0 {
-        os::fail(b"sheet: argument");
-        return -1;
-    }
-    let fd = os::open_read(front(&path, length));
-    if fd < 0 {
-        os::fail(front(&path, length));
-    }
-    fd
+fn named<R: Env + Files>(rt: &R, err: Stderr, i: usize) -> Option<R::File> {
+    let mut path = [0u8; 4096];
+    let length = argument(rt, err, i, &mut path, b"sheet: argument")?;
+    opened(rt, err, front(&path, length))
 }
 
 // Reads once into the room.
-fn filled(s: Source, room: &mut [u8]) -> Source {
-    let got = libc::read(s.fd, room);
-    if got < 0 {
+fn filled(file: &mut File, room: &mut [u8]) -> Source {
+    let Ok(n) = file.read(room) else {
         return Source {
-            fd: -1,
+            failed: true,
             from: 0,
             to: 0,
             ended: true,
         };
-    }
-    let n = io::count(got, &room[..]);
+    };
     Source {
-        fd: s.fd,
+        failed: false,
         from: 0,
         to: n,
         ended: n == 0,
@@ -79,7 +72,7 @@ fn filled(s: Source, room: &mut [u8]) -> Source {
 // A file whose bytes up to `from` are taken.
 fn taken(s: Source, from: usize) -> Source {
     Source {
-        fd: s.fd,
+        failed: s.failed,
         from,
         to: s.to,
         ended: s.ended,
@@ -91,6 +84,7 @@ fn taken(s: Source, from: usize) -> Source {
 // More of the session: bytes that were read, or its end.
 fn more_session(
     p: Standing,
+    file: &mut File,
     area: &mut [u64],
     room: &mut [u8],
     words: &mut [u64],
@@ -112,9 +106,9 @@ fn more_session(
             on: true,
         };
     }
-    let session = filled(s, input);
+    let session = filled(file, input);
     if session.ended {
-        let good = 0 <= session.fd;
+        let good = !session.failed;
         let desk = session_end(d, area, room, words, out);
         return Standing {
             desk,
@@ -134,7 +128,13 @@ fn more_session(
 }
 
 // More of the recorded answers: bytes that were read, or their end.
-fn more_answers(p: Standing, other: &mut [u8], input: &mut [u8], out: &[u8]) -> Standing {
+fn more_answers(
+    p: Standing,
+    file: &mut File,
+    other: &mut [u8],
+    input: &mut [u8],
+    out: &[u8],
+) -> Standing {
     let d = p.desk;
     let s = p.answers;
     let session = p.session;
@@ -150,9 +150,9 @@ fn more_answers(p: Standing, other: &mut [u8], input: &mut [u8], out: &[u8]) -> 
             on: true,
         };
     }
-    let answers = filled(s, input);
+    let answers = filled(file, input);
     if answers.ended {
-        let good = 0 <= answers.fd;
+        let good = !answers.failed;
         let desk = answers_end(d, &other[..], out);
         return Standing {
             desk,
@@ -188,14 +188,17 @@ fn once(
     other: &mut [u8; LONGEST],
     input: &mut [u8; INPUT],
     second: &mut [u8; INPUT],
+    one: &mut File,
+    two: &mut File,
 ) -> Standing {
     let d = p.desk;
     if d.waits {
-        return more_answers(p, &mut other[..], &mut second[..], &out[..]);
+        return more_answers(p, two, &mut other[..], &mut second[..], &out[..]);
     }
     if !d.over {
         return more_session(
             p,
+            one,
             &mut area[..],
             &mut room[..],
             &mut words[..],
@@ -204,7 +207,7 @@ fn once(
         );
     }
     if (d.differs == 0) & !d.done {
-        return more_answers(p, &mut other[..], &mut second[..], &out[..]);
+        return more_answers(p, two, &mut other[..], &mut second[..], &out[..]);
     }
     stopped(p)
 }
@@ -219,11 +222,13 @@ fn made(
     other: &mut [u8; LONGEST],
     input: &mut [u8; INPUT],
     second: &mut [u8; INPUT],
+    one: &mut File,
+    two: &mut File,
 ) -> Standing {
     let mut p = start;
     let mut turns = u64::MAX;
     while 0 < turns {
-        p = once(p, area, room, words, out, other, input, second);
+        p = once(p, area, room, words, out, other, input, second, one, two);
         if !p.on {
             return p;
         }
@@ -255,7 +260,7 @@ fn put_all(text: &mut [u8], at: usize, bytes: &[u8]) -> usize {
 // A number, and the character after it.
 fn put_number(text: &mut [u8], at: usize, n: u64, c: u8) -> usize {
     let mut digits = [0u8; 20];
-    let k = io::decimal(n, &mut digits);
+    let k = decimal(n, &mut digits);
     let to = put_all(text, at, &digits[..k]);
     put(text, to, c)
 }
@@ -291,43 +296,41 @@ fn put_more(text: &mut [u8], at: usize, more: bool) -> usize {
 }
 
 // Writes the sheet.
-fn shown(d: Desk, text: &mut [u8; INPUT]) {
+fn shown(to: Stdout, err: Stderr, d: Desk, text: &mut [u8; INPUT]) {
     let listed = d.listed;
     let rows = listed.rows;
     let first = put_number(&mut text[..], 0, d.differs, b'\n');
     let last = put_rows(&mut text[..], first, rows, listed.count);
     let end = put_more(&mut text[..], last, listed.more);
-    let good = io::write_all(STDOUT_FILENO, front(&text[..], end));
+    let good = write_all(to, front(&text[..], end));
     if !good {
-        io::write_all(STDERR_FILENO, b"sheet: the sheet cannot be written\n");
+        write_all(err, b"sheet: the sheet cannot be written\n");
     }
 }
 
-fn main() {
-    let one = opened(1);
-    if one < 0 {
+fn main(rt: HostRuntime) {
+    let Some(mut one) = named(&rt, rt.stderr(), 1) else {
         return;
-    }
-    let two = opened(2);
-    if two < 0 {
+    };
+    let Some(mut two) = named(&rt, rt.stderr(), 2) else {
         return;
-    }
+    };
     let mut area = [0u64; AREA];
     let mut room = [0u8; LONGEST];
     let mut words = [0u64; WORDS];
     let mut out = [0u8; ANSWER];
     let mut other = [0u8; LONGEST];
-    let mut input = io::large_buffer();
-    let mut second = io::large_buffer();
+    let mut input = large_buffer();
+    let mut second = large_buffer();
     let desk = new_desk();
     let session = Source {
-        fd: one,
+        failed: false,
         from: 0,
         to: 0,
         ended: false,
     };
     let answers = Source {
-        fd: two,
+        failed: false,
         from: 0,
         to: 0,
         ended: false,
@@ -348,11 +351,13 @@ fn main() {
         &mut other,
         &mut input,
         &mut second,
+        &mut one,
+        &mut two,
     );
     if !end.good {
-        io::write_all(STDERR_FILENO, b"sheet: a file cannot be read\n");
+        write_all(rt.stderr(), b"sheet: a file cannot be read\n");
         return;
     }
     let d = end.desk;
-    shown(d, &mut input);
+    shown(rt.stdout(), rt.stderr(), d, &mut input);
 }

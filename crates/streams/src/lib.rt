@@ -45,6 +45,16 @@ where
     to.print(n).is_ok()
 }
 
+// Puts a number in decimal at the front of the text, and says how many digits it has.
+pub fn decimal(n: u64, text: &mut [u8; 20]) -> usize
+    ensures { result ≤ 20 }
+{
+    let mut rest = &mut text[..];
+    let _ = write!(rest, "{n}");
+    let left = rest.len();
+    20usize.saturating_sub(left)
+}
+
 // Reads until the room is full, the input ends or a read fails, and says how many bytes stand at the front of the room.
 pub fn read_full<R: Read>(input: &mut R, room: &mut [u8]) -> usize
     ensures { result ≤ length room.new }

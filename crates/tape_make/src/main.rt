@@ -2,7 +2,9 @@
 // as those lines. With the argument `bcd` parity is even. At a line that is none it stops, and says so in one line on standard error.
 #![tactic(auto)]
 
-use libc::{STDERR_FILENO, STDIN_FILENO, STDOUT_FILENO};
+use std::io::Read;
+use std::rt::Env;
+use streams::{Streams, large_buffer, print_decimal, write_all};
 
 // A line as far as it has come: `digits` of the word that has begun, which is `value` so far; how many words came before it, of which the room
 // holds the first 1,024; whether a character is no digit, and whether a word is 2^36 or more; how much of `MARK` it is, 5 if it is none.
@@ -158,10 +160,10 @@ fn stopped(m: Work) -> Work {
 }
 
 // What waits is written, or said that it cannot be.
-fn flushed(m: Work, out: &[u8]) -> Work {
-    let good = io::write_all(STDOUT_FILENO, front(out, m.used));
+fn flushed(ends: Streams, m: Work, out: &[u8]) -> Work {
+    let good = write_all(ends.out, front(out, m.used));
     if !good {
-        io::write_all(STDERR_FILENO, b"reel: the image cannot be written\n");
+        write_all(ends.err, b"reel: the image cannot be written\n");
         return stopped(m);
     }
     Work {
@@ -172,7 +174,7 @@ fn flushed(m: Work, out: &[u8]) -> Work {
 }
 
 // The making after a line, whose record has n bytes.
-fn after(m: Work, n: usize, out: &[u8]) -> Work {
+fn after(ends: Streams, m: Work, n: usize, out: &[u8]) -> Work {
     let used = std::num::wrapping_add_usize(m.used, n);
     let next = Work {
         lines: std::num::wrapping_add_u64(m.lines, 1),
@@ -180,51 +182,51 @@ fn after(m: Work, n: usize, out: &[u8]) -> Work {
         on: true,
     };
     if WAITING < used {
-        return flushed(next, out);
+        return flushed(ends, next, out);
     }
     next
 }
 
 // A line that is refused: what was made stands, and nothing follows.
-fn refused(m: Work, number: u8, out: &[u8]) -> Work {
-    let done = flushed(m, out);
-    io::write_all(STDERR_FILENO, b"refused ");
-    io::print_decimal(STDERR_FILENO, number as u64);
-    io::write_all(STDERR_FILENO, b" at line ");
-    io::print_decimal(STDERR_FILENO, std::num::wrapping_add_u64(m.lines, 1));
+fn refused(ends: Streams, m: Work, number: u8, out: &[u8]) -> Work {
+    let done = flushed(ends, m, out);
+    write_all(ends.err, b"refused ");
+    print_decimal(ends.err, number as u64);
+    write_all(ends.err, b" at line ");
+    print_decimal(ends.err, std::num::wrapping_add_u64(m.lines, 1));
     if number == 1 {
-        io::write_all(STDERR_FILENO, b": this is no line of words\n");
+        write_all(ends.err, b": this is no line of words\n");
         return stopped(done);
     }
     if number == 2 {
-        io::write_all(STDERR_FILENO, b": a word is 2^36 or more\n");
+        write_all(ends.err, b": a word is 2^36 or more\n");
         return stopped(done);
     }
-    io::write_all(STDERR_FILENO, b": a block has 1 to 1,024 words\n");
+    write_all(ends.err, b": a block has 1 to 1,024 words\n");
     stopped(done)
 }
 
 // The record of a line that has ended. 1 comes before 2, and 2 before 13.
-fn made(m: Work, line: Line, room: &[u64], out: &mut [u8], bcd: bool) -> Work {
+fn made(ends: Streams, m: Work, line: Line, room: &[u64], out: &mut [u8], bcd: bool) -> Work {
     if line.mark == 4 {
         tape::write_mark(out, m.used);
-        return after(m, 4, &out[..]);
+        return after(ends, m, 4, &out[..]);
     }
     if line.bad | (line.digits != 0) {
-        return refused(m, 1, &out[..]);
+        return refused(ends, m, 1, &out[..]);
     }
     if line.tall {
-        return refused(m, 2, &out[..]);
+        return refused(ends, m, 2, &out[..]);
     }
     let n = line.words;
     if 1024 < n {
-        return refused(m, 13, &out[..]);
+        return refused(ends, m, 13, &out[..]);
     }
     let number = tape::write_block(out, m.used, bcd, front_words(room, n));
     if number != 0 {
-        return refused(m, number, &out[..]);
+        return refused(ends, m, number, &out[..]);
     }
-    after(m, 6 * n + 8, &out[..])
+    after(ends, m, 6 * n + 8, &out[..])
 }
 
 // ---- the reading
@@ -237,11 +239,11 @@ struct Text {
 }
 
 // The same after one byte more: a line feed ends the line.
-fn with_byte(p: Text, c: u8, room: &mut [u64], out: &mut [u8], bcd: bool) -> Text {
+fn with_byte(ends: Streams, p: Text, c: u8, room: &mut [u64], out: &mut [u8], bcd: bool) -> Text {
     let m = p.work;
     let line = p.line;
     if c == 10 {
-        let done = made(m, line, &room[..], out, bcd);
+        let done = made(ends, m, line, &room[..], out, bcd);
         let next = no_line();
         return Text {
             work: done,
@@ -255,11 +257,18 @@ fn with_byte(p: Text, c: u8, room: &mut [u64], out: &mut [u8], bcd: bool) -> Tex
     }
 }
 
-fn with_bytes(start: Text, bytes: &[u8], room: &mut [u64], out: &mut [u8], bcd: bool) -> Text {
+fn with_bytes(
+    ends: Streams,
+    start: Text,
+    bytes: &[u8],
+    room: &mut [u64],
+    out: &mut [u8],
+    bcd: bool,
+) -> Text {
     let mut p = start;
     let mut i = 0;
     while i < bytes.len() {
-        p = with_byte(p, bytes[i], room, out, bcd);
+        p = with_byte(ends, p, bytes[i], room, out, bcd);
         let m = p.work;
         if !m.on {
             return p;
@@ -270,18 +279,18 @@ fn with_bytes(start: Text, bytes: &[u8], room: &mut [u64], out: &mut [u8], bcd: 
 }
 
 // The end of the text: the last line, if one has begun.
-fn last(p: Text, room: &[u64], out: &mut [u8], bcd: bool) -> Text {
+fn last(ends: Streams, p: Text, room: &[u64], out: &mut [u8], bcd: bool) -> Text {
     let m = p.work;
     let line = p.line;
     if line.begun {
-        let done = made(m, line, room, out, bcd);
+        let done = made(ends, m, line, room, out, bcd);
         if !done.on {
             return Text { work: done, line };
         }
-        let end = stopped(flushed(done, &out[..]));
+        let end = stopped(flushed(ends, done, &out[..]));
         return Text { work: end, line };
     }
-    let end = stopped(flushed(m, &out[..]));
+    let end = stopped(flushed(ends, m, &out[..]));
     Text { work: end, line }
 }
 
@@ -292,21 +301,27 @@ fn stopped_part(p: Text) -> Text {
 }
 
 // Reads once, and makes what came.
-fn once(p: Text, input: &mut [u8], room: &mut [u64], out: &mut [u8], bcd: bool) -> Text {
-    let got = libc::read(STDIN_FILENO, input);
-    if got < 0 {
-        io::write_all(STDERR_FILENO, b"reel: the text cannot be read\n");
+fn once(
+    ends: Streams,
+    p: Text,
+    input: &mut [u8],
+    room: &mut [u64],
+    out: &mut [u8],
+    bcd: bool,
+) -> Text {
+    let mut reader = ends.input;
+    let Ok(n) = reader.read(input) else {
+        write_all(ends.err, b"reel: the text cannot be read\n");
         return stopped_part(p);
-    }
-    let n = io::count(got, input);
+    };
     if n == 0 {
-        return last(p, &room[..], out, bcd);
+        return last(ends, p, &room[..], out, bcd);
     }
-    with_bytes(p, &input[..n], room, out, bcd)
+    with_bytes(ends, p, &input[..n], room, out, bcd)
 }
 
 // Reads until the text ends. It counts its turns down from a number that no run uses up.
-fn make(input: &mut [u8], room: &mut [u64], out: &mut [u8], bcd: bool) {
+fn make(ends: Streams, input: &mut [u8], room: &mut [u64], out: &mut [u8], bcd: bool) {
     let line = no_line();
     let start = Work {
         lines: 0,
@@ -316,7 +331,7 @@ fn make(input: &mut [u8], room: &mut [u64], out: &mut [u8], bcd: bool) {
     let mut p = Text { work: start, line };
     let mut turns = u64::MAX;
     while 0 < turns {
-        p = once(p, input, room, out, bcd);
+        p = once(ends, p, input, room, out, bcd);
         let m = p.work;
         if !m.on {
             return;
@@ -326,12 +341,17 @@ fn make(input: &mut [u8], room: &mut [u64], out: &mut [u8], bcd: bool) {
 }
 
 // With the argument `bcd`, or any that begins so, parity is even.
-fn main() {
+fn main(rt: HostRuntime) {
     let mut name = [0u8; 8];
-    os::arg(1, &mut name);
+    let _ = rt.arg(1, &mut name);
     let bcd = name[0] == b'b';
-    let mut input = io::large_buffer();
-    let mut out = io::large_buffer();
+    let mut input = large_buffer();
+    let mut out = large_buffer();
     let mut room = [0u64; 1024];
-    make(&mut input, &mut room, &mut out, bcd);
+    let ends = Streams {
+        input: rt.stdin(),
+        out: rt.stdout(),
+        err: rt.stderr(),
+    };
+    make(ends, &mut input, &mut room, &mut out, bcd);
 }

@@ -2,7 +2,9 @@
 // words in hexadecimal digits, `octal` in octal ones. At a fault it stops, and says so in one line on standard error.
 #![tactic(auto)]
 
-use libc::{STDERR_FILENO, STDIN_FILENO, STDOUT_FILENO};
+use std::io::Read;
+use std::rt::Env;
+use streams::{Streams, decimal, large_buffer, write_all};
 use tape::Next;
 
 // Where the reading stands: the window is the bytes of the room up to `to`, of which those before `from` are done with; the room begins at
@@ -58,7 +60,7 @@ fn put_text(out: &mut [u8], at: usize, text: &[u8]) -> usize {
 
 fn put_decimal(out: &mut [u8], at: usize, x: u64) -> usize {
     let mut text = [0u8; 20];
-    let k = io::decimal(x, &mut text);
+    let k = decimal(x, &mut text);
     put_text(out, at, &text[..k])
 }
 
@@ -179,17 +181,17 @@ fn waiting(v: View, used: usize) -> View {
 }
 
 // What waits is written, or said that it cannot be.
-fn flushed(v: View, out: &[u8]) -> View {
-    let good = io::write_all(STDOUT_FILENO, front(out, v.used));
+fn flushed(ends: Streams, v: View, out: &[u8]) -> View {
+    let good = write_all(ends.out, front(out, v.used));
     if !good {
-        io::write_all(STDERR_FILENO, b"reel: the output cannot be written\n");
+        write_all(ends.err, b"reel: the output cannot be written\n");
         return stopped(v);
     }
     waiting(v, 0)
 }
 
 // The reading after a record, whose line ends at `used`.
-fn after(v: View, next: usize, used: usize, out: &[u8]) -> View {
+fn after(ends: Streams, v: View, next: usize, used: usize, out: &[u8]) -> View {
     let w = View {
         from: next,
         to: v.to,
@@ -200,7 +202,7 @@ fn after(v: View, next: usize, used: usize, out: &[u8]) -> View {
         on: true,
     };
     if WAITING < used {
-        return flushed(w, out);
+        return flushed(ends, w, out);
     }
     w
 }
@@ -210,49 +212,56 @@ fn put_number(v: View, out: &mut [u8]) -> usize {
     put_decimal(out, v.used, std::num::wrapping_add_u64(v.count, 1))
 }
 
-fn show_mark(v: View, next: usize, out: &mut [u8], list: bool) -> View {
+fn show_mark(ends: Streams, v: View, next: usize, out: &mut [u8], list: bool) -> View {
     if list {
         let at = put_number(v, out);
         let used = put_text(out, at, b" mark\n");
-        return after(v, next, used, &out[..]);
+        return after(ends, v, next, used, &out[..]);
     }
     let used = put_text(out, v.used, b"MARK\n");
-    after(v, next, used, &out[..])
+    after(ends, v, next, used, &out[..])
 }
 
 // A block of n words, in a list and as its words.
-fn list_block(v: View, n: usize, next: usize, out: &mut [u8]) -> View {
+fn list_block(ends: Streams, v: View, n: usize, next: usize, out: &mut [u8]) -> View {
     let at = put_number(v, out);
     let to = put_both(out, at, b" block ", n as u64);
     let used = put_text(out, to, b" words\n");
-    after(v, next, used, &out[..])
+    after(ends, v, next, used, &out[..])
 }
 
-fn show_block(v: View, words: &[u64], next: usize, out: &mut [u8], octal: bool) -> View {
+fn show_block(
+    ends: Streams,
+    v: View,
+    words: &[u64],
+    next: usize,
+    out: &mut [u8],
+    octal: bool,
+) -> View {
     let end = put_words(out, v.used, words, octal);
     let used = put(out, end, b'\n');
-    after(v, next, used, &out[..])
+    after(ends, v, next, used, &out[..])
 }
 
 // The end of the image; a list says how many bytes it has.
-fn show_end(v: View, out: &mut [u8], list: bool) -> View {
+fn show_end(ends: Streams, v: View, out: &mut [u8], list: bool) -> View {
     if list {
         let bytes = std::num::wrapping_add_u64(v.base, v.from as u64);
         let at = put_both(out, v.used, b"end, ", bytes);
         let used = put_text(out, at, b" bytes\n");
-        return stopped(flushed(waiting(v, used), &out[..]));
+        return stopped(flushed(ends, waiting(v, used), &out[..]));
     }
-    stopped(flushed(v, &out[..]))
+    stopped(flushed(ends, v, &out[..]))
 }
 
 // The fault at a place of the window: what was shown stands, and nothing follows.
-fn show_fault(v: View, number: u8, place: usize, out: &mut [u8]) -> View {
-    let w = flushed(v, &out[..]);
+fn show_fault(ends: Streams, v: View, number: u8, place: usize, out: &mut [u8]) -> View {
+    let w = flushed(ends, v, &out[..]);
     let byte = std::num::wrapping_add_u64(v.base, place as u64);
     let at = put_both(out, 0, b"refused ", number as u64);
     let to = put_both(out, at, b" at byte ", byte);
     let end = put_fault(out, to, number);
-    io::write_all(STDERR_FILENO, front(&out[..], end));
+    write_all(ends.err, front(&out[..], end));
     stopped(w)
 }
 
@@ -275,8 +284,8 @@ fn moved(room: &mut [u8], from: usize, to: usize) -> usize {
 }
 
 // Reads more bytes after the window.
-fn more(v: View, room: &mut [u8], out: &[u8]) -> View {
-    let w = flushed(v, out);
+fn more(ends: Streams, v: View, room: &mut [u8], out: &[u8]) -> View {
+    let w = flushed(ends, v, out);
     if !w.on {
         return w;
     }
@@ -285,12 +294,11 @@ fn more(v: View, room: &mut [u8], out: &[u8]) -> View {
     if room.len() <= k {
         return stopped(w);
     }
-    let got = libc::read(STDIN_FILENO, &mut room[k..]);
-    if got < 0 {
-        io::write_all(STDERR_FILENO, b"reel: the image cannot be read\n");
+    let mut reader = ends.input;
+    let Ok(n) = reader.read(&mut room[k..]) else {
+        write_all(ends.err, b"reel: the image cannot be read\n");
         return stopped(w);
-    }
-    let n = io::count(got, &room[k..]);
+    };
     View {
         from: 0,
         to: k + n,
@@ -304,6 +312,7 @@ fn more(v: View, room: &mut [u8], out: &[u8]) -> View {
 
 // One record, or more bytes.
 fn turn(
+    ends: Streams,
     v: View,
     room: &mut [u8],
     words: &mut [u64],
@@ -313,26 +322,33 @@ fn turn(
 ) -> View {
     let found = tape::next_record(front(&room[..], v.to), v.from, v.ended);
     match found {
-        Next::More => more(v, room, &out[..]),
-        Next::End => show_end(v, out, list),
-        Next::Mark { next } => show_mark(v, next, out, list),
+        Next::More => more(ends, v, room, &out[..]),
+        Next::End => show_end(ends, v, out, list),
+        Next::Mark { next } => show_mark(ends, v, next, out, list),
         Next::Block {
             place,
             words: n,
             next,
         } => {
             if list {
-                return list_block(v, n, next, out);
+                return list_block(ends, v, n, next, out);
             }
             tape::block_words(front(&room[..], v.to), place, n, words, 0);
-            show_block(v, front_words(&words[..], n), next, out, octal)
+            show_block(ends, v, front_words(&words[..], n), next, out, octal)
         }
-        Next::Fault { number, place } => show_fault(v, number, place, out),
+        Next::Fault { number, place } => show_fault(ends, v, number, place, out),
     }
 }
 
 // Reads until the image ends. It counts its turns down from a number that no run uses up.
-fn show(room: &mut [u8], words: &mut [u64], out: &mut [u8], list: bool, octal: bool) {
+fn show(
+    ends: Streams,
+    room: &mut [u8],
+    words: &mut [u64],
+    out: &mut [u8],
+    list: bool,
+    octal: bool,
+) {
     let mut v = View {
         from: 0,
         to: 0,
@@ -344,7 +360,7 @@ fn show(room: &mut [u8], words: &mut [u64], out: &mut [u8], list: bool, octal: b
     };
     let mut turns = u64::MAX;
     while 0 < turns {
-        v = turn(v, room, words, out, list, octal);
+        v = turn(ends, v, room, words, out, list, octal);
         if !v.on {
             return;
         }
@@ -353,13 +369,18 @@ fn show(room: &mut [u8], words: &mut [u64], out: &mut [u8], list: bool, octal: b
 }
 
 // The first letter of the argument says how: l, w or o.
-fn main() {
+fn main(rt: HostRuntime) {
     let mut name = [0u8; 8];
-    os::arg(1, &mut name);
+    let _ = rt.arg(1, &mut name);
     let list = name[0] == b'l';
     let octal = name[0] == b'o';
-    let mut room = io::large_buffer();
-    let mut out = io::large_buffer();
+    let mut room = large_buffer();
+    let mut out = large_buffer();
     let mut words = [0u64; 1024];
-    show(&mut room, &mut words, &mut out, list, octal);
+    let ends = Streams {
+        input: rt.stdin(),
+        out: rt.stdout(),
+        err: rt.stderr(),
+    };
+    show(ends, &mut room, &mut words, &mut out, list, octal);
 }
