@@ -102,7 +102,7 @@ calls_play image s area [] shown = record { lines = refl; shows = shown }
 calls_play image s area (x ∷ xs) shown =
     by_test (λ (b : Bool). ltb (length x.answer) most_text ≡ b → Plays image s area (x ∷ xs)) (ltb (length x.answer) most_text)
     (λ t e. plays_short image s area x xs shown e (calls_play image s area xs shown))
-    (λ t e. plays_one image s area x xs shown e (calls_play _ _ _ xs (after_shown image s area x xs shown e)))
+    (λ t e. plays_one image s area x xs shown e (calls_play (answer_call image x.frame x.answer).state (answer_to s area x.frame).state (answer_to s area x.frame).area xs (after_shown image s area x xs shown e)))
     refl
 
 -- ---- from the start: a session
