@@ -1,3 +1,2 @@
 // The sheet and the demands speak of the same numbers: theorems, no code.
 #![tactic(auto)]
-

@@ -22,8 +22,11 @@ bounds-block-n c = let a = c.args in
 
 pub returns-then-sequence-check : goal.returns-then-sequence-check
 returns-then-sequence-check c = let a = c.args in
-    let accepted = sym c.sealed_word-s.ensures.refusal_value ∙ c.if-s-ne0.false in record { value = sym accepted; block_after = ap (set a.block.now a.n) (c.sealed_word-s.ensures.word_value c.if-s-ne0.false)
-          ∙ sym (seal_writes a.block.now a.n a.sequence a.check a.number accepted c.if-sequence-check.true) }
+    let accepted = sym c.sealed_word-s.ensures.refusal_value ∙ c.if-s-ne0.false in record {
+      value = sym accepted;
+      block_after = ap (set a.block.now a.n) (c.sealed_word-s.ensures.word_value c.if-s-ne0.false)
+          ∙ sym (seal_writes a.block.now a.n a.sequence a.check a.number accepted c.if-sequence-check.true);
+    }
 
 pub returns-else-sequence-check : goal.returns-else-sequence-check
 returns-else-sequence-check c = let a = c.args in

@@ -35,10 +35,13 @@ returns-then-s c = let a = c.args in
     let all : all_of is_word (take k a.block.now) ≡ true = sym (summed_fits (take k a.block.now) c.logical_sum-s.result c.logical_sum-s.ensures) ∙ c.if-s.true in
     let fine : not (a.check && not (all_of is_word (take a.n a.block.now))) ≡ true =
     sym (seal_summed a.block.now a.n a.sequence a.check a.number) ∙ ap (all_of is_word) (sym at) ∙ all in
-    let room : a.n + extra a.sequence a.check ≤ length a.block.now = omega (arith, c.extra-e.ensures.0) in record { refusal_value = sym (seal_accepted a.block.now a.n a.sequence a.check a.number (omega arith) room (not-true _ fine)); word_value = λ z.
+    let room : a.n + extra a.sequence a.check ≤ length a.block.now = omega (arith, c.extra-e.ensures.0) in record {
+      refusal_value = sym (seal_accepted a.block.now a.n a.sequence a.check a.number (omega arith) room (not-true _ fine));
+      word_value = λ z.
           c.check_word-word.ensures.0
           ∙ ap (λ (s : ℕ). check_word a.sequence a.check s a.number) (sums all ∙ ap logical_sum at)
-          ∙ seal_word a.block.now a.n a.sequence a.check a.number }
+          ∙ seal_word a.block.now a.n a.sequence a.check a.number;
+    }
 
 pub returns : goal.returns
 returns c = let a = c.args in
