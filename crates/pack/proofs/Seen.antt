@@ -44,8 +44,8 @@ station_at c s = station (channel_at s c) s.frozen
 -- ---- what a call is to channel c
 
 abbrev pub event_if : Bool → history.Event → history.Answer → Option Shown
-event_if true event answer = some (record { event = event; answer = answer })
-event_if false event answer = none
+event_if true event told = some (record { event = event; answer = told })
+event_if false event told = none
 
 abbrev pub seen : ℕ → State → List ℕ → Call → Option Shown
 seen c s area (fresh m w masks) = none
