@@ -19,7 +19,7 @@ pub returns-then-answer-lt-ANSWER : goal.returns-then-answer-lt-ANSWER
 returns-then-answer-lt-ANSWER c = let both = as_called (answer_call c.args.state.now c.args.frame.now c.args.answer.now) (refused_call 1 c.args.state.now c.args.answer.now) (answer_short c.args.state.now c.args.frame.now c.args.answer.now (is_an_image c.args.state.now _ c.image_in-x.ensures c.if-not-x.false) (omega (arith, c.if-answer-lt-ANSWER))) in record { value = both.0; state_after = both.1; answer_after = both.2 }
 
 pub overflow_cast-result : goal.overflow_cast-result
-overflow_cast-result c = let good = is_an_image c.args.state.now _ c.image_in-x.ensures c.if-not-x.false in let e = held_moved _ _ _ c.args.answer.now _ (held_line longest c.args.frame.now) (ap (λ (n : ℕ). held_line n c.args.frame.now) (length-replicate {A = ℕ} longest 0)) _ _ _ _ c.answer_held-r.ensures.state_value c.answer_held-r.ensures.length_value.0 c.answer_held-r.ensures.length_value.1.0 c.answer_held-r.ensures.length_value.1.1 in let small = answer_small c.args.state.now c.args.frame.now c.args.answer.now _ good (omega (arith, c.if-answer-lt-ANSWER)) (omega (arith, length-replicate {A = ℕ} most_words 0)) _ _ (ap (λ (x : Image). x.state) c.image_in-x.ensures ∙ state_there c.args.state.now good) (c.read_area.ensures ∙ area_there c.args.state.now (replicate image_words 0) good (length-replicate {A = ℕ} image_words 0)) _ e.1.0 in search rules
+overflow_cast-result c = let good = is_an_image c.args.state.now _ c.image_in-x.ensures c.if-not-x.false in let e = held_moved _ _ _ c.args.answer.now _ (held_line longest c.args.frame.now) (ap (λ (n : ℕ). held_line n c.args.frame.now) (length-replicate {A = ℕ} longest 0)) _ _ _ _ c.answer_held-r.ensures.state_value c.answer_held-r.ensures.length_value c.answer_held-r.ensures.area_after c.answer_held-r.ensures.out_after in let small = answer_small c.args.state.now c.args.frame.now c.args.answer.now _ good (omega (arith, c.if-answer-lt-ANSWER)) (omega (arith, length-replicate {A = ℕ} most_words 0)) _ _ (ap (λ (x : Image). x.state) c.image_in-x.ensures ∙ state_there c.args.state.now good) (c.read_area.ensures ∙ area_there c.args.state.now (replicate image_words 0) good (length-replicate {A = ℕ} image_words 0)) _ e.1.0 in search rules
 
 pub returns : goal.returns
-returns c = let both = (let good = is_an_image c.args.state.now _ c.image_in-x.ensures c.if-not-x.false in let e = held_moved _ _ _ c.args.answer.now _ (held_line longest c.args.frame.now) (ap (λ (n : ℕ). held_line n c.args.frame.now) (length-replicate {A = ℕ} longest 0)) _ _ _ _ c.answer_held-r.ensures.state_value c.answer_held-r.ensures.length_value.0 c.answer_held-r.ensures.length_value.1.0 c.answer_held-r.ensures.length_value.1.1 in answer_given c.args.state.now c.args.frame.now c.args.answer.now _ good (omega (arith, c.if-answer-lt-ANSWER)) (omega (arith, length-replicate {A = ℕ} most_words 0)) _ _ (ap (λ (x : Image). x.state) c.image_in-x.ensures ∙ state_there c.args.state.now good) (c.read_area.ensures ∙ area_there c.args.state.now (replicate image_words 0) good (length-replicate {A = ℕ} image_words 0)) _ _ _ _ _ e.1.0 e.0 e.1.1.0 e.1.1.1 c.put_image.ensures) in record { value = both.0; state_after = both.1; answer_after = both.2 }
+returns c = let both = (let good = is_an_image c.args.state.now _ c.image_in-x.ensures c.if-not-x.false in let e = held_moved _ _ _ c.args.answer.now _ (held_line longest c.args.frame.now) (ap (λ (n : ℕ). held_line n c.args.frame.now) (length-replicate {A = ℕ} longest 0)) _ _ _ _ c.answer_held-r.ensures.state_value c.answer_held-r.ensures.length_value c.answer_held-r.ensures.area_after c.answer_held-r.ensures.out_after in answer_given c.args.state.now c.args.frame.now c.args.answer.now _ good (omega (arith, c.if-answer-lt-ANSWER)) (omega (arith, length-replicate {A = ℕ} most_words 0)) _ _ (ap (λ (x : Image). x.state) c.image_in-x.ensures ∙ state_there c.args.state.now good) (c.read_area.ensures ∙ area_there c.args.state.now (replicate image_words 0) good (length-replicate {A = ℕ} image_words 0)) _ _ _ _ _ e.1.0 e.0 e.1.1.0 e.1.1.1 c.put_image.ensures) in record { value = both.0; state_after = both.1; answer_after = both.2 }
