@@ -35,7 +35,7 @@ progress() {
             fflush("/dev/stderr")
         }
         { print >kept; fflush(kept) }
-        /^rt: [a-z0-9_]+ (proved|is kept)/ || /^logic=proved/ { tell("crates proved", ++proved, crates) }
+        (edits > 0 ? /^rt: [a-z0-9_]+ (proved|is kept)/ : /^logic=proved/) { tell("crates proved", ++proved, crates) }
         /^rt: must-fail .*: refused/ { tell("wrong edits refused", ++refused, edits) }
         END { if (again && proved + refused) printf "\n" >"/dev/stderr" }'
 }
@@ -51,12 +51,12 @@ need_kit() {
 # a file of the crates is newer. Ends the command with status 1 if that fails; $5 says what it is. A program that is built is run once, on nothing.
 build() {
     need_kit
-    if [ -f "$4" ] && [ -z "$(find "$here/crates" -name out -prune -o -type f -newer "$4" -print 2>/dev/null | head -n 1)" ] && [ ! "$here/crates.txt" -nt "$4" ]; then
+    if [ -f "$4" ] && [ -z "$(find "$here/crates" -mindepth 2 -name out -prune -o -newer "$4" -print 2>/dev/null | head -n 1)" ] && [ ! "$here/crates.txt" -nt "$4" ]; then
         return
     fi
     kept=$(mktemp) || exit 1
     say "proving and building $1 first; this takes some minutes"
-    { (cd "$here/crates/$1" && rt check && { [ "$2" = check ] || rt "$2" || [ "$2" = run ]; } && [ -f "out/$3" ]) 2>&1 </dev/null; echo "$?" >"$kept.status"; } |
+    { (cd "$here/crates/$1" && rm -f "out/$3" && rt check && { [ "$2" = check ] || rt "$2" || [ "$2" = run ]; } && [ -f "out/$3" ]) 2>&1 </dev/null; echo "$?" >"$kept.status"; } |
         progress "$kept" "$(crates_below "$1" | wc -l)"
     built=$(cat "$kept.status")
     [ "$built" -eq 0 ] || tail -n 20 "$kept" >&2
