@@ -13,10 +13,11 @@ import collections
 import glob
 import os
 import re
+import subprocess
 import sys
 
 root = sys.argv[1] if len(sys.argv) > 1 else "."
-KIT = "/opt/rattle/rattle"
+KIT = os.path.join(os.path.dirname(subprocess.run(["rt", "doc"], capture_output=True, text=True, check=True).stdout.strip()), "rattle")
 WORD = r"[^\s(){}.;,@\"«»\[\]\\]+"
 ANTT = re.compile(r"--[^\n]*|\"(?:[^\"\\]|\\.)*\"|" + WORD)
 RUST = re.compile(r"//[^\n]*|\"(?:[^\"\\]|\\.)*\"|" + WORD)
