@@ -2,12 +2,12 @@
 use mathlib.Core.Path.{◌≡◌, refl, sym, ap, ◌∙◌}
 use mathlib.Core.Bool.{Bool, true, false, ◌&&◌, ◌||◌}
 use mathlib.Core.List.{List, [], ◌∷◌}
-use Prim.Native.Nat.{ℕ, zero, suc, ◌+◌, ◌<◌}
+use Prim.Native.Nat.{ℕ, zero, suc, ◌<◌}
 use native.Mathlib.Nat.{le_of_suc-le-suc, not-suc-le-zero}
 use native.Mathlib.Omega.{arith}
 use lib.ListN.{length, get_or, set}
 use Rattle.area.specs.Lists.{any_of, all_of, all_pairs}
-use Rattle.area.proofs.Walks.{by_test, true_not_false, and_left, and_right, and_both, or_first, or_second, all_at, at_all}
+use Rattle.area.proofs.Walks.{true_not_false, and_left, and_right, and_both, or_first, or_second, all_at, at_all}
 
 -- two tests are equal if each follows from the other
 pub each_way : (a b : Bool) → (a ≡ true → b ≡ true) → (b ≡ true → a ≡ true) → a ≡ b

@@ -9,8 +9,8 @@ use native.Mathlib.Omega.{arith}
 use lib.ListN.{length, get_or, set, take, drop}
 use lib.Seq.{paste-zero, paste-suc, length-paste, drop-drop}
 use lib.Seq as Seq
-use Rattle.area.specs.Parts.{paste, part_of, paste_fits, pasted_in}
-use Rattle.area.proofs.Pastes.{length_part, paste_copied, paste_fitting, paste_misfit, paste_whole}
+use Rattle.area.specs.Parts.{paste, paste_fits, pasted_in}
+use Rattle.area.proofs.Pastes.{paste_copied, paste_fitting, paste_misfit}
 
 module _ {A : Type 0} (at : ℕ) (ys xs : List A) where
   -- ys do not fit: nothing is copied
@@ -46,15 +46,9 @@ module _ {A : Type 0} (at : ℕ) (ys xs : List A) where
   copied_all i zs h c =
       (sym (le-leb (at + length ys) (length xs) c.fits), c.far ∙ paste_copied at i ys xs h c.within ∙ sym (paste_fitting at ys xs c.fits))
 
-  -- ys in the place of a part as long as they are, and that part put back
-  pub copied_back : (zs : List A) → at + length ys ≤ length xs → zs ≡ pasted_in 0 ys (part_of at (at + length ys - at) xs)
-      → (true ≡ paste_fits at ys xs) × (take at xs ++ (zs ++ drop (at + length ys - at) (drop at xs)) ≡ pasted_in at ys xs)
+  -- a part as long as ys that is copied over, and what lay before and after it
+  pub copied_over : at + length ys ≤ length xs → take at xs ++ (ys ++ drop (at + length ys - at) (drop at xs)) ≡ pasted_in at ys xs
   unfolding paste
-  copied_back zs h e =
+  copied_over h =
       let k : at + length ys - at ≡ length ys = omega arith in
-      let whole : zs ≡ ys = e ∙ paste_whole ys (part_of at (at + length ys - at) xs) (length_part at _ xs (omega arith) ∙ k) in (
-        sym (le-leb (at + length ys) (length xs) h),
-        ap (λ (l : List A). take at xs ++ (l ++ drop (at + length ys - at) (drop at xs))) whole
-            ∙ ap (λ (l : List A). take at xs ++ (ys ++ l)) (ap (λ (n : ℕ). drop n (drop at xs)) k ∙ drop-drop (length ys) at xs)
-            ∙ sym (paste_fitting at ys xs h),
-      )
+      ap (λ (l : List A). take at xs ++ (ys ++ l)) (ap (λ (n : ℕ). drop n (drop at xs)) k ∙ drop-drop (length ys) at xs) ∙ sym (paste_fitting at ys xs h)

@@ -1,15 +1,15 @@
 -- What `lowest` says of a call's rows: the number given is that of the row that applies with none that applies before it, and 0 is given
 -- exactly if none applies. Assumes nothing.
-use mathlib.Core.Path.{◌≡◌, refl, sym, ap, subst, ◌∙◌}
-use mathlib.Core.Bool.{Bool, true, false, cond, ◌&&◌}
-use mathlib.Core.List.{List, [], ◌∷◌}
-use Prim.Native.Nat.{ℕ, zero, suc, ◌≤◌, ◌<◌}
+use mathlib.Core.Path.{◌≡◌, refl, sym, subst, ◌∙◌}
+use mathlib.Core.Bool.{Bool, true, false, ◌&&◌}
+use mathlib.Core.List.{[], ◌∷◌}
+use Prim.Native.Nat.{ℕ, ◌<◌}
 use native.Mathlib.Omega.{arith}
 use lib.Dec.{ltb}
 use lib.ListN.{length}
 use borrow.Author.Tests.{ltb-true}
 use Rattle.area.specs.Refusals.{Rows, lowest, Row, here, later, Given, NoneApplies, Exactly}
-use Rattle.area.proofs.Walks.{by_test, true_not_false, and_left, and_right}
+use Rattle.area.proofs.Walks.{true_not_false, and_left, and_right}
 use Rattle.area.proofs.Lowest.{lowest_here, lowest_past}
 
 -- the numbers of the rows rise, from above `from` on

@@ -22,10 +22,7 @@ pub enum Found {
 pub fn is_found(x: Found) -> bool
     ensures { result ≡ is_found x }
 {
-    match x {
-        Found::At(_) => true,
-        Found::Nothing => false,
-    }
+    matches!(x, Found::At(_))
 }
 
 // Whether every word of a slice is below 2^36. All are or'ed, and the bits above are looked at once.
@@ -33,10 +30,8 @@ pub fn are_words(words: &[u64]) -> bool
     ensures { result ≡ all_of is_word words.now }
 {
     let mut any: u64 = 0;
-    let mut i = 0;
-    while i < words.len() {
-        any |= words[i];
-        i += 1;
+    for word in words {
+        any |= *word;
     }
     any >> 36 == 0
 }
@@ -45,14 +40,8 @@ pub fn are_words(words: &[u64]) -> bool
 pub fn part(area: &[u64], at: usize, n: usize) -> &[u64]
     ensures { result.now ≡ part_of at n area.now }
 {
-    if area.len() <= at {
-        return &area[..0];
-    }
-    if area.len() - at <= n {
-        return &area[at..];
-    }
-    let end = at + n;
-    &area[at..end]
+    let rest = &area[at.min(area.len())..];
+    &rest[..n.min(rest.len())]
 }
 
 // Whether every word of that part is below 2^36.
@@ -62,23 +51,9 @@ pub fn part_are_words(area: &[u64], at: usize, n: usize) -> bool
     are_words(part(area, at, n))
 }
 
-// Puts the words at the front of a part of the area. Words for which the part has no room change nothing.
-fn fill(part: &mut [u64], words: &[u64])
-    ensures { part.new ≡ pasted_in 0 words.now part.old }
-{
-    if part.len() < words.len() {
-        return;
-    }
-    let mut i = 0;
-    while i < words.len() {
-        part[i] = words[i];
-        i += 1;
-    }
-}
-
-// Puts the words into the part of the area that begins at word `at` and is as long as they are, and says whether the area has that part.
-// No word outside the part changes.
-pub fn copy_in(area: &mut [u64], at: usize, words: &[u64]) -> bool
+// Puts the elements into the part of the area that begins at place `at` and is as long as they are, and says whether the area has that part.
+// Nothing outside the part changes.
+pub fn copy_in<T: Copy>(area: &mut [T], at: usize, words: &[T]) -> bool
     ensures value { result ≡ paste_fits at words.now area.old }
     ensures area_after { area.new ≡ pasted_in at words.now area.old }
 {
@@ -89,6 +64,6 @@ pub fn copy_in(area: &mut [u64], at: usize, words: &[u64]) -> bool
         return false;
     }
     let end = at + words.len();
-    fill(&mut area[at..end], words);
+    area[at..end].copy_from_slice(words);
     true
 }

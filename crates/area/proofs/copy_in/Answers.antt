@@ -1,16 +1,15 @@
--- `area::copy_in` meets its contract: the part is filled and put back. Assumes nothing.
+-- `area::copy_in` meets its contract: what does not fit changes nothing, and else the part is copied over. Assumes nothing.
+use mathlib.Core.Path.{sym}
 use native.Mathlib.Omega.{arith}
-use Rattle.area.proofs.Copies.{copy_misfit, copied_back}
+use Rattle.area.proofs.Copies.{copied_over}
+use Rattle.area.proofs.Pastes.{paste_misfit}
 use Rattle.area.proofs.copy_in.Goals as goal
 
-pub returns-then-area-at : goal.returns-then-area-at
-returns-then-area-at c = let both = (let a = c.args in
-    copy_misfit a.at a.words.now a.area.now (omega arith)) in record { value = both.0; area_after = both.1 }
+pub returns-then-area-at-clause-area_after : goal.returns-then-area-at-clause-area_after
+returns-then-area-at-clause-area_after g c = let a = c.args in sym (paste_misfit a.at a.words.now a.area.now (omega arith))
 
-pub returns-then-area-at-2 : goal.returns-then-area-at-2
-returns-then-area-at-2 c = let both = (let a = c.args in
-    copy_misfit a.at a.words.now a.area.now (omega arith)) in record { value = both.0; area_after = both.1 }
+pub returns-then-area-at-2-clause-area_after : goal.returns-then-area-at-2-clause-area_after
+returns-then-area-at-2-clause-area_after g c = let a = c.args in sym (paste_misfit a.at a.words.now a.area.now (omega arith))
 
-pub returns : goal.returns
-returns c = let both = (let a = c.args in
-    copied_back a.at a.words.now a.area.now c.fill.new.part (omega arith) c.fill.ensures) in record { value = both.0; area_after = both.1 }
+pub returns-clause-area_after : goal.returns-clause-area_after
+returns-clause-area_after g c = let a = c.args in rw c.copy_from_slice.ensures.after (copied_over a.at a.words.now a.area.now (omega arith))
