@@ -11,13 +11,7 @@ use crate::{BLOCK_NUMBERS, Checked, SUMS};
 fn mismatch(choice: bool, found: u32, due: u32, error: u8) -> u8
     ensures { (result ≡ chosen choice (if nat_eq found due then 0 else error)) × (result ≤ error) }
 {
-    if choice {
-        if found == due {
-            return 0;
-        }
-        return error;
-    }
-    0
+    if choice && found != due { error } else { 0 }
 }
 
 // The error of the fields that were read, by the sum and the number that were worked out. Only the chosen fields are compared.
@@ -36,9 +30,8 @@ pub fn check_of(sequence: bool, check: bool, sum: u64, number: u16, word: u64) -
     let due = folded(sum) as u32;
     let sumread = sum_field(word) as u32;
     let numberread = number_field(word) as u16;
-    let error = error_of(sequence, check, due, number, sumread, numberread);
     Checked {
-        error,
+        error: error_of(sequence, check, due, number, sumread, numberread),
         sum: due,
         number,
         sumread,
@@ -50,39 +43,21 @@ pub fn check_of(sequence: bool, check: bool, sum: u64, number: u16, word: u64) -
 pub fn not_checked() -> Checked
     ensures { result ≡ unchecked }
 {
-    Checked {
-        error: 0,
-        sum: 0,
-        number: 0,
-        sumread: 0,
-        numberread: 0,
-    }
+    Checked::default()
 }
 
 // The same without its error, which was told.
 pub fn told_check(c: Checked) -> Checked
     ensures { result ≡ told_check c }
 {
-    Checked {
-        error: 0,
-        sum: c.sum,
-        number: c.number,
-        sumread: c.sumread,
-        numberread: c.numberread,
-    }
+    Checked { error: 0, ..c }
 }
 
 // The same with another error's number.
 pub fn with_error(n: u8, c: Checked) -> Checked
     ensures { result ≡ with_error n c }
 {
-    Checked {
-        error: n,
-        sum: c.sum,
-        number: c.number,
-        sumread: c.sumread,
-        numberread: c.numberread,
-    }
+    Checked { error: n, ..c }
 }
 
 // Whether this may stand with a block of a file that has chosen these fields: each field in its range, the error 0 or that of the chosen fields.
@@ -100,13 +75,12 @@ pub fn is_checked(sequence: bool, check: bool, c: Checked) -> bool
 pub fn is_exact(sequence: bool, check: bool, c: Checked) -> bool
     ensures { result ≡ is_exact sequence check c }
 {
-    let error = error_of(sequence, check, c.sum, c.number, c.sumread, c.numberread);
-    c.error == error
+    c.error == error_of(sequence, check, c.sum, c.number, c.sumread, c.numberread)
 }
 
 // Whether all is zero.
 pub fn is_unchecked(c: Checked) -> bool
     ensures { result ≡ is_unchecked c }
 {
-    (c.error == 0) & (((c.sum == 0) & (c.number == 0)) & ((c.sumread == 0) & (c.numberread == 0)))
+    c == not_checked()
 }

@@ -9,10 +9,7 @@ use crate::BLOCK_NUMBERS;
 pub fn extra(sequence: bool, check: bool) -> u16
     ensures { (result ≡ extraOf sequence check) × (result ≤ 1) }
 {
-    if sequence | check {
-        return 1;
-    }
-    0
+    u16::from(sequence | check)
 }
 
 // A field's value if it is chosen, else 0.

@@ -15,11 +15,11 @@ pub const BLOCK_NUMBERS: u32 = 32768;
 pub const LAST_NUMBER: u16 = (BLOCK_NUMBERS - 1) as u16;
 
 // Folded sums are below this.
-pub const SUMS: u32 = 262144;
+pub const SUMS: u32 = 1 << 18;
 
 // What the check of a block found. `error` is 1 for the sequence, 2 for the check sum, 3 for both, 0 for none, and 0 once it was told; `sum` and `number`
 // are the folded sum and the block number that were worked out, `sumread` and `numberread` the fields of the check word.
-#[derive(Clone, Copy)]
+#[derive(Clone, Copy, PartialEq, Eq, Debug, Default)]
 pub struct Checked {
     pub error: u8,
     pub sum: u32,

@@ -20,7 +20,7 @@ struct Tally {
 }
 
 // How many words are totalled before the carries are put back: 2^20 words of 36 bits fit 64.
-const STRETCH: usize = 1048576;
+const STRETCH: usize = 1 << 20;
 
 // Two numbers of k bits added, a carry out of the top added back at the bottom.
 fn carry_back(k: u32, a: u64, b: u64) -> u64
@@ -45,16 +45,13 @@ fn put_back(t: u64) -> u64
 fn tallied(words: &[u64]) -> Tally
     ensures { (result.total ≡ total words.now % 2 ^ 64) × ((result.any / 2 ^ 36 == 0) ≡ all_of is_word words.now) }
 {
-    let mut t: u64 = 0;
+    let mut total: u64 = 0;
     let mut any: u64 = 0;
-    let mut i = 0;
-    while i < words.len() {
-        let w = words[i];
-        t = std::num::wrapping_add_u64(t, w);
-        any |= w;
-        i += 1;
+    for word in words {
+        total = total.wrapping_add(*word);
+        any |= *word;
     }
-    Tally { total: t, any }
+    Tally { total, any }
 }
 
 // The logical sum of at most a stretch of words, the carries put back once.
@@ -73,31 +70,20 @@ fn stretch_sum(words: &[u64]) -> Summed
     }
 }
 
-// The end of the stretch that begins at word `at` of n.
-fn stretch_end(at: usize, n: usize) -> usize
-    requires { at < n }
-    ensures { (at < result) × (result ≤ n) × (result - at ≤ 2 ^ 20) }
-{
-    if n - at <= STRETCH { n } else { at + STRETCH }
-}
-
 // The logical sum of words, and whether every one is below 2^36, in one pass over them.
 pub fn logical_sum(words: &[u64]) -> Summed
     ensures { result ≡ summed words.now }
 {
     let mut sum: u64 = 0;
-    let mut at = 0;
-    while at < words.len() {
-        let end = stretch_end(at, words.len());
-        let s = stretch_sum(&words[at..end]);
-        if !s.fits {
+    for stretch in words.chunks(STRETCH) {
+        let part = stretch_sum(stretch);
+        if !part.fits {
             return Summed {
                 fits: false,
                 sum: 0,
             };
         }
-        sum = carry_back(36, sum, s.sum);
-        at = end;
+        sum = carry_back(36, sum, part.sum);
     }
     Summed { fits: true, sum }
 }

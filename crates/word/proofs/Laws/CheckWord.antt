@@ -1,5 +1,5 @@
 -- The check word: what stands in each of its fields, that no other word is like it, and the next block number. Assumes nothing.
-use Rattle.std.proofs.Common.{◌≡◌, ℕ, ◌+◌, ◌-◌, ◌*◌, ◌/◌, ◌%◌, ◌^◌, ◌<◌, ◌≤◌, Bool, true, false, refl, ap, ◌∙◌, mod-lt, mod-eq_of_lt, arith, pow_pos, shl_exact}
+use Rattle.std.proofs.Common.{◌≡◌, ℕ, ◌+◌, ◌*◌, ◌/◌, ◌%◌, ◌^◌, ◌<◌, ◌≤◌, Bool, true, false, refl, ap, ◌∙◌, mod-lt, mod-eq_of_lt, arith, pow_pos, shl_exact}
 use lib.Bits.{bit_or, or_shifted}
 use Rattle.word.specs.Sums.{first_half, last_half, folded}
 use Rattle.word.specs.CheckWords.{address, between, chosen, check_word, IsCheckWord, next_number}

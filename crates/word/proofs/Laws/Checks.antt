@@ -1,9 +1,9 @@
 -- What a check finds: its error is the comparison of its chosen fields, and it may stand with its block; so may what was told of it, and nothing. Assumes nothing.
-use Rattle.std.proofs.Common.{◌≡◌, ℕ, ◌+◌, ◌/◌, ◌%◌, ◌^◌, ◌<◌, ◌≤◌, Bool, true, false, cond, ◌&&◌, ◌||◌, eqb, sym, refl, ap, ◌∙◌, mod-lt, arith, pow_pos, lt-ltb, eq-eqb, eqb-true}
+use Rattle.std.proofs.Common.{◌≡◌, ℕ, ◌+◌, ◌/◌, ◌^◌, ◌<◌, ◌≤◌, Bool, true, false, cond, ◌&&◌, ◌||◌, eqb, sym, refl, ap, mod-lt, arith, pow_pos, lt-ltb, eq-eqb, eqb-true}
 use Rattle.area.proofs.Walks.{by_test, and_both, and_left, and_right, or_second, or_either}
 use Rattle.word.specs.declared.Checked.{Checked}
 use Rattle.word.specs.Sums.{first_half, folded}
-use Rattle.word.specs.CheckWords.{address, block_numbers, chosen}
+use Rattle.word.specs.CheckWords.{address, chosen}
 use Rattle.word.proofs.Laws.CheckWord.{folded_lt, address_lt}
 use Rattle.word.specs.Checks.{error_of, error_in, check_of, unchecked, told_check, fields_fit, is_checked, is_exact, is_unchecked}
 

@@ -1,6 +1,6 @@
 -- The logical sum: it is a word, does not depend on the order of the words, may be taken in stretches, and is the plain total with
 -- every carry put back at once. Assumes nothing.
-use Rattle.std.proofs.Common.{◌≡◌, ℕ, ◌+◌, ◌-◌, ◌*◌, ◌%◌, ◌^◌, ◌<◌, ◌≤◌, true, false, ◌&&◌, List, [], ◌∷◌, ◌++◌, length, get_or, take, drop, sym, refl, ap, ◌∙◌, subst, zero-le, add-zero, add_assoc, mod-eq_of_lt, zero-add, add-one, arith, lit<, take-append-drop, drop_of_length-le, drop-cons, drop-drop, ltb-true}
+use Rattle.std.proofs.Common.{◌≡◌, ℕ, ◌+◌, ◌-◌, ◌*◌, ◌%◌, ◌^◌, ◌<◌, ◌≤◌, true, false, ◌&&◌, List, [], ◌∷◌, ◌++◌, length, get_or, drop, sym, refl, ap, ◌∙◌, subst, zero-le, add-zero, add_assoc, mod-eq_of_lt, zero-add, add-one, arith, lit<, drop_of_length-le, drop-cons, ltb-true}
 use mathlib.Core.List.{Permᴰ}
 use native.Mathlib.Nat.{mod-add-mod}
 use lib.Pow.{le_ones}
@@ -91,28 +91,25 @@ sum_stretch ws s h all =
     ∙ ap (reduced m) (omega arith)
     ∙ sym (carry_reduced 36 s (logical_sum ws) h (logical_sum_lt ws all))
 
--- the words from index `at` on, of which those before index `end` are a stretch
-module _ (ws : List ℕ) (at end : ℕ) (h : at ≤ end) where
-  stretch_split : drop at ws ≡ take (end - at) (drop at ws) ++ drop end ws
-  stretch_split =
-      let e : at + (end - at) ≡ end = omega arith in
-      sym (take-append-drop (end - at) (drop at ws))
-      ∙ ap (λ (l : List ℕ). take (end - at) (drop at ws) ++ l) (drop-drop (end - at) at ws ∙ ap (λ (n : ℕ). drop n ws) e)
+-- the words that are left, of which the first are a stretch
+module _ (left part rest : List ℕ) (split : left ≡ part ++ rest) where
+  pub stretch_words : all_of is_word left ≡ (all_of is_word part && all_of is_word rest)
+  stretch_words = ap (all_of is_word) split ∙ all_append is_word part rest
 
-  pub stretch_words : all_of is_word (drop at ws) ≡ (all_of is_word (take (end - at) (drop at ws)) && all_of is_word (drop end ws))
-  stretch_words = ap (all_of is_word) stretch_split ∙ all_append is_word (take (end - at) (drop at ws)) (drop end ws)
-
-  pub stretch_added : (s : ℕ) → s < 2 ^ 36 → all_of is_word (take (end - at) (drop at ws)) ≡ true
-      → sum_from (carry_back 36 s (logical_sum (take (end - at) (drop at ws)))) (drop end ws) ≡ sum_from s (drop at ws)
+  pub stretch_added : (s : ℕ) → s < 2 ^ 36 → all_of is_word part ≡ true → sum_from (carry_back 36 s (logical_sum part)) rest ≡ sum_from s left
   stretch_added s hs all =
-      sym (ap (sum_from s) stretch_split
-      ∙ sum_append (take (end - at) (drop at ws)) (drop end ws) s
-      ∙ ap (λ (n : ℕ). sum_from n (drop end ws)) (sum_stretch (take (end - at) (drop at ws)) s hs all))
+      sym (ap (sum_from s) split ∙ sum_append part rest s ∙ ap (λ (n : ℕ). sum_from n rest) (sum_stretch part s hs all))
 
 -- nothing is left to add
-pub sum_done : (ws : List ℕ) (s i : ℕ) → length ws ≤ i → sum_from s (drop i ws) ≡ s
+pub sum_done : (left : List ℕ) (s : ℕ) → length left ≡ 0 → sum_from s left ≡ s
 unfolding sum_from
-sum_done ws s i h = ap (sum_from s) (drop_of_length-le ws h)
+sum_done [] s h = refl
+sum_done (w ∷ ws) s h = absurd (omega arith)
+
+pub words_done : (left : List ℕ) → length left ≡ 0 → all_of is_word left ≡ true
+unfolding all_of
+words_done [] h = refl
+words_done (w ∷ ws) h = absurd (omega arith)
 
 -- ---- what one pass tells
 

@@ -4,4 +4,4 @@ use Rattle.word.proofs.checks.check_of.Goals as goal
 
 pub returns : goal.returns
 unfolding check_of
-returns c = rw (c.error_of-error.ensures, c.folded-due.ensures.0, c.sum_field-sumread.ensures.0, c.number_field-numberread.ensures.0)
+returns c = rw (c.error_of.ensures, c.folded-due.ensures.0, c.sum_field-sumread.ensures.0, c.number_field-numberread.ensures.0)

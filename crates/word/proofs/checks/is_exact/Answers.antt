@@ -3,4 +3,4 @@
 use Rattle.word.proofs.checks.is_exact.Goals as goal
 
 pub returns : goal.returns
-returns c = rw c.error_of-error.ensures
+returns c = rw c.error_of.ensures
