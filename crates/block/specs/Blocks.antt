@@ -4,6 +4,8 @@ use Rattle.area.specs.Lists.{all_of}
 use Rattle.area.specs.Parts.{is_word}
 use Rattle.area.specs.Refusals.{lowest}
 use Rattle.block.specs.declared.blocks.Judged.{Judged}
+use Rattle.block.specs.declared.blocks.Unsealed.{Unsealed}
+use Rattle.block.specs.declared.blocks.Unsealed.TheVariants.{Argument, TallWord}
 use Rattle.word.specs.Sums.{logical_sum}
 use Rattle.word.specs.CheckWords.{block_numbers, check_word, extra}
 use Rattle.word.specs.Checks.{check_of, unchecked}
@@ -21,6 +23,11 @@ block_seal_refusal block n sequence check number =
     ((1, not (is_number number) || ltb (length block) (n + extra sequence check)) ∷
     (2, check && not (all_of is_word (take n block))) ∷
     [])
+
+-- the number of a refusal, by why the block is not sealed
+abbrev pub unsealed_number : Unsealed → ℕ
+unsealed_number Argument = 1
+unsealed_number TallWord = 2
 
 -- "A block lies from the first word of its buffer, check word last."
 unfoldable pub with_check_word : List ℕ → ℕ → Bool → Bool → ℕ → List ℕ

@@ -1,9 +1,10 @@
 // Blocks on a slice: sealed with their check word, and judged by it as delivered.
-ghost use Rattle.std.specs.Prelude.{◌≡◌, ◌-◌, ◌≤◌, take, get_or};
+ghost use Rattle.std.specs.Prelude.{◌≡◌, ◌≤◌, take, MatchResult};
 ghost use Rattle.word.specs.Sums.{logical_sum};
 ghost use Rattle.word.specs.CheckWords.{chosen, check_word, extra};
-ghost use Rattle.block.specs.Blocks.{block_seal_refusal, sealed_block, refused_block, judged_block};
+ghost use Rattle.block.specs.Blocks.{block_seal_refusal, sealed_block, unsealed_number, refused_block, judged_block};
 
+use area::are_words;
 use word::{Checked, LAST_NUMBER, check_of, check_word, extra, logical_sum, not_checked};
 
 // What judging a delivered block tells: the refusal, or 0 and then what its check found.
@@ -13,11 +14,23 @@ pub struct Judged {
     pub found: Checked,
 }
 
-// The refusal of sealing a block, or 0 and then the block's check word.
-#[derive(Clone, Copy)]
-struct Sealing {
-    refusal: u8,
-    word: u64,
+// Why a block is not sealed: its number or its place is outside its range, or a word that is summed is 2^36 or more.
+#[derive(Clone, Copy, PartialEq, Eq, Debug)]
+enum Unsealed {
+    Argument,
+    TallWord,
+}
+
+// Its refusal number.
+impl From<Unsealed> for u8 {
+    ghost from_gives = { λ why number. number ≡ unsealed_number why };
+
+    fn from(why: Unsealed) -> u8 {
+        match why {
+            Unsealed::Argument => 1,
+            Unsealed::TallWord => 2,
+        }
+    }
 }
 
 // How many of n data words are summed: all if check sums are chosen, else none.
@@ -27,40 +40,28 @@ fn summed_words(check: bool, n: usize) -> usize
     if check { n } else { 0 }
 }
 
-// What sealing the n data words at the start of the slice would write, or its refusal.
-fn sealed_word(block: &[u64], n: usize, sequence: bool, check: bool, number: u16) -> Sealing
-    ensures refusal_value { result.refusal ≡ block_seal_refusal block.now n sequence check number }
-    ensures word_value { result.refusal ≡ 0 → result.word ≡ check_word sequence check (logical_sum (take n block.now)) number }
+// The check word that sealing the n data words at the start of the slice would write.
+fn sealed_word(
+    block: &[u64],
+    n: usize,
+    sequence: bool,
+    check: bool,
+    number: u16,
+) -> Result<u64, Unsealed>
+    ensures { MatchResult result
+        (λ word. (block_seal_refusal block.now n sequence check number ≡ 0) × (word ≡ check_word sequence check (logical_sum (take n block.now)) number))
+        (λ why. block_seal_refusal block.now n sequence check number ≡ unsealed_number why) }
 {
     let e = extra(sequence, check) as usize;
-    if LAST_NUMBER < number {
-        return Sealing {
-            refusal: 1,
-            word: 0,
-        };
-    }
-    if block.len() < n {
-        return Sealing {
-            refusal: 1,
-            word: 0,
-        };
-    }
-    if block.len() - n < e {
-        return Sealing {
-            refusal: 1,
-            word: 0,
-        };
+    if LAST_NUMBER < number || block.len() < n || block.len() - n < e {
+        return Err(Unsealed::Argument);
     }
     let k = summed_words(check, n);
     let s = logical_sum(&block[..k]);
-    if s.fits {
-        let word = check_word(sequence, check, s.sum, number);
-        return Sealing { refusal: 0, word };
+    if !s.fits {
+        return Err(Unsealed::TallWord);
     }
-    Sealing {
-        refusal: 2,
-        word: 0,
-    }
+    Ok(check_word(sequence, check, s.sum, number))
 }
 
 // Seals the block of n data words at the start of the slice: the check word, if one is chosen, is written after them.
@@ -69,36 +70,25 @@ pub fn seal(block: &mut [u64], n: usize, sequence: bool, check: bool, number: u1
     ensures value { result ≡ block_seal_refusal block.old n sequence check number }
     ensures block_after { block.new ≡ sealed_block block.old n sequence check number }
 {
-    let s = sealed_word(&block[..], n, sequence, check, number);
-    if s.refusal != 0 {
-        return s.refusal;
+    match sealed_word(&block[..], n, sequence, check, number) {
+        Ok(word) => {
+            if sequence | check {
+                block[n] = word;
+            }
+            0
+        }
+        Err(why) => u8::from(why),
     }
-    if sequence | check {
-        block[n] = s.word;
-    }
-    0
-}
-
-// How many data words a delivered block of `len` words has, e of them check words.
-fn data_words(len: usize, e: usize) -> usize
-    ensures { (result ≡ len - e) × (result ≤ len) }
-{
-    if len < e { 0 } else { len - e }
-}
-
-// The word at an index, 0 past the end.
-fn word_at(block: &[u64], i: usize) -> u64
-    ensures { result ≡ get_or block.now i 0 }
-{
-    if i < block.len() { block[i] } else { 0 }
 }
 
 // A refusal of judging, which finds nothing.
 fn refused(refusal: u8) -> Judged
     ensures { result ≡ refused_block refusal }
 {
-    let found = not_checked();
-    Judged { refusal, found }
+    Judged {
+        refusal,
+        found: not_checked(),
+    }
 }
 
 // Judges a block as delivered, its check word last if one is chosen, by the number it is due. The data words are summed whatever is chosen.
@@ -109,16 +99,18 @@ pub fn judge(block: &[u64], sequence: bool, check: bool, number: u16) -> Judged
         return refused(1);
     }
     let e = extra(sequence, check) as usize;
-    let n = data_words(block.len(), e);
-    let s = logical_sum(&block[..n]);
-    let last = area::are_words(&block[n..]);
-    if !(s.fits & last) {
+    let n = block.len().saturating_sub(e);
+    let (words, last) = block.split_at(n);
+    let s = logical_sum(words);
+    if !(s.fits & are_words(last)) {
         return refused(2);
     }
     if n == 0 {
         return refused(13);
     }
-    let w = word_at(block, n);
-    let found = check_of(sequence, check, s.sum, number, w);
-    Judged { refusal: 0, found }
+    let w = last.first().copied().unwrap_or(0);
+    Judged {
+        refusal: 0,
+        found: check_of(sequence, check, s.sum, number, w),
+    }
 }

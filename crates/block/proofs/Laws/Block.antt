@@ -3,22 +3,28 @@ use borrow.Author.Tests.{ltb-true, ltb-false, lt-ltb, le-ltb, eq-eqb, ne_eqb, no
 use mathlib.Core.Path.{◌≡◌, refl, sym, ap, ap₂, ◌∙◌, subst}
 use mathlib.Core.Bool.{Bool, true, false, not, ◌&&◌, ◌||◌, not-not}
 use mathlib.Core.List.{List}
-use Prim.Native.Nat.{ℕ, ◌+◌, ◌-◌, ◌^◌, ◌≤◌, ◌<◌}
+use Prim.Native.Nat.{ℕ, ◌+◌, ◌^◌, ◌≤◌, ◌<◌}
 use native.Mathlib.Omega.{arith}
 use lib.Dec.{ltb}
 use lib.ListN.{length, take, drop, get_or, set, take-append-drop}
 use Rattle.area.specs.Lists.{all_of}
 use Rattle.area.specs.Parts.{is_word}
 use Rattle.area.proofs.Walks.{by_test, or_left, or_right, or_first, or_second, or_neither, all_append}
-use Rattle.area.proofs.Pastes.{part_all}
 use Rattle.area.proofs.Lowest.{lowest_here, lowest_past, lowest_none, lowest_end}
 use Rattle.word.specs.Sums.{logical_sum}
 use Rattle.word.specs.CheckWords.{chosen, check_word, extra}
 use Rattle.word.specs.Checks.{unchecked, check_of}
-use Rattle.block.specs.Blocks.{is_number, block_seal_refusal, with_check_word, sealed_block, data_words, judge_refusal, judged_block}
+use Rattle.block.specs.declared.blocks.Unsealed.{Unsealed}
+use Rattle.block.specs.declared.blocks.Unsealed.TheVariants.{Argument, TallWord}
+use Rattle.block.specs.Blocks.{is_number, block_seal_refusal, unsealed_number, with_check_word, sealed_block, data_words, judge_refusal, judged_block}
 use Rattle.word.proofs.Laws.CheckWord.{check_word_unsummed}
 
 -- ---- sealing
+
+-- why a block is not sealed always has a number
+pub unsealed_some : (why : Unsealed) → unsealed_number why ≡ 0 → ⊥
+unsealed_some Argument e = omega arith
+unsealed_some TallWord e = omega arith
 
 module _ (block : List ℕ) (n : ℕ) (sequence check : Bool) (number : ℕ) where
   pub seal_bad_number : 2 ^ 15 ≤ number → block_seal_refusal block n sequence check number ≡ 1
@@ -128,8 +134,5 @@ module _ (block : List ℕ) (sequence check : Bool) (number : ℕ) where
           rw (judge_accepted h) (ap₂ (λ (x y : ℕ). record { refusal = 0; found = check_of sequence check x number y }) es ew)
 
 -- the data words and what is left of a block are the block
-pub block_words : (block : List ℕ) (n : ℕ) → (all_of is_word (take n block) && all_of is_word (take (length block - n) (drop n block))) ≡ all_of is_word block
-block_words block n =
-    ap (λ (l : List ℕ). all_of is_word (take n block) && all_of is_word l) (part_all n (length block - n) block (omega arith))
-    ∙ sym (all_append is_word (take n block) (drop n block))
-    ∙ ap (all_of is_word) (take-append-drop n block)
+pub block_words : (block : List ℕ) (n : ℕ) → (all_of is_word (take n block) && all_of is_word (drop n block)) ≡ all_of is_word block
+block_words block n = sym (all_append is_word (take n block) (drop n block)) ∙ ap (all_of is_word) (take-append-drop n block)

@@ -1,11 +1,11 @@
 -- What judging finds of any block: its error is the comparison of its chosen fields, and it may stand with the block. Assumes nothing.
-use mathlib.Core.Path.{◌≡◌, refl, sym}
+use mathlib.Core.Path.{◌≡◌, refl}
 use mathlib.Core.Bool.{Bool, true, false, cond, ◌||◌}
 use mathlib.Core.List.{List}
-use Prim.Native.Nat.{ℕ, ◌-◌, ◌^◌, ◌<◌}
+use Prim.Native.Nat.{ℕ, ◌^◌, ◌<◌}
 use native.Mathlib.Omega.{arith}
 use lib.Dec.{eqb}
-use lib.ListN.{length, take, get_or, get_or-eq_default}
+use lib.ListN.{take, get_or, get_or-eq_default}
 use Rattle.word.specs.declared.Checked.{Checked}
 use Rattle.word.specs.Sums.{logical_sum}
 use Rattle.word.specs.CheckWords.{extra}
