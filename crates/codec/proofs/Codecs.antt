@@ -1,16 +1,16 @@
 -- The laws of codecs: values one after the other keep the law of each. And bytes compared. Assumes nothing.
-use borrow.Author.Tests.{eqb-true, eq-eqb, ne_eqb}
-use Prim.Native.Nat.{ℕ, zero, suc, ◌+◌, ◌*◌, ◌-◌, ◌≤◌, ◌<◌}
+use borrow.Author.Tests.{eqb-true, eq-eqb}
+use Prim.Native.Nat.{ℕ, zero, suc, ◌*◌, ◌-◌, ◌≤◌}
 use mathlib.Core.Path.{◌≡◌, refl, sym, ap, ◌∙◌}
-use mathlib.Core.Bool.{Bool, true, false, ◌&&◌, and-false}
+use mathlib.Core.Bool.{Bool, true, ◌&&◌}
 use mathlib.Core.List.{List, [], ◌∷◌, ◌++◌, append_assoc, append-nil}
 use native.Mathlib.Nat.{zero-mul}
-use native.Mathlib.Numerals.{add-one}
 use native.Mathlib.Omega.{arith}
 use lib.Dec.{eqb}
-use lib.ListN.{length, take, drop, length-append, take-append-drop, replicate, length-replicate, get_or, drop_of_length-le}
-use lib.Seq.{drop_at, drop-cons, length-take-le, take-append-le, take_all}
+use lib.ListN.{length, take, drop, length-append, take-append-drop, replicate, length-replicate}
+use lib.Seq.{drop_at, length-take-le, take-append-le, take_all}
 use Rattle.area.proofs.Walks.{and_left, and_right, true_not_false}
+use Rattle.std.specs.Cmp.Lexicographic.{pointwise}
 use Rattle.codec.specs.Codecs.{Codec, Keeps, first_of, write_each, read_each, padded, Padded, All, same}
 
 -- a codec that keeps every value
@@ -110,25 +110,10 @@ same_is (x ∷ xs) (y ∷ ys) e =
     let q : xs ≡ ys = same_is xs ys (and_right (eqb x y) _ e) in
     rw (p, q)
 
-pub same_long : (xs ys : List ℕ) → (length xs ≡ length ys → ⊥) → same xs ys ≡ false
+-- the library's `==` on bytes asks the same
+pub same_pointwise : (xs ys : List ℕ) → pointwise eqb xs ys ≡ same xs ys
 unfolding same
-same_long [] [] n = absurd (n refl)
-same_long [] (y ∷ ys) n = refl
-same_long (x ∷ xs) [] n = refl
-same_long (x ∷ xs) (y ∷ ys) n = rw (same_long xs ys (λ e. n (ap suc e))) (and-false (eqb x y))
-
--- a walk along both at once: what is left gives the answer of the whole
-module _ (xs ys : List ℕ) (i : ℕ) (h : i < length xs) (k : i < length ys) where
-  same_step : same (drop i xs) (drop i ys) ≡ (eqb (get_or xs i 0) (get_or ys i 0) && same (drop (i + 1) xs) (drop (i + 1) ys))
-  unfolding same
-  same_step = rw (add-one, drop-cons xs i 0 h, drop-cons ys i 0 k)
-
-  pub same_hit : same (drop i xs) (drop i ys) ≡ same xs ys → (get_or xs i 0 ≡ get_or ys i 0 → ⊥) → false ≡ same xs ys
-  same_hit inv n = sym (sym inv ∙ same_step ∙ rw (ne_eqb (get_or xs i 0) (get_or ys i 0) n))
-
-  pub same_miss : same (drop i xs) (drop i ys) ≡ same xs ys → get_or xs i 0 ≡ get_or ys i 0 → same (drop (i + 1) xs) (drop (i + 1) ys) ≡ same xs ys
-  same_miss inv e = sym (sym inv ∙ same_step ∙ rw (eq-eqb (get_or xs i 0) (get_or ys i 0) e))
-
-pub same_end : (xs ys : List ℕ) (i : ℕ) → length xs ≤ i → length ys ≤ i → same (drop i xs) (drop i ys) ≡ same xs ys → true ≡ same xs ys
-unfolding same
-same_end xs ys i h k inv = (rw (drop_of_length-le xs h, drop_of_length-le ys k) at inv)
+same_pointwise [] [] = refl
+same_pointwise [] (y ∷ ys) = refl
+same_pointwise (x ∷ xs) [] = refl
+same_pointwise (x ∷ xs) (y ∷ ys) = ap (λ (b : Bool). eqb x y && b) (same_pointwise xs ys)

@@ -5,7 +5,7 @@ use Prim.Native.Nat.{ℕ, zero, suc, ◌+◌, ◌*◌, ◌-◌, ◌≤◌, ◌<�
 use native.Mathlib.Nat.{suc-mul, zero-mul, mul-le-mul_right}
 use native.Mathlib.Numerals.{add-one}
 use native.Mathlib.Omega.{arith}
-use lib.ListN.{length, take, drop, get_or, set, replicate, length-append, length-set, take-append-drop}
+use lib.ListN.{length, take, drop, get_or, set, replicate, length-set, take-append-drop}
 use lib.Seq.{take-suc, take-suc-set, append_snoc, drop-set-lt, drop-drop, length-take-le}
 use Rattle.area.specs.Parts.{paste, pasted_in}
 use Rattle.area.proofs.Pastes.{paste_fitting, length_paste, paste_nothing}

@@ -1,5 +1,5 @@
 -- A number is read back from its bytes, and bytes from their number. Assumes nothing.
-use mathlib.Core.Path.{◌≡◌, refl, sym, ap, ◌∙◌}
+use mathlib.Core.Path.{◌≡◌, refl, ap, ◌∙◌}
 use mathlib.Core.Bool.{Bool, true, false}
 use mathlib.Core.List.{List, [], ◌∷◌, ◌++◌}
 use mir.Val.{bool_byte}
@@ -7,10 +7,9 @@ use Prim.Native.Nat.{ℕ, zero, suc, ◌+◌, ◌*◌, ◌-◌, ◌/◌, ◌%◌
 use native.Mathlib.Nat.{div-add-mod', suc-mul, zero-mul}
 use native.Mathlib.Omega.{arith}
 use lib.Dec.{eqb}
-use Rattle.codec.specs.Codecs.{Codec, Keeps, All, write_each, read_each}
+use Rattle.codec.specs.Codecs.{Keeps, All, write_each, read_each}
 use lib.ListN.{length, take, drop, length-drop, take-append-drop}
-use lib.Seq.{drop-drop}
-use Rattle.codec.specs.Rows.{two, four, eight, eight_of, eight_bytes, word_codec}
+use Rattle.codec.specs.Rows.{four, eight, eight_of, eight_bytes, word_codec}
 use Rattle.codec.proofs.Codecs.{any, all_drop}
 
 -- a truth, as its byte

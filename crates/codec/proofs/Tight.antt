@@ -1,18 +1,14 @@
 -- Bytes that are those of what they stand for, piece by piece. Assumes nothing.
-use borrow.Author.Tests.{eqb-true, eq-eqb}
-use Prim.Native.Nat.{ℕ, zero, suc, ◌+◌, ◌*◌, ◌-◌, ◌≤◌, ◌<◌}
-use mathlib.Core.Path.{◌≡◌, refl, sym, ap, ap₂, ◌∙◌}
+use Prim.Native.Nat.{ℕ, zero, suc, ◌+◌, ◌*◌, ◌≤◌, ◌<◌}
+use mathlib.Core.Path.{◌≡◌, refl, sym, ap, ◌∙◌}
 use mathlib.Core.Bool.{Bool, true, false, ◌&&◌}
 use mathlib.Core.List.{List, [], ◌∷◌, ◌++◌}
 use native.Mathlib.Nat.{suc-mul, zero-mul}
 use native.Mathlib.Omega.{arith}
 use lib.Dec.{eqb}
-use lib.ListN.{length, take, drop, get_or, length-append, length-drop}
+use lib.ListN.{length, take, drop, get_or, length-drop}
 use lib.Seq.{drop-drop, drop-cons, take-nil, length-take-le}
-use Rattle.area.proofs.Bools.{each_way}
-use Rattle.area.proofs.Walks.{and_left, and_right, and_both}
 use Rattle.codec.specs.Codecs.{Codec, write_each, read_each, same, is_tight, are_tight, matches}
-use Rattle.codec.proofs.Codecs.{each_length, length_read}
 
 -- ---- one value of many
 

@@ -8,38 +8,19 @@ ghost use Rattle.area.specs.Parts.{pasted_in};
 ghost use Rattle.codec.specs.Codecs.{same};
 ghost use Rattle.std.specs.Prelude.{◌≡◌};
 
+use area::copy_in;
 pub use rows::{four_at, two_at, word_at, word_bytes};
 
 // Puts bytes into a lent area from byte `at` on; bytes that do not fit there change nothing.
 pub fn put_bytes(out: &mut [u8], at: usize, bytes: &[u8])
     ensures { out.new ≡ pasted_in at bytes.now out.old }
 {
-    if out.len() < at {
-        return;
-    }
-    if out.len() - at < bytes.len() {
-        return;
-    }
-    let mut i = 0;
-    while i < bytes.len() {
-        out[at + i] = bytes[i];
-        i += 1;
-    }
+    copy_in(out, at, bytes);
 }
 
 // Whether two runs of bytes are the same.
 pub fn are_same(a: &[u8], b: &[u8]) -> bool
     ensures { result ≡ same a.now b.now }
 {
-    if a.len() != b.len() {
-        return false;
-    }
-    let mut i = 0;
-    while i < a.len() {
-        if a[i] != b[i] {
-            return false;
-        }
-        i += 1;
-    }
-    true
+    a == b
 }
