@@ -3,18 +3,17 @@ use borrow.Author.Tests.{eqb-true, eq-eqb, ne_eqb, ltb-true, ltb-false, lt-ltb, 
 use mathlib.Core.Path.{◌≡◌, refl, sym, ap, ap₂, ◌∙◌}
 use mathlib.Core.Bool.{Bool, true, false, cond, not, ◌&&◌, ◌||◌}
 use mathlib.Core.List.{List, [], ◌∷◌, ◌++◌}
-use Prim.Native.Nat.{ℕ, ◌+◌, ◌*◌, ◌-◌, ◌%◌, ◌/◌, ◌≤◌, ◌<◌}
-use native.Mathlib.Nat.{div-add-mod'}
+use Prim.Native.Nat.{ℕ, ◌+◌, ◌*◌, ◌-◌, ◌%◌, ◌≤◌, ◌<◌}
 use native.Mathlib.Omega.{arith}
 use lib.Dec.{eqb, ltb}
-use lib.ListN.{length, take, drop, get_or, set, length-set, get_or-append}
+use lib.ListN.{length, take, get_or, set, length-set, get_or-append}
 use lib.Seq.{get_or-set_same}
 use Rattle.area.specs.Lists.{all_of, one_if}
 use Rattle.area.specs.Parts.{is_word, paste, pasted_in}
 use Rattle.area.specs.Refusals.{lowest}
-use Rattle.area.proofs.Walks.{by_test, or_left, or_right, or_first, or_second, or_neither}
+use Rattle.area.proofs.Walks.{by_test, or_left, or_right, or_neither}
 use Rattle.area.proofs.Marks.{cond_true, cond_false}
-use Rattle.area.proofs.Lowest.{lowest_here, lowest_past, lowest_end}
+use Rattle.area.proofs.Lowest.{lowest_here, lowest_past}
 use Rattle.area.proofs.Pastes.{paste_fitting, length_paste}
 use Rattle.area.proofs.Joins.{take_paste}
 use Rattle.word.specs.declared.Checked.{Checked}
@@ -25,8 +24,7 @@ use Rattle.block.specs.declared.blocks.Judged.{Judged}
 use Rattle.block.proofs.Laws.Block.{seal_writes, seal_place}
 use Rattle.session_frame.specs.Fields.{words_of, word_bytes, found_bytes, sum_bytes, size_bytes}
 use Rattle.session_frame.proofs.Laws.Bytes.{length_words}
-use Rattle.block_bytes.specs.declared.Verdict.{Verdict}
-use Rattle.block_bytes.specs.ByteBlocks.{has_sequence, has_check, other_fields, check_words, argument_wrong, data_count, no_data, seal_refusal, checked_bytes, sealed_bytes, found_size, check_refusal, found_in, verdict_on, found_after}
+use Rattle.block_bytes.specs.ByteBlocks.{has_sequence, has_check, check_words, argument_wrong, data_count, seal_refusal, checked_bytes, sealed_bytes, check_refusal, found_in, verdict_on, found_after}
 
 -- a check word, or none
 extra_most : (sequence check : Bool) → extra sequence check ≤ 1

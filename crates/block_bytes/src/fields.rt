@@ -23,7 +23,7 @@ pub fn has_check(fields: u32) -> bool
 fn other_fields(fields: u32) -> bool
     ensures { result ≡ other_fields fields }
 {
-    (12 < fields) | !(fields % 4 == 0)
+    (12 < fields) | (fields % 4 != 0)
 }
 
 // Whether a block of so many bytes, its fields or its number is outside its range.
@@ -34,6 +34,5 @@ pub fn argument_wrong(bytes: usize, fields: u32, number: u32) -> bool
     let check = has_check(fields);
     let e = extra(sequence, check) as usize;
     let most = WORD * (DATA + e);
-    let other = other_fields(fields);
-    !(bytes % WORD == 0) | ((most < bytes) | (!(number < BLOCK_NUMBERS) | other))
+    (bytes % WORD != 0) | ((most < bytes) | (!(number < BLOCK_NUMBERS) | other_fields(fields)))
 }

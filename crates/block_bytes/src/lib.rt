@@ -37,8 +37,7 @@ pub fn seal_bytes(block: &mut [u8], fields: u32, number: u32) -> u8
     ensures value { result ≡ seal_refusal block.old fields number }
     ensures block_after { block.new ≡ sealed_bytes block.old fields number }
 {
-    let wrong = argument_wrong(block.len(), fields, number);
-    if wrong {
+    if argument_wrong(block.len(), fields, number) {
         return 1;
     }
     let sequence = has_sequence(fields);
@@ -57,8 +56,7 @@ pub fn seal_bytes(block: &mut [u8], fields: u32, number: u32) -> u8
     if e == 0 {
         return 0;
     }
-    let last = word_bytes(words[n]);
-    put_bytes(block, n * WORD, &last);
+    put_bytes(block, n * WORD, &word_bytes(words[n]));
     0
 }
 
@@ -68,8 +66,7 @@ pub fn check_bytes(block: &[u8], fields: u32, number: u32, found: &mut [u8]) -> 
     ensures value { result ≡ verdict_on block.now fields number (length found.old) }
     ensures found_after { found.new ≡ found_after block.now fields number found.old }
 {
-    let wrong = argument_wrong(block.len(), fields, number);
-    if wrong | (found.len() < FOUND) {
+    if argument_wrong(block.len(), fields, number) | (found.len() < FOUND) {
         return Verdict {
             refusal: 1,
             error: 0,
@@ -89,11 +86,9 @@ pub fn check_bytes(block: &[u8], fields: u32, number: u32, found: &mut [u8]) -> 
             error: 0,
         };
     }
-    let c = j.found;
-    let told = found_bytes(c);
-    put_bytes(found, 0, &told);
+    put_bytes(found, 0, &found_bytes(j.found));
     Verdict {
         refusal: 0,
-        error: c.error,
+        error: j.found.error,
     }
 }

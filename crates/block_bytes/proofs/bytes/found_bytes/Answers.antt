@@ -5,16 +5,12 @@ use Rattle.block_bytes.proofs.bytes.found_bytes.Goals as goal
 pub returns : goal.returns
 unfolding sum_bytes size_bytes
 returns c = rw (
-  c.low.ensures,
-  c.low-2.ensures,
-  c.low-3.ensures,
-  c.low-4.ensures,
-  c.low-5.ensures,
-  c.low-6.ensures,
-  c.low-7.ensures,
-  c.low-8.ensures,
-  c.low-9.ensures,
-  c.low-10.ensures,
-  c.low-11.ensures,
-  c.low-12.ensures,
+  c.copy_from_slice.ensures.after,
+  c.copy_from_slice-2.ensures.after,
+  c.copy_from_slice-3.ensures.after,
+  c.copy_from_slice-4.ensures.after,
+  c.to_be_bytes.ensures,
+  c.to_be_bytes-2.ensures,
+  c.to_be_bytes-3.ensures,
+  c.to_be_bytes-4.ensures,
 )

@@ -4,10 +4,4 @@ use Rattle.block_bytes.proofs.bytes.word_bytes.Goals as goal
 
 pub returns : goal.returns
 unfolding word_bytes
-returns c = rw (
-  c.low.ensures,
-  c.low-2.ensures,
-  c.low-3.ensures,
-  c.low-4.ensures,
-  c.low-5.ensures,
-)
+returns c = rw c.to_be_bytes.ensures

@@ -1,5 +1,5 @@
 use mathlib.Core.Path.{◌≡◌}
-use Prim.Native.Nat.{◌-◌, ◌*◌, ◌/◌, ◌≤◌}
+use Prim.Native.Nat.{◌*◌}
 use lib.ListN.{length}
 use Rattle.area.specs.Parts.{paste}
 use Rattle.session_frame.specs.Fields.{words_of}
@@ -7,7 +7,4 @@ use Rattle.block_bytes.proofs.Bringing.{Brings}
 use Rattle.block_bytes.proofs.bytes.words_in.Given as goal
 
 abbrev pub invariant-loop-i : goal.invariant-loop-i
-invariant-loop-i l = (l.n ≡ length l.bytes / 5) × (l.i ≤ l.n) × (l.at ≡ 5 * l.i) × (length l.room ≡ length l.initial.room) × Brings l.bytes l.room (paste 0 (words_of l.bytes) l.initial.room) l.at l.i
-
-abbrev pub decreases-loop-i : goal.decreases-loop-i
-decreases-loop-i l = l.n - l.i
+invariant-loop-i l = (length l.room ≡ length l.initial.room) × Brings l.bytes l.room (paste 0 (words_of l.bytes) l.initial.room) (l.i * 5) l.i
