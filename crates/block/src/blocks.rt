@@ -8,6 +8,7 @@ use area::are_words;
 use word::{Checked, LAST_NUMBER, check_of, check_word, extra, logical_sum, not_checked};
 
 // What judging a delivered block tells: the refusal, or 0 and then what its check found.
+// It is no Result because the crates above, and the theorems, read the refusal as a number.
 #[derive(Clone, Copy)]
 pub struct Judged {
     pub refusal: u8,

@@ -14,6 +14,7 @@ fn word_of(a: u8, b: u8, c: u8, d: u8, e: u8) -> u64
 }
 
 // The words of the bytes, to the front of the room; how many they are.
+// By number, since what a loop over the room's own places writes is not known to a proof.
 pub fn words_in(bytes: &[u8], room: &mut [u64]) -> usize
     requires { length bytes.now ≤ word_size * length room.old }
     ensures value { result ≡ length (words_of bytes.now) }

@@ -25,6 +25,7 @@ const WORD: usize = 5;
 const FOUND: usize = 12;
 
 // What checking a block tells: the refusal, or 0 and then the error.
+// It is no Result because the C interface hands out both numbers.
 #[derive(Clone, Copy)]
 pub struct Verdict {
     pub refusal: u8,

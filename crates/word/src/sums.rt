@@ -6,6 +6,7 @@ ghost use Rattle.word.specs.Sums.{carry_back, folded as fold, summed};
 ghost use Rattle.word.specs.Totals.{total, reduced};
 
 // What one pass over words tells: whether every one is below 2^36, and then their logical sum (else 0).
+// It is no Option because the crates above read its two fields.
 #[derive(Clone, Copy)]
 pub struct Summed {
     pub fits: bool,
