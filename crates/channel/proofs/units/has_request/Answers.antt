@@ -5,4 +5,4 @@ use Rattle.channel.proofs.units.has_request.Goals as goal
 
 pub returns : goal.returns
 unfolding has_request
-returns c = rw (c.is_idle.ensures, c.turn_of-t.ensures)
+returns c = rw (c.is_idle.ensures, c.turn_of.ensures)

@@ -5,4 +5,4 @@ use Rattle.channel.proofs.units.operation_of.Goals as goal
 
 pub returns : goal.returns
 unfolding operation_at
-returns c = rw (c.worked_for.ensures, c.turn_of-t.ensures)
+returns c = rw (c.worked_for.ensures, c.turn_of.ensures)

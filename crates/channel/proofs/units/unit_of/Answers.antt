@@ -5,6 +5,6 @@ use native.Mathlib.Omega.{arith}
 use Rattle.channel.proofs.Laws.Units.{unit_beyond}
 use Rattle.channel.proofs.units.unit_of.Goals as goal
 
-pub returns-then-unit-ge-UNITS : goal.returns-then-unit-ge-UNITS
-returns-then-unit-ge-UNITS c = let long = c.well_formed.0.1.1.0.1.0.1 in
+pub returns-else-unit-lt-UNITS : goal.returns-else-unit-lt-UNITS
+returns-else-unit-lt-UNITS c = let long = c.well_formed.0.1.1.0.1.0.1 in
     c.idle_unit.ensures ∙ sym (unit_beyond c.args.c c.args.unit (omega arith))
