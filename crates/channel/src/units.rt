@@ -42,6 +42,7 @@ pub fn fresh(mask: u16) -> Channel
 }
 
 // The unit of that number, an undeclared one past the last.
+#[tactic(auto, using(crate::proofs::Laws::Units::unit_beyond))]
 pub fn unit_of(c: Channel, unit: usize) -> Unit
     ensures { result ≡ unit_at c unit }
 {
@@ -81,6 +82,7 @@ pub fn is_idle(t: Turn) -> bool
 }
 
 // Whether the unit has an unanswered request.
+#[tactic(auto, unfolding(crate::specs::Units::has_request))]
 pub fn has_request(c: Channel, unit: usize) -> bool
     ensures { result ≡ has_request c unit }
 {
@@ -88,6 +90,7 @@ pub fn has_request(c: Channel, unit: usize) -> bool
 }
 
 // Whether a request of the unit would be accepted.
+#[tactic(auto, unfolding(crate::specs::Units::accepts_at))]
 pub fn accepts(c: Channel, unit: usize) -> bool
     ensures { result ≡ accepts_at c unit }
 {
@@ -106,6 +109,7 @@ pub fn worked_for(t: Turn) -> Work
 }
 
 // The operation that the unit is worked for, if it is.
+#[tactic(auto, unfolding(crate::specs::Units::operation_at))]
 pub fn operation_of(c: Channel, unit: usize) -> Work
     ensures { result ≡ operation_at c unit }
 {
@@ -113,6 +117,7 @@ pub fn operation_of(c: Channel, unit: usize) -> Work
 }
 
 // The channel with another turn and another position at the unit.
+#[tactic(auto, unfolding(crate::specs::Units::with_unit), using(crate::proofs::Laws::Units::with_beyond))]
 pub fn with_unit(c: Channel, unit: usize, turn: Turn, position: Position) -> Channel
     ensures { result ≡ with_unit c unit turn position }
 {
