@@ -34,7 +34,7 @@ const REPEATED: u8 = 0;
 
 const BACKSPACE: u8 = 7;
 
-// A row for each operation, by its number, indexed by outcome: the attempt from which on the outcome ends the operation.
+// The table is to be an array of arrays by value. A row for each operation, by its number, indexed by outcome: the attempt from which on the outcome ends the operation.
 const RULES: [[u8; OUTCOMES as usize]; 3] = [
     [AT_ONCE, READS, READS, AT_ONCE, NOT_ALLOWED],
     [AT_ONCE, WRITES, AT_ONCE, NOT_ALLOWED, AT_ONCE],

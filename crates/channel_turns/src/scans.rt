@@ -11,6 +11,7 @@ use crate::{Desk, LAST};
 use area::Found;
 use channel::{Turn, UNITS};
 
+// The number stands in answers that C reads, so it is no `Option`.
 const NO_UNIT: u8 = 255;
 
 // How a unit stands to the scans: its request waits, displaced or not, and is ordinary or priority, or it is worked for.
@@ -75,6 +76,7 @@ fn scan(mask: u16, mark: u8) -> Found
     }
     let mut at = begin(mark);
     let mut left: usize = UNITS;
+    // The scan is to be a loop over wrapped unit numbers that yields the first one that waits by `break`.
     loop {
         if left == 0 {
             break Found::Nothing;

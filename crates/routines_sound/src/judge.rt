@@ -38,7 +38,7 @@ fn post_right(declared: bool, asked: bool, x: Post) -> bool
         && (!is_due(x.due) || (declared && !asked))
 }
 
-// Whether the posts of a channel's units are.
+// Whether the posts of a channel's units are. The unit's number is asked for too, so the loop goes over numbers.
 fn all_posts(c: Channel, units: [Post; UNITS]) -> bool
     ensures { result ≡ all_from (λ u x. post_right (declared_at c u) (has_request c u) x) 0 units }
 {
