@@ -11,7 +11,7 @@ use crate::{Desk, LAST};
 use area::Found;
 use channel::{Turn, UNITS};
 
-// The number stands in answers that C reads, so it is no `Option`.
+// The number stands in public answers, as `Move::working`, which the crates above pass on as a byte: so it is no `Option`.
 const NO_UNIT: u8 = 255;
 
 // How a unit stands to the scans: its request waits, displaced or not, and is ordinary or priority, or it is worked for.

@@ -59,7 +59,7 @@ pub struct Scheduled {
     pub programs: Programs,
 }
 
-// What an ask says of a routine: whether it names one, its number, and its priority. C passes all three, also where none is named.
+// What an ask says of a routine: whether it names one, its number, and its priority. The crates above make it and take it apart by these fields.
 #[derive(Clone, Copy)]
 pub struct Naming {
     pub given: bool,
