@@ -5,6 +5,9 @@
 
 mod units;
 
+ghost use Rattle.channel.specs.Ops.{op_numbered};
+ghost use Rattle.std.specs.Prelude.{◌≡◌};
+
 pub use units::{
     accepts, fresh, has_request, is_declared, is_idle, operation_of, position_of, turn_of, unit_of,
     with_turn, with_unit, worked_for,
@@ -16,11 +19,31 @@ pub const UNITS: usize = 10;
 // How many channels there are, the manual's A to E.
 pub const CHANNELS: usize = 5;
 
-#[derive(Clone, Copy)]
+// What a request asks for. `op as u8` is its number: 0 read, 1 write, 2 mark.
+#[derive(Clone, Copy, Debug, PartialEq, Eq)]
 pub enum Op {
     Read,
     Write,
     Mark,
+}
+
+// A number that is no operation's.
+#[derive(Clone, Copy, Debug, PartialEq, Eq)]
+pub struct UnknownOp;
+
+impl TryFrom<u8> for Op {
+    type Error = UnknownOp;
+
+    ghost try_from_gives = { λ number r. r ≡ op_numbered number };
+
+    fn try_from(number: u8) -> Result<Op, UnknownOp> {
+        match number {
+            0 => Ok(Op::Read),
+            1 => Ok(Op::Write),
+            2 => Ok(Op::Mark),
+            _ => Err(UnknownOp),
+        }
+    }
 }
 
 // A request. `attempts` is the number of the attempt that is at work or due, `incomplete` how many incomplete words it met, `noise` how many

@@ -19,11 +19,10 @@ fn at_start() -> Position
 fn idle_unit(declared: bool) -> Unit
     ensures { result ≡ idle_unit declared }
 {
-    let position = at_start();
     Unit {
         declared,
         turn: Turn::Idle,
-        position,
+        position: at_start(),
     }
 }
 
@@ -31,13 +30,9 @@ fn idle_unit(declared: bool) -> Unit
 pub fn fresh(mask: u16) -> Channel
     ensures { result ≡ fresh_of mask }
 {
-    let none = idle_unit(false);
-    let mut units = [none; UNITS];
-    let mut i: usize = 0;
-    while i < UNITS {
-        let u = idle_unit((mask >> i) % 2 == 1);
-        units[i] = u;
-        i = i + 1;
+    let mut units = [idle_unit(false); UNITS];
+    for i in 0..UNITS {
+        units[i] = idle_unit((mask >> i) % 2 == 1);
     }
     Channel {
         units,
@@ -46,77 +41,61 @@ pub fn fresh(mask: u16) -> Channel
     }
 }
 
+// The unit of that number, an undeclared one past the last.
+#[tactic(auto, using(crate::proofs::Laws::Units::unit_beyond))]
+pub fn unit_of(c: Channel, unit: usize) -> Unit
+    ensures { result ≡ unit_at c unit }
+{
+    if unit < UNITS {
+        c.units[unit]
+    } else {
+        idle_unit(false)
+    }
+}
+
 // Whether the unit is declared.
 pub fn is_declared(c: Channel, unit: usize) -> bool
     ensures { result ≡ declared_at c unit }
 {
-    if UNITS <= unit {
-        return false;
-    }
-    let u = c.units[unit];
-    u.declared
+    unit_of(c, unit).declared
 }
 
 // How the unit stands.
 pub fn turn_of(c: Channel, unit: usize) -> Turn
     ensures { result ≡ turn_at c unit }
 {
-    if UNITS <= unit {
-        return Turn::Idle;
-    }
-    let x = c.units[unit];
-    x.turn
-}
-
-// The unit of that number, an undeclared one past the last.
-pub fn unit_of(c: Channel, unit: usize) -> Unit
-    ensures { result ≡ unit_at c unit }
-{
-    if UNITS <= unit {
-        return idle_unit(false);
-    }
-    let x = c.units[unit];
-    x
+    unit_of(c, unit).turn
 }
 
 // Where the unit's reel stands.
 pub fn position_of(c: Channel, unit: usize) -> Position
     ensures { result ≡ position_at c unit }
 {
-    if UNITS <= unit {
-        return at_start();
-    }
-    let x = c.units[unit];
-    x.position
+    unit_of(c, unit).position
 }
 
 // Whether there is no request.
 pub fn is_idle(t: Turn) -> bool
     ensures { result ≡ is_idle t }
 {
-    match t {
-        Turn::Idle => true,
-        Turn::Waiting(_) => false,
-        Turn::Displaced(_) => false,
-        Turn::Working(_) => false,
-    }
+    matches!(t, Turn::Idle)
 }
 
 // Whether the unit has an unanswered request.
+#[tactic(auto, unfolding(crate::specs::Units::has_request))]
 pub fn has_request(c: Channel, unit: usize) -> bool
     ensures { result ≡ has_request c unit }
 {
-    let t = turn_of(c, unit);
-    !is_idle(t)
+    !is_idle(turn_of(c, unit))
 }
 
 // Whether a request of the unit would be accepted.
+#[tactic(auto, unfolding(crate::specs::Units::accepts_at))]
 pub fn accepts(c: Channel, unit: usize) -> bool
     ensures { result ≡ accepts_at c unit }
 {
-    let known = is_declared(c, unit);
-    let t = turn_of(c, unit);
-    known & is_idle(t)
+    let x = unit_of(c, unit);
+    x.declared && is_idle(x.turn)
 }
 
 // The operation that is worked for, if one is.
@@ -124,39 +103,32 @@ pub fn worked_for(t: Turn) -> Work
     ensures { result ≡ work_of t }
 {
     match t {
-        Turn::Idle => Work::Nothing,
-        Turn::Waiting(_) => Work::Nothing,
-        Turn::Displaced(_) => Work::Nothing,
-        Turn::Working(q) => {
-            let op = q.op;
-            Work::At(op)
-        }
+        Turn::Working(q) => Work::At(q.op),
+        _ => Work::Nothing,
     }
 }
 
 // The operation that the unit is worked for, if it is.
+#[tactic(auto, unfolding(crate::specs::Units::operation_at))]
 pub fn operation_of(c: Channel, unit: usize) -> Work
     ensures { result ≡ operation_at c unit }
 {
-    let t = turn_of(c, unit);
-    worked_for(t)
+    worked_for(turn_of(c, unit))
 }
 
 // The channel with another turn and another position at the unit.
+#[tactic(auto, unfolding(crate::specs::Units::with_unit), using(crate::proofs::Laws::Units::with_beyond))]
 pub fn with_unit(c: Channel, unit: usize, turn: Turn, position: Position) -> Channel
     ensures { result ≡ with_unit c unit turn position }
 {
-    if UNITS <= unit {
-        return c;
-    }
-    let u = c.units[unit];
-    let v = Unit {
-        declared: u.declared,
-        turn,
-        position,
-    };
     let mut d = c;
-    d.units[unit] = v;
+    if unit < UNITS {
+        d.units[unit] = Unit {
+            turn,
+            position,
+            ..c.units[unit]
+        };
+    }
     d
 }
 
@@ -164,6 +136,5 @@ pub fn with_unit(c: Channel, unit: usize, turn: Turn, position: Position) -> Cha
 pub fn with_turn(c: Channel, unit: usize, turn: Turn) -> Channel
     ensures { result ≡ with_turn c unit turn }
 {
-    let position = position_of(c, unit);
-    with_unit(c, unit, turn, position)
+    with_unit(c, unit, turn, position_of(c, unit))
 }

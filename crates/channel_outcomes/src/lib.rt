@@ -29,7 +29,7 @@ pub enum Ending {
     LostIncomplete,
 }
 
-// What a report comes to: refused with a number, an operation that makes a further attempt, or one that has ended.
+// The refusal is document 01's number, which contracts and theorems above speak of. What a report comes to: refused with a number, an operation that makes a further attempt, or one that has ended.
 #[derive(Clone, Copy)]
 pub enum Verdict {
     Refused(u8),

@@ -19,29 +19,30 @@ const PASS_RECORDS: u16 = 3;
 fn one_more(n: u16) -> u16
     ensures { result ≡ one_more n }
 {
-    if n < MOST_PASSED {
-        return n + 1;
-    }
-    MOST_PASSED
+    if n < MOST_PASSED { n + 1 } else { MOST_PASSED }
 }
 
 // One record more since the mark.
+#[tactic(auto, unfolding(crate::specs::Positions::record_passed))]
 fn record_passed(p: Position) -> Position
     ensures { result ≡ record_passed p }
 {
-    let mut next = p;
-    next.records = one_more(p.records);
-    next
+    Position {
+        records: one_more(p.records),
+        ..p
+    }
 }
 
 // One mark more, and no record since.
+#[tactic(auto, unfolding(crate::specs::Positions::mark_passed))]
 fn mark_passed(p: Position) -> Position
     ensures { result ≡ mark_passed p }
 {
-    let mut next = p;
-    next.marks = one_more(p.marks);
-    next.records = 0;
-    next
+    Position {
+        marks: one_more(p.marks),
+        records: 0,
+        ..p
+    }
 }
 
 // After the end of a read.
@@ -49,12 +50,9 @@ fn read_moves(e: Ending, p: Position) -> Position
     ensures { result ≡ read_moves e p }
 {
     match e {
-        Ending::Good => record_passed(p),
-        Ending::Opposite => record_passed(p),
+        Ending::Good | Ending::Opposite => record_passed(p),
         Ending::MarkRead => mark_passed(p),
-        Ending::MediumEnd => p,
-        Ending::LostRedundancy => p,
-        Ending::LostIncomplete => p,
+        _ => p,
     }
 }
 
@@ -63,12 +61,8 @@ fn write_moves(e: Ending, p: Position) -> Position
     ensures { result ≡ write_moves e p }
 {
     match e {
-        Ending::Good => record_passed(p),
-        Ending::Opposite => p,
-        Ending::MarkRead => p,
-        Ending::MediumEnd => record_passed(p),
-        Ending::LostRedundancy => p,
-        Ending::LostIncomplete => p,
+        Ending::Good | Ending::MediumEnd => record_passed(p),
+        _ => p,
     }
 }
 
@@ -77,12 +71,8 @@ fn mark_moves(e: Ending, p: Position) -> Position
     ensures { result ≡ mark_moves e p }
 {
     match e {
-        Ending::Good => mark_passed(p),
-        Ending::Opposite => p,
-        Ending::MarkRead => p,
-        Ending::MediumEnd => mark_passed(p),
-        Ending::LostRedundancy => p,
-        Ending::LostIncomplete => p,
+        Ending::Good | Ending::MediumEnd => mark_passed(p),
+        _ => p,
     }
 }
 
@@ -110,25 +100,17 @@ pub fn position_after(x: Work, e: Ending, p: Position) -> Position
 fn noise_met(p: Position, q: Request) -> bool
     ensures { result ≡ noise_met p q }
 {
-    p.noisy | (0 < q.noise)
+    p.noisy || 0 < q.noise
 }
 
 // Where the reel stands while the request is repeated: no further, and a noise record that the request met is noted.
+#[tactic(auto, unfolding(crate::specs::Positions::noted_by))]
 pub fn noted(p: Position, q: Request) -> Position
     ensures { result ≡ noted_by p q }
 {
-    let mut next = p;
-    next.noisy = noise_met(p, q);
-    next
-}
-
-fn reads(op: Op) -> bool
-    ensures { result ≡ readsTape op }
-{
-    match op {
-        Op::Read => true,
-        Op::Write => false,
-        Op::Mark => false,
+    Position {
+        noisy: noise_met(p, q),
+        ..p
     }
 }
 
@@ -136,16 +118,13 @@ fn reads(op: Op) -> bool
 fn is_pass(attempt: u8) -> bool
     ensures { result ≡ is_pass attempt }
 {
-    (FIRST_PASS <= attempt) & ((attempt <= LAST_PASS) & (attempt % PASSES == 2))
+    (FIRST_PASS..=LAST_PASS).contains(&attempt) && attempt % PASSES == 2
 }
 
 // Whether the cleaner pass comes before the next attempt of the request.
+#[tactic(auto, unfolding(crate::specs::Positions::cleaner_due))]
 pub fn cleaner_due(p: Position, q: Request) -> bool
     ensures { result ≡ cleaner_due p q }
 {
-    let op = q.op;
-    let read = reads(op);
-    let pass = is_pass(q.attempts);
-    let noise = noise_met(p, q);
-    read & (pass & ((PASS_RECORDS <= p.records) & !noise))
+    q.op == Op::Read && is_pass(q.attempts) && PASS_RECORDS <= p.records && !noise_met(p, q)
 }

@@ -1,5 +1,5 @@
 // Which outcomes an operation may have, when a failure is permanent, and document 01's numbers of what a report comes to.
-ghost use Rattle.std.specs.Prelude.{◌≡◌, ◌<◌};
+ghost use Rattle.std.specs.Prelude.{◌≡◌, ◌<◌, ◌&&◌, ◌||◌, leb, eqb};
 ghost use Rattle.channel_outcomes.specs.Rules.{op_number, incomplete_word, row_of, is_noise, past_noise, next_attempt, good_ending, ending_of, table_verdict, verdict_of, ending_number, repeated_number, result_number, refusal_number};
 
 use crate::positions::cleaner_due;
@@ -16,6 +16,9 @@ const AT_ONCE: u8 = 0;
 
 const NOT_ALLOWED: u8 = 255;
 
+// The attempt of a read that is made in the opposite mode.
+const OPPOSITE: u8 = 4;
+
 // The attempts of a read, and of a write or mark.
 const READS: u8 = 101;
 
@@ -31,8 +34,8 @@ const REPEATED: u8 = 0;
 
 const BACKSPACE: u8 = 7;
 
-// A row for each operation, indexed by outcome: the attempt from which on the outcome ends the operation.
-const RULES: [[u8; 5]; 3] = [
+// The table is to be an array of arrays by value. A row for each operation, by its number, indexed by outcome: the attempt from which on the outcome ends the operation.
+const RULES: [[u8; OUTCOMES as usize]; 3] = [
     [AT_ONCE, READS, READS, AT_ONCE, NOT_ALLOWED],
     [AT_ONCE, WRITES, AT_ONCE, NOT_ALLOWED, AT_ONCE],
     [AT_ONCE, WRITES, NOT_ALLOWED, NOT_ALLOWED, AT_ONCE],
@@ -42,39 +45,30 @@ const RULES: [[u8; 5]; 3] = [
 fn row(op: Op) -> usize
     ensures { result ≡ op_number op }
 {
-    match op {
-        Op::Read => 0,
-        Op::Write => 1,
-        Op::Mark => 2,
-    }
+    op as usize
 }
 
 // The attempt at which a failure of the operation is permanent.
+#[tactic(auto, using(crate::proofs::Laws::Rules::row_below, crate::proofs::Laws::Rules::limit_redundancy))]
 pub fn attempt_limit(op: Op) -> u8
     ensures { result ≡ (row_of op).attempts }
 {
-    let i = row(op);
-    RULES[i][REDUNDANCY]
+    RULES[row(op)][REDUNDANCY]
 }
 
 // A good end. A read's attempt 4 was in the opposite mode.
 fn good_ending(op: Op, attempt: u8) -> Ending
     ensures { result ≡ good_ending op attempt }
 {
-    match op {
-        Op::Read => {
-            if attempt == 4 {
-                Ending::Opposite
-            } else {
-                Ending::Good
-            }
-        }
-        Op::Write => Ending::Good,
-        Op::Mark => Ending::Good,
+    if op == Op::Read && attempt == OPPOSITE {
+        Ending::Opposite
+    } else {
+        Ending::Good
     }
 }
 
 // How an operation ends with an outcome that does not repeat it.
+#[tactic(auto, unfolding(crate::specs::Rules::ending_of))]
 fn ending(op: Op, attempt: u8, outcome: u8) -> Ending
     ensures { result ≡ ending_of op attempt outcome }
 {
@@ -88,70 +82,76 @@ fn ending(op: Op, attempt: u8, outcome: u8) -> Ending
 }
 
 // The request at its next attempt, after a failure that an operation survives.
+#[tactic(auto, unfolding(crate::specs::Rules::next_attempt))]
 fn next_attempt(q: Request, outcome: u8) -> Request
     requires { (q.attempts < 255) × (outcome ≡ incomplete_word → q.incomplete < 255) }
     ensures { result ≡ next_attempt q outcome }
 {
-    let mut next = q;
-    next.attempts = q.attempts + 1;
-    if outcome == INCOMPLETE_WORD {
-        next.incomplete = q.incomplete + 1;
+    Request {
+        attempts: q.attempts + 1,
+        incomplete: q.incomplete + u8::from(outcome == INCOMPLETE_WORD),
+        ..q
     }
-    next
+}
+
+// Whether an outcome that the operation may have ends it, by the attempt from which on it does. The second incomplete word is permanent.
+fn ends(q: Request, outcome: u8, limit: u8) -> bool
+    ensures { result ≡ (leb limit q.attempts || (eqb outcome incomplete_word && leb 1 q.incomplete)) }
+{
+    limit <= q.attempts || (outcome == INCOMPLETE_WORD && 1 <= q.incomplete)
 }
 
 // What an outcome means, by the table, for the request that is worked for.
+#[tactic(auto, using(crate::proofs::Laws::Rules::row_below))]
 fn table_verdict(q: Request, outcome: u8) -> Verdict
     ensures { result ≡ table_verdict q outcome }
 {
     if OUTCOMES <= outcome {
         return Verdict::Refused(12);
     }
-    let op = q.op;
-    let i = row(op);
-    let j = outcome as usize;
-    let limit = RULES[i][j];
+    let limit = RULES[row(q.op)][outcome as usize];
     if limit == NOT_ALLOWED {
         return Verdict::Refused(12);
     }
-    let ends = (limit <= q.attempts) | ((outcome == INCOMPLETE_WORD) & (1 <= q.incomplete));
-    if ends {
-        return Verdict::Ends(ending(op, q.attempts, outcome));
+    if ends(q, outcome, limit) {
+        return Verdict::Ends(ending(q.op, q.attempts, outcome));
     }
     Verdict::Repeats(next_attempt(q, outcome))
 }
 
 // How many noise records the operation passes over.
+#[tactic(auto, unfolding(crate::specs::Rules::row_of))]
 pub fn noise_limit(op: Op) -> u8
     ensures { result ≡ (row_of op).noise }
 {
     match op {
         Op::Read => NOISE,
-        Op::Write => 0,
-        Op::Mark => 0,
+        Op::Write | Op::Mark => 0,
     }
 }
 
 // Whether the report is of a noise record, and the request passes over one more.
+#[tactic(auto, unfolding(crate::specs::Rules::is_noise))]
 fn is_noise(q: Request, outcome: u8, length: u32) -> bool
     ensures { result ≡ is_noise q outcome length }
 {
-    let op = q.op;
-    let most = noise_limit(op);
-    (outcome as usize == REDUNDANCY) & ((length < NO_NOISE) & (q.noise < most))
+    outcome as usize == REDUNDANCY && length < NO_NOISE && q.noise < noise_limit(q.op)
 }
 
 // The request that has passed over one noise record more, at the attempt that it has.
+#[tactic(auto, unfolding(crate::specs::Rules::past_noise))]
 fn past_noise(q: Request) -> Request
     requires { q.noise < 255 }
     ensures { result ≡ past_noise q }
 {
-    let mut next = q;
-    next.noise = q.noise + 1;
-    next
+    Request {
+        noise: q.noise + 1,
+        ..q
+    }
 }
 
 // What an outcome means for the request that is worked for; `length` is that of the report, in words.
+#[tactic(auto, unfolding(crate::specs::Rules::verdict_of))]
 pub fn verdict_of(q: Request, outcome: u8, length: u32) -> Verdict
     ensures { result ≡ verdict_of q outcome length }
 {
@@ -175,13 +175,15 @@ fn ending_number(e: Ending) -> u8
 }
 
 // The result of a report that repeats the request q of a unit whose reel stands at p.
+#[tactic(auto, unfolding(crate::specs::Rules::repeated_number))]
 fn repeated_number(p: Position, q: Request) -> u8
     ensures { result ≡ repeated_number p q }
 {
     if cleaner_due(p, q) {
-        return BACKSPACE;
+        BACKSPACE
+    } else {
+        REPEATED
     }
-    REPEATED
 }
 
 // The number of a report's result, where the unit's reel stood at p: 0 repeated, 7 repeated after the cleaner pass, 1 to 6 how the operation ended,
@@ -202,7 +204,6 @@ pub fn refusal_number(v: Verdict) -> u8
 {
     match v {
         Verdict::Refused(n) => n,
-        Verdict::Repeats(_) => 0,
-        Verdict::Ends(_) => 0,
+        Verdict::Repeats(_) | Verdict::Ends(_) => 0,
     }
 }

@@ -6,7 +6,9 @@ ghost use Rattle.channel_turns.specs.Turns.{judge_turn, incomplete_turn, is_ordi
 ghost use Rattle.channel_turns.specs.Desks.{starts_on, works_after, moved_on, still_on, goes_on_at, ask_move, repeat_move, end_move, book_move};
 
 use crate::desks::seated;
-use crate::scans::{next_on, next_unit, number_of, standing, urged_on, waiting_as, work_on};
+use crate::scans::{
+    Standing, next_on, next_unit, number_of, standing_of, urged_on, waiting_as, work_on,
+};
 use crate::{Desk, Move};
 use area::{Found, is_found};
 use channel::{Op, Position, Request, Turn, Unit, is_idle, worked_for};
@@ -20,53 +22,52 @@ pub struct Starting {
 }
 
 // The start by a desk: a channel that is idle and not frozen works for the request whose turn it is, if any waits.
+#[tactic(auto, unfolding(crate::specs::Desks::starts_on, crate::specs::Desks::works_after))]
 pub fn start_on(d: Desk, frozen: bool) -> Starting
     ensures { (result.unit ≡ starts_on unit_count d frozen) × (result.working ≡ works_after unit_count d frozen) }
 {
     let works = work_on(d);
-    let busy = is_found(works);
-    if frozen | busy {
+    if frozen || is_found(works) {
         return Starting {
             unit: Found::Nothing,
             working: number_of(works),
         };
     }
     let unit = next_on(d);
-    let working = number_of(unit);
-    Starting { unit, working }
+    Starting {
+        unit,
+        working: number_of(unit),
+    }
 }
 
 // The unit stands so, and the channel goes on by the desk that this makes.
+#[tactic(auto, unfolding(crate::specs::Desks::moved_on))]
 fn moved(turn: Turn, position: Position, d: Desk, frozen: bool) -> Move
     ensures { result ≡ moved_on unit_count turn position d frozen }
 {
     let s = start_on(d, frozen);
-    let starts = s.unit;
     Move {
         turn,
         position,
         mark: d.mark,
         urgent: d.urgent,
-        starts,
+        starts: s.unit,
         working: s.working,
     }
 }
 
 // Nothing changes, and nothing starts.
+#[tactic(auto, unfolding(crate::specs::Desks::still_on))]
 fn still(x: Unit, d: Desk) -> Move
     ensures { result ≡ still_on unit_count x d }
 {
-    let works = work_on(d);
-    let working = number_of(works);
-    let turn = x.turn;
-    let position = x.position;
     Move {
-        turn,
-        position,
+        turn: x.turn,
+        position: x.position,
         mark: d.mark,
         urgent: d.urgent,
         starts: Found::Nothing,
-        working,
+        working: number_of(work_on(d)),
     }
 }
 
@@ -83,16 +84,14 @@ fn new_request(op: Op, priority: bool) -> Request
 }
 
 // A request of the unit u, accepted if it is declared and has none.
+#[tactic(auto, unfolding(crate::specs::Desks::ask_move))]
 pub fn ask_move(x: Unit, u: usize, d: Desk, op: Op, priority: bool, frozen: bool) -> Move
     ensures { result ≡ ask_move unit_count x u d op priority frozen }
 {
-    let t = x.turn;
-    let none = is_idle(t);
-    if x.declared & none {
-        let q = new_request(op, priority);
+    if x.declared && is_idle(x.turn) {
+        let turn = Turn::Waiting(new_request(op, priority));
         let after = seated(d, u, waiting_as(priority));
-        let position = x.position;
-        return moved(Turn::Waiting(q), position, after, frozen);
+        return moved(turn, x.position, after, frozen);
     }
     still(x, d)
 }
@@ -101,29 +100,27 @@ pub fn ask_move(x: Unit, u: usize, d: Desk, op: Op, priority: bool, frozen: bool
 fn goes_on(d: Desk, priority: bool, frozen: bool) -> bool
     ensures { result ≡ goes_on_at unit_count d priority frozen }
 {
-    let urged = is_found(urged_on(d));
-    !frozen & (priority | !urged)
+    !frozen && (priority || !is_found(urged_on(d)))
 }
 
 fn incomplete_turn(on: bool, q: Request) -> Turn
     ensures { result ≡ incomplete_turn on q }
 {
     if on {
-        return Turn::Working(q);
+        Turn::Working(q)
+    } else {
+        Turn::Displaced(q)
     }
-    Turn::Displaced(q)
 }
 
 // The unit's operation is to go on: it makes a further attempt, or has passed over a noise record.
+#[tactic(auto, unfolding(crate::specs::Desks::repeat_move))]
 fn repeat_move(x: Unit, u: usize, d: Desk, q: Request, frozen: bool) -> Move
     ensures { result ≡ repeat_move unit_count x u d q frozen }
 {
-    let on = goes_on(d, q.priority, frozen);
-    let t = incomplete_turn(on, q);
-    let p = x.position;
-    let position = noted(p, q);
-    let after = seated(d, u, standing(t));
-    moved(t, position, after, frozen)
+    let turn = incomplete_turn(goes_on(d, q.priority, frozen), q);
+    let after = seated(d, u, standing_of(turn));
+    moved(turn, noted(x.position, q), after, frozen)
 }
 
 fn is_ordinary(t: Turn) -> bool
@@ -131,9 +128,7 @@ fn is_ordinary(t: Turn) -> bool
 {
     match t {
         Turn::Idle => false,
-        Turn::Waiting(q) => !q.priority,
-        Turn::Displaced(q) => !q.priority,
-        Turn::Working(q) => !q.priority,
+        Turn::Waiting(q) | Turn::Displaced(q) | Turn::Working(q) => !q.priority,
     }
 }
 
@@ -142,38 +137,34 @@ fn holds_priority(t: Turn) -> bool
 {
     match t {
         Turn::Idle => false,
-        Turn::Waiting(q) => q.priority,
-        Turn::Displaced(q) => q.priority,
-        Turn::Working(q) => q.priority,
+        Turn::Waiting(q) | Turn::Displaced(q) | Turn::Working(q) => q.priority,
     }
 }
 
 // Where a scan begins once the unit's operation has ended: above it, if the operation is of the mark's own kind.
+#[tactic(auto, using(crate::proofs::Laws::Scans::next_below))]
 fn mark_moved(own: bool, unit: usize, mark: u8) -> u8
     ensures { result ≡ mark_moved own unit_count unit mark }
 {
-    if own {
-        return next_unit(unit) as u8;
-    }
-    mark
+    if own { next_unit(unit) as u8 } else { mark }
 }
 
 // The unit's operation has ended, and its reel stands where that leaves it.
+#[tactic(auto, unfolding(crate::specs::Desks::end_move))]
 fn end_move(x: Unit, u: usize, d: Desk, e: Ending, frozen: bool) -> Move
     ensures { result ≡ end_move unit_count x u d e frozen }
 {
-    let t = x.turn;
-    let p = x.position;
-    let ordinary = is_ordinary(t);
-    let priority = holds_priority(t);
-    let position = position_after(worked_for(t), e, p);
-    let mut after = seated(d, u, 0);
-    after.mark = mark_moved(ordinary, u, d.mark);
-    after.urgent = mark_moved(priority, u, d.urgent);
+    let position = position_after(worked_for(x.turn), e, x.position);
+    let after = Desk {
+        mark: mark_moved(is_ordinary(x.turn), u, d.mark),
+        urgent: mark_moved(holds_priority(x.turn), u, d.urgent),
+        ..seated(d, u, Standing::Idle)
+    };
     moved(Turn::Idle, position, after, frozen)
 }
 
 // What a report of the unit came to, booked.
+#[tactic(auto, unfolding(crate::specs::Desks::book_move))]
 pub fn book_move(x: Unit, u: usize, d: Desk, verdict: Verdict, frozen: bool) -> Move
     ensures { result ≡ book_move unit_count x u d verdict frozen }
 {
@@ -189,9 +180,7 @@ pub fn judge_turn(t: Turn, outcome: u8, length: u32) -> Verdict
     ensures { result ≡ judge_turn t outcome length }
 {
     match t {
-        Turn::Idle => Verdict::Refused(11),
-        Turn::Waiting(_) => Verdict::Refused(11),
-        Turn::Displaced(_) => Verdict::Refused(11),
         Turn::Working(q) => verdict_of(q, outcome, length),
+        _ => Verdict::Refused(11),
     }
 }

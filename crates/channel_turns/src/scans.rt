@@ -1,8 +1,9 @@
 // How a unit stands to the scans, and the scans of a channel's desk: which unit comes first of those that are worked for, that wait with a priority request
 // and that wait with an ordinary one.
-ghost use Rattle.std.specs.Prelude.{◌≡◌, ◌<◌};
+ghost use Rattle.std.specs.Prelude.{◌≡◌, ◌<◌, eqb};
 ghost use Rattle.area.specs.Lists.{number_or};
 ghost use Rattle.channel.specs.Units.{unit_count};
+ghost use Rattle.channel_turns.specs.Standings.{standing_number};
 ghost use Rattle.channel_turns.specs.Scans.{waiting_as, standing_of, next_unit, begin_of, unit_number};
 ghost use Rattle.channel_turns.specs.Desks.{scan_of, work_on, urged_on, next_on};
 
@@ -10,33 +11,47 @@ use crate::{Desk, LAST};
 use area::Found;
 use channel::{Turn, UNITS};
 
-// How a unit stands to the scans.
-pub const ORDINARY: u8 = 1;
-
-pub const PRIORITY: u8 = 2;
-
-pub const WORKING: u8 = 3;
-
+// The number stands in public answers, as `Move::working`, which the crates above pass on as a byte: so it is no `Option`.
 const NO_UNIT: u8 = 255;
 
-pub fn waiting_as(priority: bool) -> u8
-    ensures { result ≡ waiting_as priority }
-{
-    if priority { PRIORITY } else { ORDINARY }
+// How a unit stands to the scans: its request waits, displaced or not, and is ordinary or priority, or it is worked for.
+#[derive(Clone, Copy, PartialEq, Eq)]
+pub enum Standing {
+    Idle,
+    Ordinary,
+    Priority,
+    Working,
 }
 
-pub fn standing(t: Turn) -> u8
-    ensures { result ≡ standing_of t }
+pub fn waiting_as(priority: bool) -> Standing
+    ensures { standing_number result ≡ waiting_as priority }
 {
-    match t {
-        Turn::Idle => 0,
-        Turn::Waiting(q) => waiting_as(q.priority),
-        Turn::Displaced(q) => waiting_as(q.priority),
-        Turn::Working(_) => WORKING,
+    if priority {
+        Standing::Priority
+    } else {
+        Standing::Ordinary
     }
 }
 
+pub fn standing_of(t: Turn) -> Standing
+    ensures { standing_number result ≡ standing_of t }
+{
+    match t {
+        Turn::Idle => Standing::Idle,
+        Turn::Waiting(q) | Turn::Displaced(q) => waiting_as(q.priority),
+        Turn::Working(_) => Standing::Working,
+    }
+}
+
+// Whether a unit of that turn stands so.
+pub fn stands(t: Turn, want: Standing) -> bool
+    ensures { result ≡ eqb (standing_of t) (standing_number want) }
+{
+    standing_of(t) == want
+}
+
 // The number of the next unit, which wraps after the last.
+#[tactic(auto, using(crate::proofs::Laws::Scans::next_up, crate::proofs::Laws::Scans::next_wraps))]
 pub fn next_unit(unit: usize) -> usize
     ensures { result ≡ next_unit unit_count unit }
 {
@@ -44,6 +59,7 @@ pub fn next_unit(unit: usize) -> usize
 }
 
 // Where a scan from this mark begins.
+#[tactic(auto, using(crate::proofs::Laws::Scans::begin_here, crate::proofs::Laws::Scans::begin_zero))]
 fn begin(mark: u8) -> usize
     ensures { result ≡ begin_of unit_count mark }
 {
@@ -60,7 +76,8 @@ fn scan(mask: u16, mark: u8) -> Found
     }
     let mut at = begin(mark);
     let mut left: usize = UNITS;
-    let found = loop {
+    // The scan is to be a loop over wrapped unit numbers that yields the first one that waits by `break`.
+    loop {
         if left == 0 {
             break Found::Nothing;
         }
@@ -68,12 +85,12 @@ fn scan(mask: u16, mark: u8) -> Found
             break Found::At(at);
         }
         at = next_unit(at);
-        left = left - 1;
-    };
-    found
+        left -= 1;
+    }
 }
 
 // The unit that the channel works for.
+#[tactic(auto, unfolding(crate::specs::Desks::work_on))]
 pub fn work_on(d: Desk) -> Found
     ensures { (result ≡ work_on unit_count d) × (number_or result 0 < unit_count) }
 {
@@ -81,6 +98,7 @@ pub fn work_on(d: Desk) -> Found
 }
 
 // The first unit, from the channel's mark for them on, whose priority request waits.
+#[tactic(auto, unfolding(crate::specs::Desks::urged_on))]
 pub fn urged_on(d: Desk) -> Found
     ensures { (result ≡ urged_on unit_count d) × (number_or result 0 < unit_count) }
 {
@@ -88,6 +106,7 @@ pub fn urged_on(d: Desk) -> Found
 }
 
 // Whose turn it is on an idle channel: the first with a priority request, else the first, from the channel's mark for them on, with an ordinary one.
+#[tactic(auto, unfolding(crate::specs::Desks::next_on))]
 pub fn next_on(d: Desk) -> Found
     ensures { (result ≡ next_on unit_count d) × (number_or result 0 < unit_count) }
 {

@@ -14,9 +14,7 @@ fn begun_turn(t: Turn) -> Turn
 {
     match t {
         Turn::Idle => Turn::Idle,
-        Turn::Waiting(q) => Turn::Working(q),
-        Turn::Displaced(q) => Turn::Working(q),
-        Turn::Working(q) => Turn::Working(q),
+        Turn::Waiting(q) | Turn::Displaced(q) | Turn::Working(q) => Turn::Working(q),
     }
 }
 
@@ -25,46 +23,40 @@ fn begun(c: Channel, found: Found) -> Channel
     ensures { result ≡ begun_at c found }
 {
     match found {
-        Found::At(u) => {
-            let t = turn_of(c, u);
-            let w = begun_turn(t);
-            with_turn(c, u, w)
-        }
+        Found::At(u) => with_turn(c, u, begun_turn(turn_of(c, u))),
         Found::Nothing => c,
     }
 }
 
 // What a thaw does to a channel.
+#[tactic(auto, using(crate::proofs::Laws::Desks::n_starts), unfolding(crate::specs::Starts::thaw_of))]
 pub fn thaw(c: Channel) -> Channel
     ensures { result ≡ thaw_of c }
 {
-    let d = desk_of(c);
-    let s = start_on(d, false);
-    let unit = s.unit;
-    begun(c, unit)
+    begun(c, start_on(desk_of(c), false).unit)
 }
 
 // The channel after what a call makes of its unit.
+#[tactic(auto, unfolding(crate::specs::Desks::moved_to))]
 pub fn moved_to(c: Channel, unit: usize, m: Move) -> Channel
     ensures { result ≡ moved_to c unit m }
 {
-    let turn = m.turn;
-    let position = m.position;
-    let starts = m.starts;
-    let mut d = with_unit(c, unit, turn, position);
-    d.mark = m.mark;
-    d.urgent = m.urgent;
-    begun(d, starts)
+    let d = Channel {
+        mark: m.mark,
+        urgent: m.urgent,
+        ..with_unit(c, unit, m.turn, m.position)
+    };
+    begun(d, m.starts)
 }
 
 // A request of the unit, accepted if it is declared and has none.
+#[tactic(auto, using(crate::proofs::Laws::Desks::n_asks))]
 pub fn ask(c: Channel, unit: usize, op: Op, priority: bool, frozen: bool) -> Asked
     ensures { result ≡ ask_of c unit op priority frozen }
 {
-    let accepted = accepts(c, unit);
-    let x = unit_of(c, unit);
-    let d = desk_of(c);
-    let m = ask_move(x, unit, d, op, priority, frozen);
-    let channel = moved_to(c, unit, m);
-    Asked { accepted, channel }
+    let m = ask_move(unit_of(c, unit), unit, desk_of(c), op, priority, frozen);
+    Asked {
+        accepted: accepts(c, unit),
+        channel: moved_to(c, unit, m),
+    }
 }

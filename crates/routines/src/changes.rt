@@ -9,90 +9,86 @@ use crate::table::{highest_in, post_at, with_post};
 use crate::{Back, Due, Post, Routines, Scheduled};
 
 // Whether a routine waits at the unit.
+#[tactic(auto, using(crate::proofs::Laws::Table::due_at_lem))]
 pub fn waits_at(r: Routines, channel: usize, unit: usize) -> bool
     ensures { result ≡ waits_in r channel unit }
 {
-    let p = post_at(r, channel, unit);
-    let d = p.due;
-    is_due(d)
+    is_due(post_at(r, channel, unit).due)
 }
 
 // A request of the unit that names what is given.
+#[tactic(auto, unfolding(crate::specs::Changes::asked_in))]
 pub fn asked(r: Routines, channel: usize, unit: usize, d: Due) -> Routines
     ensures { result ≡ asked_in r channel unit d }
 {
-    let p = post_at(r, channel, unit);
-    let due = p.due;
-    let q = Post { named: d, due };
-    with_post(r, channel, unit, q)
+    let post = Post {
+        named: d,
+        ..post_at(r, channel, unit)
+    };
+    with_post(r, channel, unit, post)
 }
 
 // What the scheduler did: what it entered waits no longer.
+#[tactic(auto, unfolding(crate::specs::Changes::scheduled_in, crate::specs::Changes::cleared_in))]
 fn scheduled(r: Routines, s: Scheduled) -> Routines
     ensures { result ≡ scheduled_in r s }
 {
-    let x = s.programs;
-    let y = x.running;
-    let mut t = r;
-    t.programs = x;
+    let t = Routines {
+        programs: s.programs,
+        ..r
+    };
     if !s.entered {
         return t;
     }
-    let c = y.channel as usize;
-    let u = y.unit as usize;
-    let p = post_at(t, c, u);
-    let named = p.named;
-    let none = nothing_due();
-    let q = Post { named, due: none };
-    with_post(t, c, u, q)
+    let channel = s.programs.running.channel as usize;
+    let unit = s.programs.running.unit as usize;
+    let post = Post {
+        due: nothing_due(),
+        ..post_at(t, channel, unit)
+    };
+    with_post(t, channel, unit, post)
 }
 
 // A look.
+#[tactic(auto, unfolding(crate::specs::Changes::looked_in))]
 pub fn looked(r: Routines, frozen: bool) -> Routines
     ensures { result ≡ looked_in r frozen }
 {
-    let posts = r.posts;
-    let best = highest_in(posts);
-    let p = r.programs;
-    let s = look(p, frozen, best);
-    scheduled(r, s)
+    scheduled(r, look(r.programs, frozen, highest_in(r.posts)))
 }
 
 // What the unit's request names waits there, and no request names it.
+#[tactic(auto, unfolding(crate::specs::Changes::made_due_in))]
 fn made_due(r: Routines, channel: usize, unit: usize) -> Routines
     ensures { result ≡ made_due_in r channel unit }
 {
-    let p = post_at(r, channel, unit);
-    let due = p.named;
-    let none = nothing_due();
-    let q = Post { named: none, due };
-    with_post(r, channel, unit, q)
+    let post = Post {
+        named: nothing_due(),
+        due: post_at(r, channel, unit).named,
+    };
+    with_post(r, channel, unit, post)
 }
 
 // A report that answers the request of the unit, and the look after it.
+#[tactic(auto, unfolding(crate::specs::Changes::answered_in))]
 pub fn answered(r: Routines, frozen: bool, channel: usize, unit: usize) -> Routines
     ensures { result ≡ answered_in r frozen channel unit }
 {
-    let p = post_at(r, channel, unit);
-    let d = p.named;
-    if !is_due(d) {
-        return r;
+    if is_due(post_at(r, channel, unit).named) {
+        looked(made_due(r, channel, unit), frozen)
+    } else {
+        r
     }
-    let t = made_due(r, channel, unit);
-    looked(t, frozen)
 }
 
 // The return of the routine that runs.
+#[tactic(auto, unfolding(crate::specs::Changes::gave_back_in))]
 pub fn gave_back(r: Routines, frozen: bool) -> Back
     ensures { result ≡ gave_back_in r frozen }
 {
-    let posts = r.posts;
-    let best = highest_in(posts);
-    let p = r.programs;
-    let s = give_back(p, frozen, best);
-    let t = scheduled(r, s);
+    let s = give_back(r.programs, frozen, highest_in(r.posts));
     Back {
         entered: s.entered,
-        routines: t,
+        routines: scheduled(r, s),
     }
 }

@@ -28,7 +28,7 @@ pub const HIGHEST: u8 = 4;
 // The rank of a routine of the highest priority: a rank is one above the priority, and 0 where there is none.
 const TOP: u8 = HIGHEST + 1;
 
-// A routine that is due at a unit, or that a request names: its rank, 0 for no routine, and its number.
+// A routine that is due at a unit, or that a request names: its rank, 0 for no routine, and its number. The crates above store and compare it as numbers.
 #[derive(Clone, Copy)]
 pub struct Due {
     pub rank: u8,
@@ -59,7 +59,7 @@ pub struct Scheduled {
     pub programs: Programs,
 }
 
-// What an ask says of a routine: whether it names one, its number, and its priority.
+// What an ask says of a routine: whether it names one, its number, and its priority. The crates above make it and take it apart by these fields.
 #[derive(Clone, Copy)]
 pub struct Naming {
     pub given: bool,

@@ -41,18 +41,17 @@ pub fn is_due(d: Due) -> bool
 }
 
 // The routine of that priority and number, if one is named and the priority is one.
+#[tactic(auto, unfolding(crate::specs::Ranks::due_named))]
 pub fn due_named(named: bool, priority: u8, routine: u8) -> Due
     ensures { result ≡ due_named named priority routine }
 {
-    if !named {
-        return nothing_due();
-    }
-    if HIGHEST < priority {
-        return nothing_due();
-    }
-    Due {
-        rank: priority + 1,
-        routine,
+    if named && priority <= HIGHEST {
+        Due {
+            rank: priority + 1,
+            routine,
+        }
+    } else {
+        nothing_due()
     }
 }
 
@@ -72,30 +71,24 @@ pub fn waiting(channel: u8, unit: u8, d: Due) -> Program
 fn precedes(a: Program, b: Program) -> bool
     ensures { result ≡ comesFirst a b }
 {
-    (b.rank < a.rank)
-        | ((a.rank == b.rank)
-            & ((a.channel < b.channel) | ((a.channel == b.channel) & (a.unit < b.unit))))
+    (b.rank, a.channel, a.unit) < (a.rank, b.channel, b.unit)
 }
 
 // The one of two that comes first.
 pub fn higher(a: Program, b: Program) -> Program
     ensures { result ≡ higherOf a b }
 {
-    if precedes(b, a) {
-        return b;
-    }
-    a
+    if precedes(b, a) { b } else { a }
 }
 
 // The main program runs, and nothing was interrupted.
+#[tactic(auto, unfolding(crate::specs::Ranks::main_alone))]
 pub fn main_alone() -> Programs
     ensures { result ≡ main_alone }
 {
-    let running = main_program();
-    let pushed = [running; DEPTH];
     Programs {
-        running,
-        pushed,
+        running: main_program(),
+        pushed: [main_program(); DEPTH],
         count: 0,
     }
 }

@@ -4,50 +4,37 @@ ghost use Rattle.area.specs.Lists.{all_of};
 ghost use Rattle.routines.specs.Ranks.{depth, is_main, under};
 ghost use Rattle.routines.specs.Right.{due_right, program_right, descends as descendsTo, programs_right, is_settled};
 
+use crate::ranks::is_main;
 use crate::{DEPTH, Due, Program, Programs, TOP};
 
 // A rank in its range, and no number where there is no routine.
 pub fn due_right(d: Due) -> bool
     ensures { result ≡ due_right d }
 {
-    (d.rank <= TOP) & ((0 < d.rank) | (d.routine == 0))
+    d.rank <= TOP && (0 < d.rank || d.routine == 0)
 }
 
 // The same of a program; the main program has no channel, unit or number.
 fn program_right(p: Program) -> bool
     ensures { result ≡ program_right p }
 {
-    (p.rank <= TOP) & ((0 < p.rank) | ((p.channel == 0) & ((p.unit == 0) & (p.routine == 0))))
+    p.rank <= TOP && (0 < p.rank || (p.channel == 0 && p.unit == 0 && p.routine == 0))
 }
 
 // Whether every place of the list is as it may be.
+#[tactic(auto, using(crate::proofs::Laws::Lists::all_listed))]
 fn all_right(pushed: [Program; DEPTH]) -> bool
     ensures { result ≡ all_of program_right pushed }
 {
-    let mut i: usize = 0;
-    while i < DEPTH {
-        let x = pushed[i];
-        if !program_right(x) {
-            return false;
-        }
-        i += 1;
-    }
-    true
+    pushed.iter().all(|x| program_right(*x))
 }
 
 // Whether no routine stands past the end of the list.
+#[tactic(auto, using(crate::proofs::Laws::Lists::all_listed))]
 fn none_past(pushed: [Program; DEPTH], count: usize) -> bool
     ensures { result ≡ all_of is_main (drop count pushed) }
 {
-    let mut i = count;
-    while i < DEPTH {
-        let x = pushed[i];
-        if x.rank != 0 {
-            return false;
-        }
-        i += 1;
-    }
-    true
+    pushed.iter().skip(count).all(|x| is_main(*x))
 }
 
 // Whether ranks fall strictly from what runs to the bottom of the list, and it is the main program that is lowest.
@@ -56,39 +43,32 @@ fn descends(running: Program, pushed: [Program; DEPTH], count: usize) -> bool
     ensures { result ≡ descendsTo running (under pushed count) }
 {
     let mut above = running;
-    let mut i = count;
-    while 0 < i {
-        i -= 1;
-        let x = pushed[i];
-        if above.rank <= x.rank {
+    for i in (0..count).rev() {
+        if above.rank <= pushed[i].rank {
             return false;
         }
-        above = x;
+        above = pushed[i];
     }
     above.rank == 0
 }
 
 // Whether what runs and the push-down list are as they may be.
+#[tactic(auto, unfolding(crate::specs::Right::programs_right))]
 pub fn programs_right(p: Programs) -> bool
     ensures { result ≡ programs_right p }
 {
     let n = p.count as usize;
-    if DEPTH < n {
-        return false;
-    }
-    let x = p.running;
-    let pushed = p.pushed;
-    let own = program_right(x);
-    let all = all_right(pushed);
-    let rest = none_past(pushed, n);
-    let falls = descends(x, pushed, n);
-    own & (all & (rest & falls))
+    n <= DEPTH
+        && program_right(p.running)
+        && all_right(p.pushed)
+        && none_past(p.pushed, n)
+        && descends(p.running, p.pushed, n)
 }
 
 // Whether nothing is left to enter: the highest waiting routine is not above what runs, unless all is frozen or the list is full.
+#[tactic(auto, unfolding(crate::specs::Right::is_settled))]
 pub fn is_settled(p: Programs, frozen: bool, best: Program) -> bool
     ensures { result ≡ is_settled p frozen best }
 {
-    let x = p.running;
-    frozen | ((DEPTH <= p.count as usize) | (best.rank <= x.rank))
+    frozen || DEPTH <= p.count as usize || best.rank <= p.running.rank
 }

@@ -6,80 +6,67 @@ use crate::ranks::main_program;
 use crate::{DEPTH, Program, Programs, Scheduled};
 
 // A look: the waiting routine is entered if nothing is frozen, it is above what runs and the list has room; what ran goes on the list.
+#[tactic(auto, unfolding(crate::specs::Schedule::look_of, crate::specs::Schedule::enters, crate::specs::Schedule::interrupted_by))]
 pub fn look(p: Programs, frozen: bool, best: Program) -> Scheduled
     ensures { result ≡ look_of p frozen best }
 {
     let n = p.count as usize;
-    let old = p.running;
-    let enters = !frozen & ((old.rank < best.rank) & (n < DEPTH));
+    let enters = !frozen && p.running.rank < best.rank && n < DEPTH;
+    let mut programs = p;
     if enters {
-        let mut t = p;
-        t.pushed[n] = old;
-        t.running = best;
-        t.count = p.count + 1;
-        return Scheduled {
-            entered: enters,
-            programs: t,
-        };
+        programs.pushed[n] = p.running;
+        programs.running = best;
+        programs.count += 1;
     }
     Scheduled {
-        entered: false,
-        programs: p,
+        entered: enters,
+        programs,
     }
-}
-
-fn one_less(n: u8) -> u8
-    ensures { result ≡ n - 1 }
-{
-    if n == 0 { 0 } else { n - 1 }
 }
 
 // The program last pushed.
 fn last_pushed(p: Programs) -> Program
     ensures { result ≡ last_pushed p }
 {
-    let n = one_less(p.count) as usize;
-    if DEPTH <= n {
-        return main_program();
+    let n = p.count.saturating_sub(1) as usize;
+    if n < DEPTH {
+        p.pushed[n]
+    } else {
+        main_program()
     }
-    let x = p.pushed[n];
-    x
 }
 
 // The program last pushed runs again, and leaves the list.
+#[tactic(auto, unfolding(crate::specs::Schedule::resumed_of))]
 fn resumed(p: Programs) -> Programs
     ensures { result ≡ resumed_of p }
 {
-    let last = last_pushed(p);
-    let none = main_program();
-    let m = one_less(p.count);
-    let n = m as usize;
-    let mut t = p;
-    t.running = last;
-    t.count = m;
-    if DEPTH <= n {
-        return t;
+    let count = p.count.saturating_sub(1);
+    let n = count as usize;
+    let mut t = Programs {
+        running: last_pushed(p),
+        count,
+        ..p
+    };
+    if n < DEPTH {
+        t.pushed[n] = main_program();
     }
-    t.pushed[n] = none;
     t
 }
 
 // The return of the routine that runs: the waiting one is entered if nothing is frozen and it is above the program last pushed; else that program resumes.
+#[tactic(auto, unfolding(crate::specs::Schedule::given_back, crate::specs::Schedule::enters_on_return))]
 pub fn give_back(p: Programs, frozen: bool, best: Program) -> Scheduled
     ensures { result ≡ given_back p frozen best }
 {
-    let last = last_pushed(p);
-    if !frozen & (last.rank < best.rank) {
-        let mut t = p;
-        t.running = best;
+    if !frozen && last_pushed(p).rank < best.rank {
         return Scheduled {
             entered: true,
-            programs: t,
+            programs: Programs { running: best, ..p },
         };
     }
-    let t = resumed(p);
     Scheduled {
         entered: false,
-        programs: t,
+        programs: resumed(p),
     }
 }

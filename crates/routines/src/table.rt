@@ -22,7 +22,7 @@ pub fn no_naming() -> Naming
 pub fn naming_wrong(n: Naming) -> bool
     ensures { result ≡ naming_wrong n }
 {
-    n.given & (HIGHEST < n.level)
+    n.given && HIGHEST < n.level
 }
 
 // What an ask names.
@@ -36,70 +36,68 @@ pub fn due_of(n: Naming) -> Due
 fn empty_post() -> Post
     ensures { result ≡ empty_post }
 {
-    let none = nothing_due();
     Post {
-        named: none,
-        due: none,
+        named: nothing_due(),
+        due: nothing_due(),
     }
 }
 
 // The main program runs, nothing was interrupted, no request names a routine and none waits.
+#[tactic(auto, unfolding(crate::specs::Posts::no_routines))]
 pub fn no_routines() -> Routines
     ensures { result ≡ no_routines }
 {
-    let programs = main_alone();
-    let post = empty_post();
-    let units = [post; UNITS];
-    let one = Posts { units };
-    let posts = [one; CHANNELS];
-    Routines { programs, posts }
+    let units = [empty_post(); UNITS];
+    Routines {
+        programs: main_alone(),
+        posts: [Posts { units }; CHANNELS],
+    }
 }
 
 // The post of a unit among those of its channel, an empty one past the last.
 fn post_of(x: Posts, unit: usize) -> Post
     ensures { result ≡ get_or x.units unit empty_post }
 {
-    if UNITS <= unit {
-        return empty_post();
+    if unit < UNITS {
+        x.units[unit]
+    } else {
+        empty_post()
     }
-    let p = x.units[unit];
-    p
 }
 
 // The post of a unit, an empty one at a number that is no unit's.
+#[tactic(auto, using(crate::proofs::Laws::Table::post_beyond))]
 pub fn post_at(r: Routines, channel: usize, unit: usize) -> Post
     ensures { result ≡ post_at r channel unit }
 {
-    if CHANNELS <= channel {
-        return empty_post();
+    if channel < CHANNELS {
+        post_of(r.posts[channel], unit)
+    } else {
+        empty_post()
     }
-    let x = r.posts[channel];
-    post_of(x, unit)
 }
 
 // The posts of a channel's units with another one in the place of that number, unchanged past the last.
+#[tactic(auto, using(crate::proofs::Laws::Table::unit_post_beyond))]
 fn with_unit_post(x: Posts, unit: usize, p: Post) -> Posts
     ensures { result ≡ with_unit_post x unit p }
 {
-    if UNITS <= unit {
-        return x;
-    }
     let mut y = x;
-    y.units[unit] = p;
+    if unit < UNITS {
+        y.units[unit] = p;
+    }
     y
 }
 
 // The routines with another post at a unit, unchanged at a number that is no unit's.
+#[tactic(auto, using(crate::proofs::Laws::Table::with_post_beyond), unfolding(crate::specs::Posts::with_post))]
 pub fn with_post(r: Routines, channel: usize, unit: usize, p: Post) -> Routines
     ensures { result ≡ with_post r channel unit p }
 {
-    if CHANNELS <= channel {
-        return r;
-    }
-    let x = r.posts[channel];
-    let y = with_unit_post(x, unit, p);
     let mut t = r;
-    t.posts[channel] = y;
+    if channel < CHANNELS {
+        t.posts[channel] = with_unit_post(r.posts[channel], unit, p);
+    }
     t
 }
 
@@ -108,13 +106,8 @@ fn highest_on(units: [Post; UNITS], channel: u8, from: Program) -> Program
     ensures { result ≡ highest_on channel 0 (map due_in units) from }
 {
     let mut best = from;
-    let mut i: usize = 0;
-    while i < UNITS {
-        let x = units[i];
-        let d = x.due;
-        let p = waiting(channel, i as u8, d);
-        best = higher(best, p);
-        i += 1;
+    for i in 0..UNITS {
+        best = higher(best, waiting(channel, i as u8, units[i].due));
     }
     best
 }
@@ -124,12 +117,8 @@ pub fn highest_in(posts: [Posts; CHANNELS]) -> Program
     ensures { result ≡ highest (map dues_in posts) }
 {
     let mut best = main_program();
-    let mut i: usize = 0;
-    while i < CHANNELS {
-        let x = posts[i];
-        let units = x.units;
-        best = highest_on(units, i as u8, best);
-        i += 1;
+    for i in 0..CHANNELS {
+        best = highest_on(posts[i].units, i as u8, best);
     }
     best
 }

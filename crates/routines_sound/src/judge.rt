@@ -17,100 +17,73 @@ use state::channel_in;
 fn unit_known(channels: [Channel; CHANNELS], p: Program) -> bool
     ensures { result ≡ unit_known (declared_in channels) p }
 {
-    let c = channel_in(channels, p.channel as usize);
-    let known = is_declared(c, p.unit as usize);
-    is_main(p) | known
+    is_main(p) || is_declared(channel_in(channels, p.channel as usize), p.unit as usize)
 }
 
 // Whether the unit of every pushed program is.
 fn all_known(channels: [Channel; CHANNELS], pushed: [Program; DEPTH]) -> bool
     ensures { result ≡ all_of (unit_known (declared_in channels)) pushed }
 {
-    let mut i: usize = 0;
-    while i < DEPTH {
-        let x = pushed[i];
-        if !unit_known(channels, x) {
-            return false;
-        }
-        i += 1;
-    }
-    true
+    pushed.iter().all(|p| unit_known(channels, *p))
 }
 
 // Whether a unit's post is right, by whether the unit is declared and has a request.
+#[tactic(auto, unfolding(routines::specs::Right::post_right))]
 fn post_right(declared: bool, asked: bool, x: Post) -> bool
     ensures { result ≡ post_right declared asked x }
 {
-    let named = x.named;
-    let due = x.due;
-    let first = due_right(named);
-    let second = due_right(due);
-    let names = is_due(named);
-    let waits = is_due(due);
-    (first & second) & ((!names | asked) & (!waits | (declared & !asked)))
+    due_right(x.named)
+        && due_right(x.due)
+        && (!is_due(x.named) || asked)
+        && (!is_due(x.due) || (declared && !asked))
 }
 
-// Whether the posts of a channel's units are.
+// Whether the posts of a channel's units are. The unit's number is asked for too, so the loop goes over numbers.
 fn all_posts(c: Channel, units: [Post; UNITS]) -> bool
     ensures { result ≡ all_from (λ u x. post_right (declared_at c u) (has_request c u) x) 0 units }
 {
-    let mut u: usize = 0;
-    while u < UNITS {
-        let x = units[u];
-        let declared = is_declared(c, u);
-        let asked = has_request(c, u);
-        if !post_right(declared, asked, x) {
+    for u in 0..UNITS {
+        if !post_right(is_declared(c, u), has_request(c, u), units[u]) {
             return false;
         }
-        u += 1;
     }
     true
 }
 
+#[tactic(auto, unfolding(routines::specs::Right::posts_right))]
 fn posts_right(c: Channel, x: Posts) -> bool
     ensures { result ≡ posts_right (declared_at c) (has_request c) x }
 {
-    let units = x.units;
-    all_posts(c, units)
+    all_posts(c, x.units)
 }
 
 // Whether those of every channel are.
 fn table_right(channels: [Channel; CHANNELS], posts: [Posts; CHANNELS]) -> bool
     ensures { result ≡ all_from (λ c p. posts_right (declared_in channels c) (request_in channels c) p) 0 posts }
 {
-    let mut i: usize = 0;
-    while i < CHANNELS {
-        let x = posts[i];
-        let c = channel_in(channels, i);
-        if !posts_right(c, x) {
+    for i in 0..CHANNELS {
+        if !posts_right(channel_in(channels, i), posts[i]) {
             return false;
         }
-        i += 1;
     }
     true
 }
 
 // Whether the unit of what runs, and of all that was interrupted, is declared.
+#[tactic(auto, unfolding(routines::specs::Right::units_known))]
 fn units_known(channels: [Channel; CHANNELS], p: Programs) -> bool
     ensures { result ≡ units_known (declared_in channels) p }
 {
-    let x = p.running;
-    let pushed = p.pushed;
-    let own = unit_known(channels, x);
-    let all = all_known(channels, pushed);
-    own & all
+    unit_known(channels, p.running) && all_known(channels, p.pushed)
 }
 
 // Whether the routines are right beside the channels.
+#[tactic(auto, unfolding(crate::specs::Beside::routines_beside, routines::specs::Right::routines_right))]
 pub fn routines_right(channels: [Channel; CHANNELS], frozen: bool, r: Routines) -> bool
     ensures { result ≡ routines_beside channels frozen r }
 {
-    let p = r.programs;
-    let posts = r.posts;
-    let right = programs_right(p);
-    let known = units_known(channels, p);
-    let table = table_right(channels, posts);
-    let best = highest_in(posts);
-    let settled = is_settled(p, frozen, best);
-    right & (known & (table & settled))
+    programs_right(r.programs)
+        && units_known(channels, r.programs)
+        && table_right(channels, r.posts)
+        && is_settled(r.programs, frozen, highest_in(r.posts))
 }

@@ -13,21 +13,15 @@ use Rattle.channel.specs.declared.Turn.TheVariants.{Idle}
 use Rattle.channel.specs.declared.Position.{Position}
 use Rattle.channel.specs.declared.Unit.{Unit}
 use Rattle.channel.specs.declared.Channel.{Channel}
-use Rattle.channel.specs.Units.{size, at_start, idle_unit, unit_at, declared_at, turn_at, position_at, with_unit, bits_from}
+use Rattle.channel.specs.Units.{size, idle_unit, unit_at, declared_at, turn_at, with_unit, bits_from}
 
 -- a number that is no unit's
 module _ (c : Channel) (u : ℕ) (beyond : size c ≤ u) where
   pub unit_beyond : unit_at c u ≡ idle_unit false
   unit_beyond = get_or-eq_default c.units (idle_unit false) beyond
 
-  pub declared_beyond : declared_at c u ≡ false
-  declared_beyond = ap (λ (x : Unit). x.declared) unit_beyond
-
   pub turn_beyond : turn_at c u ≡ Idle
   turn_beyond = ap (λ (x : Unit). x.turn) unit_beyond
-
-  pub position_beyond : position_at c u ≡ at_start
-  position_beyond = ap (λ (x : Unit). x.position) unit_beyond
 
   pub with_beyond : (t : Turn) (p : Position) → with_unit c u t p ≡ c
   unfolding with_unit

@@ -1,17 +1,16 @@
 -- What runs and the push-down list stay as they may be through a look and a return, and after each nothing is left to enter. Assumes nothing.
 use mathlib.Core.Path.{◌≡◌, refl, sym, ap, ◌∙◌}
-use mathlib.Core.Bool.{Bool, true, false, not, cond, ◌&&◌, ◌||◌}
+use mathlib.Core.Bool.{Bool, true, false, not, ◌&&◌, ◌||◌}
 use mathlib.Core.List.{List, [], ◌∷◌}
 use Prim.Native.Nat.{ℕ, zero, suc, ◌+◌, ◌-◌, ◌≤◌, ◌<◌}
 use native.Mathlib.Nat.{le_refl}
-use native.Mathlib.Numerals.{add-one}
 use native.Mathlib.Omega.{arith}
-use borrow.Author.Tests.{ltb-true, ltb-false, leb-true, leb-false, le-leb, lt-leb, lt-ltb, eqb-true, eqb-false, eq-eqb}
+use borrow.Author.Tests.{ltb-false, leb-true, le-leb, lt-ltb, eqb-true, eq-eqb}
 use lib.Dec.{ltb, leb, eqb}
 use lib.ListN.{length, get_or, set, drop, length-set}
 use lib.Seq.{get_or-set_same, lt-length-set, drop-cons, drop-set-lt}
 use Rattle.area.specs.Lists.{all_of}
-use Rattle.area.proofs.Walks.{by_test, and_left, and_right, and_both, or_first, or_second, or_neither, true_not_false, all_at, all_step}
+use Rattle.area.proofs.Walks.{and_left, and_right, and_both, or_first, or_second, true_not_false, all_at, all_step}
 use Rattle.area.proofs.Marks.{all_set}
 use Rattle.routines.specs.declared.Program.{Program}
 use Rattle.routines.specs.declared.Programs.{Programs}

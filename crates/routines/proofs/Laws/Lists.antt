@@ -7,8 +7,10 @@ use native.Mathlib.Omega.{arith}
 use native.Mathlib.Numerals.{add-one}
 use borrow.Author.Tests.{le-ltb, lt-ltb}
 use lib.Dec.{ltb}
-use lib.ListN.{length, get_or, set, get_or-eq_default}
+use lib.ListN.{length, get_or, set}
 use lib.Seq.{get_or-set_same, get_or-set_other}
+use Rattle.std.specs.List.{list_all}
+use Rattle.area.specs.Lists.{all_of}
 use Rattle.routines.specs.declared.Program.{Program}
 use Rattle.routines.specs.Ranks.{main_program, is_main, under}
 use Rattle.routines.specs.Right.{descends}
@@ -63,3 +65,13 @@ module _ (xs : List Program) (above : Program) (i : ℕ) (e₀ : Bool) where
   falls_done h inv =
       let none : i ≡ 0 = omega arith in
       sym (inv ∙ rw none)
+
+-- ---- what std's `all` returns is what `all_of` says
+
+listed_lem : {A : Type 0} (test : A → Bool) (xs : List A) → list_all test xs ≡ all_of test xs
+unfolding all_of
+listed_lem test [] = refl
+listed_lem test (x ∷ xs) = ap (λ (b : Bool). test x && b) (listed_lem test xs)
+
+pub all_listed : {A : Type 0} (test : A → Bool) (xs : List A) (r : Bool) → r ≡ list_all test xs → r ≡ all_of test xs
+all_listed test xs r e = e ∙ listed_lem test xs

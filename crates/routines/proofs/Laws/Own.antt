@@ -1,7 +1,7 @@
 -- A look after a report that answers: if nothing was left to enter before it, it can enter only the routine that the report made due, so that what waits elsewhere
 -- need not be looked at. Assumes nothing.
 use mathlib.Core.Path.{◌≡◌, refl, sym, ap, ◌∙◌}
-use mathlib.Core.Bool.{Bool, true, false, not, ◌&&◌, ◌||◌}
+use mathlib.Core.Bool.{Bool, true, false, not, ◌&&◌}
 use Prim.Native.Nat.{ℕ, ◌≤◌, ◌<◌}
 use native.Mathlib.Omega.{arith}
 use borrow.Author.Tests.{ltb-true, ltb-false, leb-true, le-ltb, eqb-true, eqb-false}
@@ -10,7 +10,7 @@ use Rattle.area.proofs.Walks.{or_either}
 use Rattle.routines.specs.declared.Due.{Due}
 use Rattle.routines.specs.declared.Program.{Program}
 use Rattle.routines.specs.declared.Programs.{Programs}
-use Rattle.routines.specs.Ranks.{depth, nothing_due, waiting_at}
+use Rattle.routines.specs.Ranks.{depth, waiting_at}
 use Rattle.routines.specs.Waits.{Waits, is_unit, due_at, with_due, highest}
 use Rattle.routines.specs.Schedule.{enters, look_of}
 use Rattle.routines.specs.Right.{is_settled}

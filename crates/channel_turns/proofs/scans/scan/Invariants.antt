@@ -1,5 +1,5 @@
 use mathlib.Core.Path.{◌≡◌}
-use Prim.Native.Nat.{◌≤◌, ◌<◌, ◌-◌}
+use Prim.Native.Nat.{◌≤◌, ◌<◌}
 use Rattle.area.specs.Lists.{first_along}
 use Rattle.area.specs.Masks.{bit_at}
 use Rattle.channel.specs.Units.{unit_count}

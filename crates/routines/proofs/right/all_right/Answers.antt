@@ -1,35 +1,10 @@
--- `all_right` meets its contract: what is left of the list gives the answer of the whole. Assumes nothing.
-use borrow.Author.Rules.{rules}
-use borrow.Author.Tests.{not-true, not-false}
-use mathlib.Core.Path.{refl, sym, ◌∙◌}
-use Prim.Native.Nat.{◌≤◌, ◌<◌, ◌-◌}
-use native.Mathlib.Omega.{arith}
-use lib.ListN.{length}
-use Rattle.area.proofs.Walks.{all_hit, all_miss, all_done}
-use Rattle.routines.specs.Ranks.{main_program}
+-- `all_right` meets its contract: `all` asks every place of the list. Assumes nothing.
+use Rattle.std.proofs.Common.{rules}
+use Rattle.std.proofs.lemmas.Iterator.{YieldsList-from_slice}
+use Rattle.std.proofs.lemmas.Iterator.Search.{all_from_yields_List}
 use Rattle.routines.specs.Right.{program_right}
+use Rattle.routines.proofs.Laws.Lists.{all_listed}
 use Rattle.routines.proofs.right.all_right.Goals as goal
 
-pub loop-i-init : goal.loop-i-init
-loop-i-init c = (search rules, search rules, refl)
-
-pub offset_bounds-pushed-i : goal.offset_bounds-pushed-i
-offset_bounds-pushed-i c = omega arith
-
-pub bounds-pushed-i : goal.bounds-pushed-i
-bounds-pushed-i c = omega arith
-
-pub returns-then-not-program_right : goal.returns-then-not-program_right
-returns-then-not-program_right c = let h : c.loop-i.i < length c.args.pushed = omega arith in all_hit _ _ _ _ _ h c.loop-i.invariant.2 (sym c.program_right.ensures ∙ c.if-not-program_right.true)
-
-pub overflow_add-i : goal.overflow_add-i
-overflow_add-i c = omega arith
-
-pub loop-i-smaller : goal.loop-i-smaller
-loop-i-smaller c = omega arith
-
-pub loop-i-preserved : goal.loop-i-preserved
-loop-i-preserved c = let h : c.loop-i.i < length c.args.pushed = omega arith in (omega arith, c.loop-i.invariant.1, all_miss _ _ _ _ _ h c.loop-i.invariant.2 (sym c.program_right.ensures ∙ c.if-not-program_right.false))
-
 pub returns : goal.returns
-returns c = let h : length c.args.pushed ≤ c.loop-i.i = omega arith in all_done _ _ main_program _ _ h c.loop-i.invariant.2
+returns c = all_listed program_right c.args.pushed _ (all_from_yields_List program_right _ _ _ c.all.ensures.ran (YieldsList-from_slice c.args.pushed c.iter.ensures.rest) (λ x b q k. search rules))

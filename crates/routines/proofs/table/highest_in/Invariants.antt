@@ -1,4 +1,3 @@
-use Prim.Native.Nat.{◌≤◌, ◌-◌}
 use mathlib.Core.Path.{◌≡◌}
 use mathlib.Core.List.{map}
 use lib.ListN.{length, drop}
@@ -8,7 +7,4 @@ use Rattle.routines.specs.Waits.{highest_from}
 use Rattle.routines.proofs.table.highest_in.Given as goal
 
 abbrev pub invariant-loop-i : goal.invariant-loop-i
-invariant-loop-i l = (l.i ≤ channel_count) × (length l.posts ≡ channel_count) × (highest_from 0 (map dues_in l.posts) l.initial.best ≡ highest_from l.i (map dues_in (drop l.i l.posts)) l.best)
-
-abbrev pub decreases-loop-i : goal.decreases-loop-i
-decreases-loop-i l = channel_count - l.i
+invariant-loop-i l = (length l.posts ≡ channel_count) × (highest_from 0 (map dues_in l.posts) l.initial.best ≡ highest_from l.i (map dues_in (drop l.i l.posts)) l.best)

@@ -1,4 +1,3 @@
-use Prim.Native.Nat.{◌≤◌, ◌-◌}
 use mathlib.Core.Path.{◌≡◌}
 use mathlib.Core.List.{map}
 use lib.ListN.{length, drop}
@@ -8,7 +7,4 @@ use Rattle.routines.specs.Waits.{highest_on}
 use Rattle.routines.proofs.table.highest_on.Given as goal
 
 abbrev pub invariant-loop-i : goal.invariant-loop-i
-invariant-loop-i l = (l.i ≤ unit_count) × (length l.units ≡ unit_count) × (highest_on l.channel 0 (map due_in l.units) l.initial.best ≡ highest_on l.channel l.i (map due_in (drop l.i l.units)) l.best)
-
-abbrev pub decreases-loop-i : goal.decreases-loop-i
-decreases-loop-i l = unit_count - l.i
+invariant-loop-i l = (length l.units ≡ unit_count) × (highest_on l.channel 0 (map due_in l.units) l.initial.best ≡ highest_on l.channel l.i (map due_in (drop l.i l.units)) l.best)

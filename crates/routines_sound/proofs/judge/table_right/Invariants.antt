@@ -1,5 +1,5 @@
 use mathlib.Core.Path.{◌≡◌}
-use Prim.Native.Nat.{ℕ, ◌≤◌, ◌-◌}
+use Prim.Native.Nat.{ℕ}
 use lib.ListN.{length, drop}
 use Rattle.area.specs.Numbered.{all_from}
 use Rattle.channel.specs.Units.{channel_count}
@@ -9,7 +9,4 @@ use Rattle.routines_sound.specs.Beside.{declared_in, request_in}
 use Rattle.routines_sound.proofs.judge.table_right.Given as goal
 
 abbrev pub invariant-loop-i : goal.invariant-loop-i
-invariant-loop-i l = (l.i ≤ channel_count) × (length l.posts ≡ channel_count) × (all_from (λ (c : ℕ) (p : Posts). posts_right (declared_in l.channels c) (request_in l.channels c) p) 0 l.posts ≡ all_from (λ (c : ℕ) (p : Posts). posts_right (declared_in l.channels c) (request_in l.channels c) p) l.i (drop l.i l.posts))
-
-abbrev pub decreases-loop-i : goal.decreases-loop-i
-decreases-loop-i l = channel_count - l.i
+invariant-loop-i l = (length l.posts ≡ channel_count) × (all_from (λ (c : ℕ) (p : Posts). posts_right (declared_in l.channels c) (request_in l.channels c) p) 0 l.posts ≡ all_from (λ (c : ℕ) (p : Posts). posts_right (declared_in l.channels c) (request_in l.channels c) p) l.i (drop l.i l.posts))
