@@ -47,7 +47,8 @@ pub fn filled_at(f: File, k: Side, words: u16, arrival: Arrival) -> File
         at: 0,
         arrival,
     };
-    with_slot(f, k, x, turned_by(f, k), next_number(f.block))
+    let next = next_number(f.block);
+    with_slot(f, k, x, turned_by(f, k), next)
 }
 
 // That buffer is empty.
