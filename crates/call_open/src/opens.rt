@@ -4,7 +4,7 @@ ghost use Rattle.call_open.specs.Open.{wish_of, open_refusal, open_on};
 
 use area::row;
 use channel::{Channel, is_declared};
-use file::{File, FileChange, Wish, buffers_for, opened_file, sizes_fit};
+use file::{File, FileChange, Wish, buffers_for, file_change, opened_file, sizes_fit};
 use pool::FreeBuffers;
 
 // What the arguments of an open ask for: flag 1 is output, 2 double, 4 sequence, 8 check.
@@ -38,11 +38,13 @@ fn open_refusal(
     let known = is_declared(c, q.unit as usize);
     let want = buffers_for(q.double);
     let fit = sizes_fit(w, q.sequence, q.check, q.size, q.rlen);
-    let c3 = !known;
-    let c4 = f.opened | bound;
-    let c7 = free.count < want;
-    let c13 = !fit;
-    row(1, c1, row(3, c3, row(4, c4, row(7, c7, row(13, c13, 0)))))
+    let taken = f.opened | bound;
+    let scarce = free.count < want;
+    row(
+        1,
+        c1,
+        row(3, !known, row(4, taken, row(7, scarce, row(13, !fit, 0)))),
+    )
 }
 
 // An open of the file f on the channel c. `c1` is whether row 1 applies, `bound` whether the unit is bound.
@@ -58,15 +60,6 @@ pub fn open_on(
     ensures { result ≡ open_on c1 bound f c free w q }
 {
     let no = open_refusal(c1, bound, f, c, free, w, q);
-    if no != 0 {
-        return FileChange {
-            refusal: no,
-            file: f,
-        };
-    }
-    let g = opened_file(q, free.low, free.high);
-    FileChange {
-        refusal: 0,
-        file: g,
-    }
+    let after = opened_file(q, free.low, free.high);
+    file_change(no, f, after)
 }

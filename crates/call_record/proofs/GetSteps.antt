@@ -1,16 +1,14 @@
--- What get and skip do on one file, step by step as their code goes, comes to their definitions. Assumes nothing.
-use mathlib.Core.Path.{◌≡◌, sym, ap, ◌∙◌}
+-- What get does on one file, step by step as their code goes, comes to their definitions. Assumes nothing.
+use mathlib.Core.Path.{◌≡◌, ap, ◌∙◌}
 use mathlib.Core.Bool.{Bool}
-use mathlib.Core.List.{List, []}
+use mathlib.Core.List.{List}
 use Prim.Native.Nat.{ℕ}
 use borrow.Author.Tests.{ne_eqb}
 use Rattle.file.specs.declared.File.{File}
-use Rattle.file.specs.Fills.{without_oldest}
 use Rattle.file_input.specs.declared.Got.{Got}
 use Rattle.file_input.specs.declared.Finding.{Finding}
 use Rattle.file_input.specs.Gets.{after_get, get_from}
 use Rattle.call_record.specs.Get.{get_refusal, no_answer, get_on}
-use Rattle.call_record.specs.Skip.{skip_refusal, skip_on}
 
 -- ---- get on one file
 
@@ -22,9 +20,9 @@ module _ (wrong : Bool) (f : File) (w : ℕ) (area : List ℕ) (x : Finding) (ex
   unfolding get_on
   get_refused h = (refusal_is, rw (← refusal_is, ne_eqb no 0 h))
 
-  pub get_taken : no ≡ 0 → (0 ≡ (get_on wrong f w area).refusal) × (x.got ≡ (get_on wrong f w area).got)
+  pub get_taken : no ≡ 0 → (no ≡ (get_on wrong f w area).refusal) × (x.got ≡ (get_on wrong f w area).got)
   unfolding get_on
-  get_taken z = (sym z ∙ refusal_is, ap (λ (y : Finding). y.got) ex ∙ rw (← refusal_is, z))
+  get_taken z = (refusal_is, ap (λ (y : Finding). y.got) ex ∙ rw (← refusal_is, z))
 
 -- with the file after it
 module _ (wrong : Bool) (f : File) (w : ℕ) (area : List ℕ) (no : ℕ) (g : Got) (e : no ≡ (get_on wrong f w area).refusal) (eg : g ≡ (get_on wrong f w area).got) where
@@ -34,17 +32,6 @@ module _ (wrong : Bool) (f : File) (w : ℕ) (area : List ℕ) (no : ℕ) (g : G
       let n = ne_eqb no 0 h in
       rw (eg, ← e, n)
 
-  pub get_changes : no ≡ 0 → (after : File) → after ≡ after_get f → record { refusal = 0; got = g; file = after } ≡ get_on wrong f w area
+  pub get_changes : no ≡ 0 → (after : File) → after ≡ after_get f → record { refusal = no; got = g; file = after } ≡ get_on wrong f w area
   unfolding get_on get_from after_get
   get_changes z after ea = rw (eg, ea, ← e, z)
-
--- ---- skip on one file
-
-module _ (wrong : Bool) (f : File) (no : ℕ) (e : no ≡ skip_refusal wrong f) where
-  pub skip_refused : (no ≡ 0 → ⊥) → record { refusal = no; file = f } ≡ skip_on wrong f
-  unfolding skip_on
-  skip_refused h = rw (← e, ne_eqb no 0 h)
-
-  pub skip_taken : no ≡ 0 → (g : File) → g ≡ without_oldest f → record { refusal = 0; file = g } ≡ skip_on wrong f
-  unfolding skip_on
-  skip_taken z g eg = rw (← e, z, eg)

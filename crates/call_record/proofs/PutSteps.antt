@@ -1,15 +1,15 @@
 -- What put and seal do on one file, step by step as their code goes, comes to their definitions. Assumes nothing.
 use mathlib.Core.Path.{◌≡◌, sym, ap, ap₂, ◌∙◌}
 use mathlib.Core.Bool.{Bool, true, false}
-use mathlib.Core.List.{List, []}
+use mathlib.Core.List.{List}
 use Prim.Native.Nat.{ℕ}
 use borrow.Author.Tests.{ne_eqb}
 use Rattle.file.specs.declared.File.{File}
-use Rattle.file_output.specs.Puts.{added, after_put}
-use Rattle.file_output.specs.Parts.{is_complete, sealed_file}
+use Rattle.file_output.specs.Puts.{added}
+use Rattle.file_output.specs.Parts.{is_complete}
 use Rattle.call_record.specs.Blocks.{sealed_area}
-use Rattle.call_record.specs.Put.{put_refusal, filled_area, put_area, put_on, put_on_area}
-use Rattle.call_record.specs.Seal.{seal_refusal, seal_on, seal_on_area}
+use Rattle.call_record.specs.Put.{put_refusal, filled_area, put_area, put_on_area}
+use Rattle.call_record.specs.Seal.{seal_refusal, seal_on_area}
 
 -- ---- put on one file
 
@@ -33,15 +33,6 @@ module _ (wrong : Bool) (f : File) (w : ℕ) (area words : List ℕ) (no : ℕ) 
         let c : is_complete (added f) ≡ false = sym (eb ∙ ap is_complete eg) ∙ t in
         rw (← e, z, c) ef
 
-  -- with the file after it
-  pub put_keeps : (no ≡ 0 → ⊥) → record { refusal = no; file = f } ≡ put_on wrong f w area words
-  unfolding put_on
-  put_keeps h = rw (← e, ne_eqb no 0 h)
-
-  pub put_changes : no ≡ 0 → (g : File) → g ≡ after_put f → record { refusal = 0; file = g } ≡ put_on wrong f w area words
-  unfolding put_on
-  put_changes z g eg = rw (← e, z, eg)
-
 -- ---- seal on one file
 
 module _ (wrong : Bool) (f : File) (w : ℕ) (area : List ℕ) (no : ℕ) (e : no ≡ seal_refusal wrong f w area) where
@@ -52,12 +43,3 @@ module _ (wrong : Bool) (f : File) (w : ℕ) (area : List ℕ) (no : ℕ) (e : n
   pub seal_taken : no ≡ 0 → (zs : List ℕ) → zs ≡ sealed_area w f area → zs ≡ seal_on_area wrong f w area
   unfolding seal_on_area
   seal_taken z zs ez = rw (← e, z) ez
-
-  -- with the file after it
-  pub seal_keeps : (no ≡ 0 → ⊥) → record { refusal = no; file = f } ≡ seal_on wrong f w area
-  unfolding seal_on
-  seal_keeps h = rw (← e, ne_eqb no 0 h)
-
-  pub seal_changes : no ≡ 0 → (g : File) → g ≡ sealed_file f → record { refusal = 0; file = g } ≡ seal_on wrong f w area
-  unfolding seal_on
-  seal_changes z g eg = rw (← e, z, eg)

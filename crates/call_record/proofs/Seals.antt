@@ -2,9 +2,10 @@
 use mathlib.Core.Path.{◌≡◌, refl, sym, ap, ◌∙◌}
 use mathlib.Core.Bool.{Bool, true, false, cond, ◌||◌}
 use mathlib.Core.List.{List, [], ◌++◌}
-use Prim.Native.Nat.{ℕ, ◌+◌, ◌-◌, ◌≤◌, ◌<◌}
+use Prim.Native.Nat.{ℕ, ◌+◌, ◌-◌, ◌≤◌, ◌<◌, min}
 use native.Mathlib.Omega.{arith}
-use lib.Dec.{eqb}
+use lib.Dec.{eqb, leb}
+use borrow.Author.Tests.{leb-true, leb-false}
 use lib.ListN.{length, take, drop, set, length-set}
 use lib.Seq.{drop-drop}
 use Rattle.area.specs.Parts.{part_of, paste}
@@ -52,17 +53,17 @@ module _ (n : ℕ) (sequence check : Bool) (number : ℕ) where
       ap (λ (l : List ℕ). take at area ++ (block ++ l)) (drop-drop k at area ∙ ap (λ (j : ℕ). drop (at + j) area) (sym long))
       ∙ ap (λ (l : List ℕ). take at area ++ (l ++ drop (at + length l) area)) whole
 
-  -- the area ends within the buffer
-  pub sealed_rest : (at w : ℕ) (area block : List ℕ) → at < length area → length area - at ≤ w
-      → block ≡ sealed_block (part_of at (length area - at) area) n sequence check number
-      → take at area ++ (block ++ drop (length area - at) (drop at area)) ≡ sealed_in at w n sequence check number area
-  sealed_rest at w area block h l e =
-      sealed_back at w (length area - at) area block (omega arith) (part_all at (length area - at) area (omega arith) ∙ sym (part_all at w area l)) e
-
-  -- it goes on past the buffer
-  pub sealed_whole : (at w : ℕ) (area block : List ℕ) → at < length area → w < length area - at
-      → block ≡ sealed_block (part_of at (at + w - at) area) n sequence check number
-      → take at area ++ (block ++ drop (at + w - at) (drop at area)) ≡ sealed_in at w n sequence check number area
-  sealed_whole at w area block h l e =
-      let same : at + w - at ≡ w = omega arith in
-      sealed_back at w (at + w - at) area block (omega arith) (ap (λ (j : ℕ). part_of at j area) same) e
+  -- the buffer ends where the area does, if that is sooner
+  pub sealed_end : (at w e : ℕ) (area block : List ℕ) → at < length area → e ≡ min (length area) (at + w)
+      → block ≡ sealed_block (part_of at (e - at) area) n sequence check number
+      → take at area ++ (block ++ drop (e - at) (drop at area)) ≡ sealed_in at w n sequence check number area
+  sealed_end at w e area block h m b = sealed_back at w (e - at) area block (omega arith) (same (leb (length area - at) w) refl) b
+    where
+      same : (t : Bool) → leb (length area - at) w ≡ t → part_of at (e - at) area ≡ part_of at w area
+      same true r =
+          let l : length area - at ≤ w = leb-true _ _ r in
+          part_all at (e - at) area (omega arith) ∙ sym (part_all at w area l)
+      same false r =
+          let l : w < length area - at = leb-false _ _ r in
+          let k : e - at ≡ w = omega arith in
+          ap (λ (j : ℕ). part_of at j area) k

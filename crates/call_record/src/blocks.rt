@@ -11,9 +11,8 @@ pub fn sums_spoilt(summed: bool, f: File, w: u16, area: &[u64]) -> bool
 {
     if summed {
         let at = part_start(f, w);
-        let n = part_length(f);
-        let right = area::part_are_words(area, at, n as usize);
-        return !right;
+        let n = part_length(f) as usize;
+        return !area::part_are_words(area, at, n);
     }
     false
 }
@@ -33,11 +32,7 @@ pub fn seal_in(
     if area.len() <= at {
         return;
     }
-    if area.len() - at <= w as usize {
-        block::seal(&mut area[at..], n as usize, sequence, check, number);
-        return;
-    }
-    let end = at + w as usize;
+    let end = area.len().min(at + w as usize);
     block::seal(&mut area[at..end], n as usize, sequence, check, number);
 }
 

@@ -4,18 +4,15 @@ ghost use Rattle.call_record.specs.Put.{sums, put_refusal, filled_area, put_on, 
 
 use crate::blocks::{seal_block, sums_spoilt};
 use area::row;
-use file::{File, FileChange};
+use file::{File, FileChange, file_change};
 use file_output::{added, after_put, has_room, is_complete, put_start};
 
 // Whether a put of n words is taken and sums the block: it is complete then, and check sums are chosen.
 fn is_summed(f: File, n: usize) -> bool
     ensures { result ≡ sums f n }
 {
-    let room = has_room(f);
-    let g = added(f);
-    let whole = is_complete(g);
     let fits = n == f.rlen as usize;
-    (f.opened & (f.output & (room & fits))) & (whole & f.check)
+    (f.opened & (f.output & (has_room(f) & fits))) & (is_complete(added(f)) & f.check)
 }
 
 // The refusal of a put of these words to this file; c1 is what is known of row 1.
@@ -28,14 +25,11 @@ fn put_refusal(c1: bool, f: File, w: u16, area: &[u64], words: &[u64]) -> u8
     let room = has_room(f);
     let fits = words.len() == f.rlen as usize;
     let c2 = !right | spoilt;
-    let c5 = !f.opened;
-    let c6 = !f.output;
-    let c9 = !room;
-    let c13 = !fits;
+    let shape = row(9, !room, row(13, !fits, 0));
     row(
         1,
         c1,
-        row(2, c2, row(5, c5, row(6, c6, row(9, c9, row(13, c13, 0))))),
+        row(2, c2, row(5, !f.opened, row(6, !f.output, shape))),
     )
 }
 
@@ -43,8 +37,7 @@ fn put_refusal(c1: bool, f: File, w: u16, area: &[u64], words: &[u64]) -> u8
 fn fill(f: File, w: u16, area: &mut [u64], words: &[u64])
     ensures { area.new ≡ filled_area w f words.now area.old }
 {
-    let at = put_start(f, w);
-    area::copy_in(area, at, words);
+    area::copy_in(area, put_start(f, w), words);
 }
 
 // Put on one file, in an area with w words for each buffer: the refusal, or 0 and the words are there.
@@ -60,9 +53,8 @@ pub fn put_in(c1: bool, f: File, w: u16, area: &mut [u64], words: &[u64]) -> u8
     let g = added(f);
     if is_complete(g) {
         seal_block(g, w, area);
-        return 0;
     }
-    0
+    no
 }
 
 // The same with the file after it.
@@ -70,16 +62,5 @@ pub fn put_on(c1: bool, f: File, w: u16, area: &mut [u64], words: &[u64]) -> Fil
     ensures value { result ≡ put_on c1 f w area.old words.now }
     ensures area_after { area.new ≡ put_on_area c1 f w area.old words.now }
 {
-    let no = put_in(c1, f, w, area, words);
-    if no != 0 {
-        return FileChange {
-            refusal: no,
-            file: f,
-        };
-    }
-    let g = after_put(f);
-    FileChange {
-        refusal: 0,
-        file: g,
-    }
+    file_change(put_in(c1, f, w, area, words), f, after_put(f))
 }

@@ -4,7 +4,7 @@ ghost use Rattle.call_record.specs.Seal.{seal_refusal, seal_on, seal_on_area};
 
 use crate::blocks::{seal_block, sums_spoilt};
 use area::row;
-use file::{File, FileChange};
+use file::{File, FileChange, file_change};
 use file_output::{has_part, sealed};
 
 // The refusal of a seal of this file; c1 is what is known of row 1.
@@ -14,10 +14,15 @@ fn seal_refusal(c1: bool, f: File, w: u16, area: &[u64]) -> u8
     let part = has_part(f);
     let summed = f.opened & (f.output & (part & f.check));
     let c2 = sums_spoilt(summed, f, w, area);
-    let c5 = !f.opened;
-    let c6 = !f.output;
-    let c9 = !part;
-    row(1, c1, row(2, c2, row(5, c5, row(6, c6, row(9, c9, 0)))))
+    row(
+        1,
+        c1,
+        row(
+            2,
+            c2,
+            row(5, !f.opened, row(6, !f.output, row(9, !part, 0))),
+        ),
+    )
 }
 
 // Seal on one file, in an area with w words for each buffer: the refusal, or 0 and the block is sealed there.
@@ -26,11 +31,10 @@ pub fn seal_in_area(c1: bool, f: File, w: u16, area: &mut [u64]) -> u8
     ensures area_after { area.new ≡ seal_on_area c1 f w area.old }
 {
     let no = seal_refusal(c1, f, w, &area[..]);
-    if no != 0 {
-        return no;
+    if no == 0 {
+        seal_block(f, w, area);
     }
-    seal_block(f, w, area);
-    0
+    no
 }
 
 // The same with the file after it.
@@ -39,15 +43,6 @@ pub fn seal_on(c1: bool, f: File, w: u16, area: &mut [u64]) -> FileChange
     ensures area_after { area.new ≡ seal_on_area c1 f w area.old }
 {
     let no = seal_in_area(c1, f, w, area);
-    if no != 0 {
-        return FileChange {
-            refusal: no,
-            file: f,
-        };
-    }
-    let g = sealed(f);
-    FileChange {
-        refusal: 0,
-        file: g,
-    }
+    let after = sealed(f);
+    file_change(no, f, after)
 }

@@ -1,13 +1,13 @@
 -- Laws of how a block arrived: an error is told once, the read error before the check error; and what may stand with a block. Assumes nothing.
 use mathlib.Core.Path.{◌≡◌, refl, sym, ap, ◌∙◌}
-use mathlib.Core.Bool.{Bool, true, false, cond, ◌&&◌, ◌||◌}
+use mathlib.Core.Bool.{Bool, true, false, cond, ◌||◌}
 use Prim.Native.Nat.{ℕ}
 use lib.Dec.{eqb}
 use borrow.Author.Tests.{eqb-true, eq-eqb}
-use Rattle.area.proofs.Walks.{true_not_false, and_both, and_left, and_right, or_second, or_either}
+use Rattle.area.proofs.Walks.{true_not_false, and_both, and_left, and_right, or_second}
 use Rattle.area.proofs.Marks.{cond_true, cond_false}
 use Rattle.word.specs.declared.Checked.{Checked}
-use Rattle.word.specs.Checks.{unchecked, told_check, is_checked, is_exact, is_unchecked}
+use Rattle.word.specs.Checks.{unchecked, told_check, is_checked, is_exact}
 use Rattle.word.proofs.Laws.Checks.{told_none, told_fits, unchecked_fits, unchecked_is}
 use Rattle.file.specs.declared.Arrival.{Arrival}
 use Rattle.file.specs.Arrivals.{redundancy_error, incomplete_error, no_arrival, error_due, after_told, is_arrival, is_no_arrival}

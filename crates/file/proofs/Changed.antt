@@ -4,7 +4,6 @@ use mathlib.Core.Path.{◌≡◌}
 use Prim.Native.Nat.{ℕ}
 use borrow.Author.Tests.{eq-eqb, ne_eqb}
 use Rattle.file.specs.declared.File.{File}
-use Rattle.file.specs.declared.FileChange.{FileChange}
 use Rattle.file.specs.Changes.{file_change}
 
 pub file_refused : (n : ℕ) (f g : File) → n ≢ 0 → (file_change n f g).file ≡ f

@@ -4,12 +4,14 @@
 #![tactic(auto)]
 
 mod arrivals;
+mod changes;
 mod refills;
 mod sides;
 mod sizes;
 mod slots;
 
 pub use arrivals::{after_told, error_told, is_arrival, is_no_arrival, no_arrival};
+pub use changes::file_change;
 pub use refills::{emptied_at, filled_at, with_slot, without_oldest};
 pub use sides::{empty_side, is_side, oldest, part_side, slot_at, start_at, taken_side};
 pub use sizes::{buffers_for, closed_file, opened_file, sizes_fit};

@@ -11,28 +11,19 @@ use word::next_number;
 pub fn with_slot(f: File, k: Side, x: Slot, turned: bool, block: u16) -> File
     ensures { result ≡ with_slot f k x turned block }
 {
-    let mut g = f;
     match k {
-        Side::Low => {
-            let b = Buffer {
-                number: f.low.number,
-                slot: x,
-            };
-            g.low = b;
-            g.turned = turned;
-            g.block = block;
-            g
-        }
-        Side::High => {
-            let b = Buffer {
-                number: f.high.number,
-                slot: x,
-            };
-            g.high = b;
-            g.turned = turned;
-            g.block = block;
-            g
-        }
+        Side::Low => File {
+            low: Buffer { slot: x, ..f.low },
+            turned,
+            block,
+            ..f
+        },
+        Side::High => File {
+            high: Buffer { slot: x, ..f.high },
+            turned,
+            block,
+            ..f
+        },
         Side::Neither => f,
     }
 }
@@ -41,13 +32,9 @@ pub fn with_slot(f: File, k: Side, x: Slot, turned: bool, block: u16) -> File
 fn turned_by(f: File, k: Side) -> bool
     ensures { result ≡ turned_by f k }
 {
-    let high = f.high;
-    let y = high.slot;
-    let full = is_full(y);
     match k {
-        Side::Low => full,
-        Side::High => false,
-        Side::Neither => false,
+        Side::Low => is_full(f.high.slot),
+        Side::High | Side::Neither => false,
     }
 }
 
@@ -55,14 +42,13 @@ fn turned_by(f: File, k: Side) -> bool
 pub fn filled_at(f: File, k: Side, words: u16, arrival: Arrival) -> File
     ensures { result ≡ filled_at f k words arrival }
 {
-    let turned = turned_by(f, k);
-    let next = next_number(f.block);
     let x = Slot::Full {
-        words: words,
+        words,
         at: 0,
-        arrival: arrival,
+        arrival,
     };
-    with_slot(f, k, x, turned, next)
+    let next = next_number(f.block);
+    with_slot(f, k, x, turned_by(f, k), next)
 }
 
 // That buffer is empty.
@@ -76,6 +62,5 @@ pub fn emptied_at(f: File, k: Side) -> File
 pub fn without_oldest(f: File) -> File
     ensures { result ≡ without_oldest f }
 {
-    let k = oldest(f);
-    emptied_at(f, k)
+    emptied_at(f, oldest(f))
 }

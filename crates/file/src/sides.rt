@@ -23,26 +23,20 @@ pub fn buffer_at(f: File, k: Side) -> Buffer
 pub fn slot_at(f: File, k: Side) -> Slot
     ensures { result ≡ slot_at f k }
 {
-    let b = buffer_at(f, k);
-    b.slot
+    buffer_at(f, k).slot
 }
 
 // Where that buffer begins in an area with w words for each buffer.
 pub fn start_at(f: File, w: u16, k: Side) -> usize
     ensures { (result ≡ start_at f w k) × (result < 16777216) }
 {
-    let b = buffer_at(f, k);
-    (b.number as usize) * (w as usize)
+    (buffer_at(f, k).number as usize) * (w as usize)
 }
 
 pub fn is_side(k: Side) -> bool
     ensures { result ≡ is_side k }
 {
-    match k {
-        Side::Low => true,
-        Side::High => true,
-        Side::Neither => false,
-    }
+    matches!(k, Side::Low | Side::High)
 }
 
 // The lower of the buffers that pass a test, by whether each does.
@@ -62,50 +56,28 @@ fn lower_of(low: bool, high: bool) -> Side
 pub fn empty_side(f: File) -> Side
     ensures { result ≡ empty_side f }
 {
-    let low = f.low;
-    let high = f.high;
-    let x = low.slot;
-    let y = high.slot;
-    let a = is_empty(x);
-    let b = is_empty(y);
-    lower_of(a, f.double & b)
+    lower_of(is_empty(f.low.slot), f.double & is_empty(f.high.slot))
 }
 
 // The buffer that a read has taken.
 pub fn taken_side(f: File) -> Side
     ensures { result ≡ taken_side f }
 {
-    let low = f.low;
-    let high = f.high;
-    let x = low.slot;
-    let y = high.slot;
-    let a = is_taken(x);
-    let b = is_taken(y);
-    lower_of(a, b)
+    lower_of(is_taken(f.low.slot), is_taken(f.high.slot))
 }
 
 // The part-filled buffer.
 pub fn part_side(f: File) -> Side
     ensures { result ≡ part_side f }
 {
-    let low = f.low;
-    let high = f.high;
-    let x = low.slot;
-    let y = high.slot;
-    let a = is_part(x);
-    let b = is_part(y);
-    lower_of(a, b)
+    lower_of(is_part(f.low.slot), is_part(f.high.slot))
 }
 
 // The buffer with the oldest full block.
 pub fn oldest(f: File) -> Side
     ensures { result ≡ oldestOf f }
 {
-    let low = f.low;
-    let high = f.high;
-    let x = low.slot;
-    let y = high.slot;
-    let a = is_full(x);
-    let b = is_full(y);
-    lower_of(a & !(b & f.turned), b)
+    let low = is_full(f.low.slot);
+    let high = is_full(f.high.slot);
+    lower_of(low & !(high & f.turned), high)
 }

@@ -9,8 +9,7 @@ use word::extra;
 pub fn sizes_fit(w: u16, sequence: bool, check: bool, size: u16, rlen: u16) -> bool
     ensures { result ≡ sizes_fit w sequence check size rlen }
 {
-    let e = extra(sequence, check);
-    let whole = (size as u32) + (e as u32);
+    let whole = (size as u32) + (extra(sequence, check) as u32);
     (1 <= rlen) & ((rlen <= size) & (whole <= w as u32))
 }
 
@@ -18,17 +17,14 @@ pub fn sizes_fit(w: u16, sequence: bool, check: bool, size: u16, rlen: u16) -> b
 pub fn buffers_for(double: bool) -> usize
     ensures { result ≡ buffers_for double }
 {
-    if double {
-        return 2;
-    }
-    1
+    if double { 2 } else { 1 }
 }
 
 fn empty_buffer(number: u8) -> Buffer
     ensures { result ≡ empty_buffer number }
 {
     Buffer {
-        number: number,
+        number,
         slot: Slot::Empty,
     }
 }
@@ -37,19 +33,13 @@ fn empty_buffer(number: u8) -> Buffer
 fn second_number(double: bool, high: u8) -> u8
     ensures { result ≡ second_number double high }
 {
-    if double {
-        return high;
-    }
-    0
+    if double { high } else { 0 }
 }
 
 // The file as it is opened, with these buffers, the lower number first. A single file has the first alone.
 pub fn opened_file(q: Wish, low: u8, high: u8) -> File
     ensures { result ≡ opened_file q low high }
 {
-    let second = second_number(q.double, high);
-    let a = empty_buffer(low);
-    let b = empty_buffer(second);
     File {
         opened: true,
         channel: q.channel,
@@ -60,8 +50,8 @@ pub fn opened_file(q: Wish, low: u8, high: u8) -> File
         check: q.check,
         size: q.size,
         rlen: q.rlen,
-        low: a,
-        high: b,
+        low: empty_buffer(low),
+        high: empty_buffer(second_number(q.double, high)),
         turned: false,
         block: 1,
         marked: false,
@@ -72,7 +62,6 @@ pub fn opened_file(q: Wish, low: u8, high: u8) -> File
 pub fn closed_file() -> File
     ensures { result ≡ closed_file }
 {
-    let b = empty_buffer(0);
     File {
         opened: false,
         channel: 0,
@@ -83,8 +72,8 @@ pub fn closed_file() -> File
         check: false,
         size: 0,
         rlen: 0,
-        low: b,
-        high: b,
+        low: empty_buffer(0),
+        high: empty_buffer(0),
         turned: false,
         block: 0,
         marked: false,

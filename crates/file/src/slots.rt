@@ -1,60 +1,36 @@
 // What a slot is, and the numbers in it; 0 where it has none.
 ghost use Rattle.std.specs.Prelude.{◌≡◌};
-ghost use Rattle.file.specs.Slots.{slot_kind, is_empty, is_taken, is_part, is_full, part_words, full_words, full_place, full_arrival, full_error};
+ghost use Rattle.file.specs.Slots.{is_empty, is_taken, is_part, is_full, part_words, full_words, full_place, full_arrival, full_error};
 
 use crate::arrivals::{error_due, no_arrival};
 use crate::{Arrival, Slot};
-
-// What a slot is, as a number.
-const EMPTY: u8 = 0;
-
-const TAKEN: u8 = 1;
-
-const PART: u8 = 2;
-
-const FULL: u8 = 3;
-
-fn kind(x: Slot) -> u8
-    ensures { result ≡ slot_kind x }
-{
-    match x {
-        Slot::Empty => EMPTY,
-        Slot::Taken => TAKEN,
-        Slot::Part(_) => PART,
-        Slot::Full {
-            words: _,
-            at: _,
-            arrival: _,
-        } => FULL,
-    }
-}
 
 // Whether a buffer is empty.
 pub fn is_empty(x: Slot) -> bool
     ensures { result ≡ is_empty x }
 {
-    kind(x) == EMPTY
+    matches!(x, Slot::Empty)
 }
 
 // Whether a read has taken it.
 pub fn is_taken(x: Slot) -> bool
     ensures { result ≡ is_taken x }
 {
-    kind(x) == TAKEN
+    matches!(x, Slot::Taken)
 }
 
 // Whether it is part-filled.
 pub fn is_part(x: Slot) -> bool
     ensures { result ≡ is_part x }
 {
-    kind(x) == PART
+    matches!(x, Slot::Part(_))
 }
 
 // Whether it holds a full block.
 pub fn is_full(x: Slot) -> bool
     ensures { result ≡ is_full x }
 {
-    kind(x) == FULL
+    matches!(x, Slot::Full { .. })
 }
 
 // The words of a part-filled buffer.
@@ -62,14 +38,8 @@ pub fn part_words(x: Slot) -> u16
     ensures { result ≡ part_words x }
 {
     match x {
-        Slot::Empty => 0,
-        Slot::Taken => 0,
         Slot::Part(n) => n,
-        Slot::Full {
-            words: _,
-            at: _,
-            arrival: _,
-        } => 0,
+        _ => 0,
     }
 }
 
@@ -78,14 +48,8 @@ pub fn full_words(x: Slot) -> u16
     ensures { result ≡ full_words x }
 {
     match x {
-        Slot::Empty => 0,
-        Slot::Taken => 0,
-        Slot::Part(_) => 0,
-        Slot::Full {
-            words,
-            at: _,
-            arrival: _,
-        } => words,
+        Slot::Full { words, .. } => words,
+        _ => 0,
     }
 }
 
@@ -94,14 +58,8 @@ pub fn full_place(x: Slot) -> u16
     ensures { result ≡ full_place x }
 {
     match x {
-        Slot::Empty => 0,
-        Slot::Taken => 0,
-        Slot::Part(_) => 0,
-        Slot::Full {
-            words: _,
-            at,
-            arrival: _,
-        } => at,
+        Slot::Full { at, .. } => at,
+        _ => 0,
     }
 }
 
@@ -110,14 +68,8 @@ pub fn full_arrival(x: Slot) -> Arrival
     ensures { result ≡ full_arrival x }
 {
     match x {
-        Slot::Empty => no_arrival(),
-        Slot::Taken => no_arrival(),
-        Slot::Part(_) => no_arrival(),
-        Slot::Full {
-            words: _,
-            at: _,
-            arrival,
-        } => arrival,
+        Slot::Full { arrival, .. } => arrival,
+        _ => no_arrival(),
     }
 }
 
@@ -125,6 +77,5 @@ pub fn full_arrival(x: Slot) -> Arrival
 pub fn full_error(x: Slot) -> u8
     ensures { result ≡ full_error x }
 {
-    let a = full_arrival(x);
-    error_due(a)
+    error_due(full_arrival(x))
 }

@@ -13,24 +13,21 @@ use word::extra;
 pub fn has_empty(f: File) -> bool
     ensures { result ≡ has_empty f }
 {
-    let empty = empty_side(f);
-    is_side(empty)
+    is_side(empty_side(f))
 }
 
 // The file after an accepted read: its lowest empty buffer is taken.
 pub fn took_buffer(f: File) -> File
     ensures { result ≡ took_buffer f }
 {
-    let k = empty_side(f);
-    with_slot(f, k, Slot::Taken, false, f.block)
+    with_slot(f, empty_side(f), Slot::Taken, false, f.block)
 }
 
 // Where the taken buffer begins in an area with w words for each buffer.
 pub fn taken_start(f: File, w: u16) -> usize
     ensures { (result ≡ start_at f w (taken_side f)) × (result < 16777216) }
 {
-    let k = taken_side(f);
-    start_at(f, w, k)
+    start_at(f, w, taken_side(f))
 }
 
 // Whether a delivered block may have n words, its check word among them.
@@ -40,38 +37,36 @@ pub fn block_fits(f: File, n: usize) -> bool
     let e = extra(f.sequence, f.check) as usize;
     let least = 1 + e;
     let most = (f.size as usize) + e;
-    (least <= n) & (n <= most)
+    (least..=most).contains(&n)
 }
 
 // The file after a good end, or a permanent error with words: the taken buffer has a full block of this many data words, that arrived so.
 pub fn delivered(f: File, words: u16, arrival: Arrival) -> File
     ensures { result ≡ deliveredTo f words arrival }
 {
-    let k = taken_side(f);
-    filled_at(f, k, words, arrival)
+    filled_at(f, taken_side(f), words, arrival)
 }
 
 // The file after a read's permanent error without words: the taken buffer is empty.
 pub fn gave_back(f: File) -> File
     ensures { result ≡ gave_back f }
 {
-    let k = taken_side(f);
-    emptied_at(f, k)
+    emptied_at(f, taken_side(f))
 }
 
 // The file after a read that met a file mark: the taken buffer is empty, and the mark is kept in mind.
 pub fn met_mark(f: File) -> File
     ensures { result ≡ met_mark f }
 {
-    let mut g = gave_back(f);
-    g.marked = true;
-    g
+    File {
+        marked: true,
+        ..gave_back(f)
+    }
 }
 
 // Whether there is a full buffer, which a skip and a write need.
 pub fn has_full(f: File) -> bool
     ensures { result ≡ has_full f }
 {
-    let full = oldest(f);
-    is_side(full)
+    is_side(oldest(f))
 }

@@ -12,37 +12,21 @@ use file::{
 fn words_left(x: Slot) -> u16
     ensures { result ≡ words_left x }
 {
-    let n = full_words(x);
-    let at = full_place(x);
-    if n < at {
-        return 0;
-    }
-    n - at
+    full_words(x).saturating_sub(full_place(x))
 }
 
 // Whether nothing remains of a full block.
 fn is_used_up(x: Slot) -> bool
     ensures { result ≡ is_used_up x }
 {
-    match x {
-        Slot::Empty => false,
-        Slot::Taken => false,
-        Slot::Part(_) => false,
-        Slot::Full {
-            words,
-            at,
-            arrival: _,
-        } => words <= at,
-    }
+    matches!(x, Slot::Full { words, at, .. } if words <= at)
 }
 
 // The file without its oldest block where an earlier get used that up.
 fn passed(f: File) -> File
     ensures { result ≡ passedOf f }
 {
-    let k = oldest(f);
-    let x = slot_at(f, k);
-    if is_used_up(x) {
+    if is_used_up(slot_at(f, oldest(f))) {
         return without_oldest(f);
     }
     f
@@ -52,37 +36,30 @@ fn passed(f: File) -> File
 fn looked_at(f: File) -> File
     ensures { result ≡ looked_at f }
 {
-    let g = passed(f);
-    passed(g)
+    passed(passed(f))
 }
 
 // How many words of a block get gives: r, or what is left; none while an error is to be told.
 fn words_given(rlen: u16, x: Slot) -> u16
     ensures { (result ≡ words_given rlen x) × (result ≤ words_left x) }
 {
-    let error = full_error(x);
-    let left = words_left(x);
-    if 0 < error {
+    if full_error(x) != 0 {
         return 0;
     }
-    if rlen <= left {
-        return rlen;
-    }
-    left
+    rlen.min(words_left(x))
 }
 
 // The block after it: the words are given, or the error is told, the read error before the check error. What was found stays with it.
 fn slot_after(rlen: u16, x: Slot) -> Slot
     ensures { result ≡ slot_after rlen x }
 {
-    let arrival = full_arrival(x);
     let n = full_words(x);
     let at = full_place(x);
     let given = words_given(rlen, x);
     Slot::Full {
         words: n,
         at: at + given,
-        arrival: after_told(arrival),
+        arrival: after_told(full_arrival(x)),
     }
 }
 
@@ -91,21 +68,19 @@ fn found_in(start: usize, rlen: u16, x: Slot) -> Got
     requires { start < 16777216 }
     ensures { result ≡ found_in start rlen x }
 {
-    let arrival = full_arrival(x);
-    let error = full_error(x);
-    let left = words_left(x);
-    let at = full_place(x);
-    if 0 < error {
-        return Got::Error(error_told(arrival));
+    if full_error(x) != 0 {
+        return Got::Error(error_told(full_arrival(x)));
     }
+    let left = words_left(x);
+    let start = start + full_place(x) as usize;
     if rlen <= left {
         return Got::Record {
-            start: start + at as usize,
+            start,
             words: rlen as usize,
         };
     }
     Got::Leftover {
-        start: start + at as usize,
+        start,
         words: left as usize,
     }
 }
@@ -114,10 +89,7 @@ fn found_in(start: usize, rlen: u16, x: Slot) -> Got
 fn found_none(marked: bool) -> Got
     ensures { result ≡ found_none marked }
 {
-    if marked {
-        return Got::End;
-    }
-    Got::Nothing
+    if marked { Got::End } else { Got::Nothing }
 }
 
 // What get finds in a file in which it looks.
@@ -125,10 +97,8 @@ fn found(f: File, w: u16) -> Got
     ensures { result ≡ foundOf w f }
 {
     let k = oldest(f);
-    let x = slot_at(f, k);
-    let start = start_at(f, w, k);
     if is_side(k) {
-        return found_in(start, f.rlen, x);
+        return found_in(start_at(f, w, k), f.rlen, slot_at(f, k));
     }
     found_none(f.marked)
 }
@@ -138,8 +108,7 @@ fn after_found(f: File) -> File
     ensures { result ≡ after_found f }
 {
     let k = oldest(f);
-    let x = slot_at(f, k);
-    let y = slot_after(f.rlen, x);
+    let y = slot_after(f.rlen, slot_at(f, k));
     with_slot(f, k, y, f.turned, f.block)
 }
 
@@ -147,8 +116,7 @@ fn after_found(f: File) -> File
 pub fn after_get(f: File) -> File
     ensures { result ≡ after_get f }
 {
-    let g = looked_at(f);
-    after_found(g)
+    after_found(looked_at(f))
 }
 
 // Get: what it finds, and the file after it, in an area with w words for each buffer.
@@ -156,10 +124,8 @@ pub fn get(f: File, w: u16) -> Finding
     ensures { result ≡ get_from w f }
 {
     let g = looked_at(f);
-    let got = found(g, w);
-    let file = after_found(g);
     Finding {
-        got: got,
-        file: file,
+        got: found(g, w),
+        file: after_found(g),
     }
 }

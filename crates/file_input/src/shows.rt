@@ -10,8 +10,8 @@ pub fn got_number(g: Got) -> u8
     ensures { result ≡ got_number g }
 {
     match g {
-        Got::Record { start: _, words: _ } => 0,
-        Got::Leftover { start: _, words: _ } => 4,
+        Got::Record { .. } => 0,
+        Got::Leftover { .. } => 4,
         Got::Error(_) => 3,
         Got::End => 2,
         Got::Nothing => 1,
@@ -23,11 +23,8 @@ pub fn got_found(g: Got) -> Checked
     ensures { result ≡ got_found g }
 {
     match g {
-        Got::Record { start: _, words: _ } => not_checked(),
-        Got::Leftover { start: _, words: _ } => not_checked(),
         Got::Error(found) => found,
-        Got::End => not_checked(),
-        Got::Nothing => not_checked(),
+        _ => not_checked(),
     }
 }
 
@@ -36,11 +33,8 @@ pub fn got_start(g: Got) -> usize
     ensures { result ≡ got_start g }
 {
     match g {
-        Got::Record { start, words: _ } => start,
-        Got::Leftover { start, words: _ } => start,
-        Got::Error(_) => 0,
-        Got::End => 0,
-        Got::Nothing => 0,
+        Got::Record { start, .. } | Got::Leftover { start, .. } => start,
+        _ => 0,
     }
 }
 
@@ -49,10 +43,7 @@ pub fn got_count(g: Got) -> usize
     ensures { result ≡ got_words g }
 {
     match g {
-        Got::Record { start: _, words } => words,
-        Got::Leftover { start: _, words } => words,
-        Got::Error(_) => 0,
-        Got::End => 0,
-        Got::Nothing => 0,
+        Got::Record { words, .. } | Got::Leftover { words, .. } => words,
+        _ => 0,
     }
 }

@@ -8,33 +8,28 @@ use file::{File, filled_at, is_side, no_arrival, part_side, part_words, slot_at,
 pub fn has_part(f: File) -> bool
     ensures { result ≡ has_part f }
 {
-    let part = part_side(f);
-    is_side(part)
+    is_side(part_side(f))
 }
 
 // Where the part-filled block begins in an area with w words for each buffer.
 pub fn part_start(f: File, w: u16) -> usize
     ensures { (result ≡ part_start w f) × (result < 16777216) }
 {
-    let k = part_side(f);
-    start_at(f, w, k)
+    start_at(f, w, part_side(f))
 }
 
 // How many words the part-filled block has.
 pub fn part_length(f: File) -> u16
     ensures { result ≡ part_length f }
 {
-    let k = part_side(f);
-    let held = slot_at(f, k);
-    part_words(held)
+    part_words(slot_at(f, part_side(f)))
 }
 
 // Whether less than r remains of B in the part-filled block, so that it is sealed at once.
 pub fn is_complete(f: File) -> bool
     ensures { result ≡ is_complete f }
 {
-    let n = part_length(f);
-    let next = (n as u32) + (f.rlen as u32);
+    let next = (part_length(f) as u32) + (f.rlen as u32);
     (f.size as u32) < next
 }
 
@@ -42,8 +37,6 @@ pub fn is_complete(f: File) -> bool
 pub fn sealed(f: File) -> File
     ensures { result ≡ sealedOf f }
 {
-    let k = part_side(f);
-    let n = part_length(f);
-    let none = no_arrival();
-    filled_at(f, k, n, none)
+    let words = part_length(f);
+    filled_at(f, part_side(f), words, no_arrival())
 }

@@ -22,8 +22,7 @@ fn put_side(f: File) -> Side
 pub fn has_room(f: File) -> bool
     ensures { result ≡ has_room f }
 {
-    let room = put_side(f);
-    is_side(room)
+    is_side(put_side(f))
 }
 
 // Where in an area with w words for each buffer the words of a put go.
@@ -31,10 +30,7 @@ pub fn put_start(f: File, w: u16) -> usize
     ensures { (result ≡ put_start w f) × (result < 16842752) }
 {
     let k = put_side(f);
-    let x = slot_at(f, k);
-    let start = start_at(f, w, k);
-    let n = part_words(x);
-    start + n as usize
+    start_at(f, w, k) + part_words(slot_at(f, k)) as usize
 }
 
 // The file with the r words of a put added. Words that would go past B are not.
@@ -42,11 +38,9 @@ pub fn added(f: File) -> File
     ensures { result ≡ addedTo f }
 {
     let k = put_side(f);
-    let x = slot_at(f, k);
-    let n = part_words(x);
+    let n = part_words(slot_at(f, k));
     if (n as u32) + (f.rlen as u32) <= f.size as u32 {
-        let y = Slot::Part(n + f.rlen);
-        return with_slot(f, k, y, false, f.block);
+        return with_slot(f, k, Slot::Part(n + f.rlen), false, f.block);
     }
     f
 }

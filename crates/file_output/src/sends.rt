@@ -1,25 +1,23 @@
 // Output: what a write sends, what its end does to the file, and whether anything is left to send.
-ghost use Rattle.std.specs.Prelude.{◌≡◌, ◌<◌};
+ghost use Rattle.std.specs.Prelude.{◌≡◌, ◌<◌, ◌||◌};
+ghost use Rattle.file.specs.Slots.{is_part, is_full};
 ghost use Rattle.file_output.specs.Sends.{send_start, send_words, after_write, has_unsent};
 
-use file::{File, full_words, is_full, is_part, oldest, slot_at, start_at, without_oldest};
+use file::{File, Slot, full_words, oldest, slot_at, start_at, without_oldest};
 use word::extra;
 
 // Where the block that a write sends begins in an area with w words for each buffer.
 pub fn send_start(f: File, w: u16) -> usize
     ensures { (result ≡ send_start w f) × (result < 16777216) }
 {
-    let k = oldest(f);
-    start_at(f, w, k)
+    start_at(f, w, oldest(f))
 }
 
 // How many words a write sends, check word included.
 pub fn send_words(f: File) -> usize
     ensures { (result ≡ send_words f) × (result < 65537) }
 {
-    let k = oldest(f);
-    let x = slot_at(f, k);
-    let n = full_words(x);
+    let n = full_words(slot_at(f, oldest(f)));
     let e = extra(f.sequence, f.check);
     (n as usize) + (e as usize)
 }
@@ -34,17 +32,16 @@ pub fn after_write(f: File, sent: bool) -> File
     f
 }
 
+// Whether a buffer has words that were not sent.
+fn is_unsent(x: Slot) -> bool
+    ensures { result ≡ (is_part x || is_full x) }
+{
+    matches!(x, Slot::Part(_) | Slot::Full { .. })
+}
+
 // Whether an output file has a part-filled or full buffer.
 pub fn has_unsent(f: File) -> bool
     ensures { result ≡ has_unsent f }
 {
-    let low = f.low;
-    let high = f.high;
-    let x = low.slot;
-    let y = high.slot;
-    let a = is_part(x);
-    let b = is_full(x);
-    let c = is_part(y);
-    let d = is_full(y);
-    f.output & ((a | b) | (c | d))
+    f.output & (is_unsent(f.low.slot) | is_unsent(f.high.slot))
 }

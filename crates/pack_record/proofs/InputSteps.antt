@@ -20,7 +20,7 @@ use Rattle.call_record.specs.Get.{get_on}
 use Rattle.pack_record.specs.Gets.{get_change, get_by, get_words}
 use Rattle.call_record.specs.Skip.{skip_on}
 use Rattle.pack_record.specs.Skips.{skip_misused, skip_change, skip_by}
-use Rattle.state.proofs.Answered.{stores_refused, stores_accepted}
+use Rattle.state.specs.Answers.{called}
 
 -- ---- the change stored in the state, where the call is not refused
 
@@ -56,10 +56,6 @@ module _ (s : State) (file : ℕ) (wrong : Bool) (f : File) (ew : wrong ≡ skip
   skip_is : x ≡ skip_change s file
   skip_is = ex ∙ ap₂ skip_on ew ef
 
-  pub skip_state_kept : (x.refusal ≡ 0 → ⊥) → record { refusal = x.refusal; state = s } ≡ skip_by s file
+  pub skip_state : called x.refusal s (with_file s file x.file) ≡ skip_by s file
   unfolding skip_by
-  skip_state_kept h = stores_refused x (skip_change s file) s file skip_is h
-
-  pub skip_state : x.refusal ≡ 0 → (t : State) → t ≡ with_file s file x.file → record { refusal = 0; state = t } ≡ skip_by s file
-  unfolding skip_by
-  skip_state z t et = stores_accepted x (skip_change s file) s file skip_is t z et
+  skip_state = ap (λ (y : FileChange). called y.refusal s (with_file s file y.file)) skip_is

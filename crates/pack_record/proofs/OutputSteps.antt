@@ -1,5 +1,5 @@
 -- What each call does, step by step as its code goes, comes to its definition. Assumes nothing.
-use mathlib.Core.Path.{◌≡◌, ap₂, ◌∙◌}
+use mathlib.Core.Path.{◌≡◌, ap, ap₂, ◌∙◌}
 use mathlib.Core.Bool.{Bool, not}
 use mathlib.Core.List.{List}
 use Prim.Native.Nat.{ℕ}
@@ -14,7 +14,7 @@ use Rattle.call_record.specs.Put.{put_on, put_on_area}
 use Rattle.pack_record.specs.Puts.{put_change, put_by, put_by_area}
 use Rattle.call_record.specs.Seal.{seal_on, seal_on_area}
 use Rattle.pack_record.specs.Seals.{seal_change, seal_by, seal_by_area}
-use Rattle.state.proofs.Answered.{stores_refused, stores_accepted}
+use Rattle.state.specs.Answers.{called}
 
 -- ---- the change stored in the state, where the call is not refused
 
@@ -27,13 +27,9 @@ module _ (s : State) (area : List ℕ) (file : ℕ) (wrong : Bool) (f : File) (e
     unfolding put_by_area
     put_area_lem zs ez = ez ∙ ap₂ (λ (c : Bool) (g : File). put_on_area c g s.w area words) ew ef
 
-    pub put_state_kept : (x.refusal ≡ 0 → ⊥) → record { refusal = x.refusal; state = s } ≡ put_by s area file words
+    pub put_state : called x.refusal s (with_file s file x.file) ≡ put_by s area file words
     unfolding put_by
-    put_state_kept h = stores_refused x (put_change s area file words) s file put_is h
-
-    pub put_state : x.refusal ≡ 0 → (t : State) → t ≡ with_file s file x.file → record { refusal = 0; state = t } ≡ put_by s area file words
-    unfolding put_by
-    put_state z t et = stores_accepted x (put_change s area file words) s file put_is t z et
+    put_state = ap (λ (y : FileChange). called y.refusal s (with_file s file y.file)) put_is
 
   module _ (x : FileChange) (ex : x ≡ seal_on wrong f s.w area) where
     seal_is : x ≡ seal_change s area file
@@ -43,10 +39,6 @@ module _ (s : State) (area : List ℕ) (file : ℕ) (wrong : Bool) (f : File) (e
     unfolding seal_by_area
     seal_area zs ez = ez ∙ ap₂ (λ (c : Bool) (g : File). seal_on_area c g s.w area) ew ef
 
-    pub seal_state_kept : (x.refusal ≡ 0 → ⊥) → record { refusal = x.refusal; state = s } ≡ seal_by s area file
+    pub seal_state : called x.refusal s (with_file s file x.file) ≡ seal_by s area file
     unfolding seal_by
-    seal_state_kept h = stores_refused x (seal_change s area file) s file seal_is h
-
-    pub seal_state : x.refusal ≡ 0 → (t : State) → t ≡ with_file s file x.file → record { refusal = 0; state = t } ≡ seal_by s area file
-    unfolding seal_by
-    seal_state z t et = stores_accepted x (seal_change s area file) s file seal_is t z et
+    seal_state = ap (λ (y : FileChange). called y.refusal s (with_file s file y.file)) seal_is

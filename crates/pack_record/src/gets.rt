@@ -14,30 +14,26 @@ pub fn get(s: State, area: &[u64], file: u8) -> Getting
     let c1 = is_misused(s, area.len(), file);
     let f = file_at(s, file as usize);
     let x = get_on(c1, f, s.w, area);
-    let g = x.got;
     if x.refusal != 0 {
         return Getting {
             refusal: x.refusal,
-            got: g,
+            got: x.got,
             state: s,
         };
     }
-    let after = x.file;
-    let t = with_file(s, file as usize, after);
+    let t = with_file(s, file as usize, x.file);
     Getting {
         refusal: 0,
-        got: g,
+        got: x.got,
         state: t,
     }
 }
 
 // The words that get shows, in one call; none if it is refused.
-pub fn get_words<'a>(s: State, area: &'a [u64], file: u8) -> &'a [u64]
+pub fn get_words(s: State, area: &[u64], file: u8) -> &[u64]
     ensures { result.now ≡ get_words s area.now file }
 {
     let wrong = is_misused(s, area.len(), file);
     let f = file_at(s, file as usize);
-    let x = get_on(wrong, f, s.w, area);
-    let g = x.got;
-    got_words(area, g)
+    got_words(area, get_on(wrong, f, s.w, area).got)
 }

@@ -10,7 +10,5 @@ use state_sound::is_sound;
 pub fn is_misused(s: State, n: usize, file: u8) -> bool
     ensures { result ≡ misused s n file }
 {
-    let short = area_short(s, n);
-    let whole = is_sound(s);
-    (FILES <= file as usize) | (short | !whole)
+    (FILES <= file as usize) | (area_short(s, n) | !is_sound(s))
 }

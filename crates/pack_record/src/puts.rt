@@ -4,7 +4,7 @@ ghost use Rattle.pack_record.specs.Puts.{put_by, put_by_area};
 
 use crate::misuse::is_misused;
 use call_record::put_on;
-use state::{Called, State, file_at, with_file};
+use state::{Called, State, answer_of, file_at};
 
 // Put: the words into the file's part of the area, and the state after it.
 pub fn put(s: State, area: &mut [u64], file: u8, words: &[u64]) -> Called
@@ -14,16 +14,5 @@ pub fn put(s: State, area: &mut [u64], file: u8, words: &[u64]) -> Called
     let c1 = is_misused(s, area.len(), file);
     let f = file_at(s, file as usize);
     let x = put_on(c1, f, s.w, area, words);
-    if x.refusal != 0 {
-        return Called {
-            refusal: x.refusal,
-            state: s,
-        };
-    }
-    let after = x.file;
-    let t = with_file(s, file as usize, after);
-    Called {
-        refusal: 0,
-        state: t,
-    }
+    answer_of(s, file, x)
 }

@@ -4,7 +4,7 @@ ghost use Rattle.pack_record.specs.Seals.{seal_by, seal_by_area};
 
 use crate::misuse::is_misused;
 use call_record::seal_on;
-use state::{Called, State, file_at, with_file};
+use state::{Called, State, answer_of, file_at};
 
 // Seal: the check word into the file's part of the area, and the state after it.
 pub fn seal(s: State, area: &mut [u64], file: u8) -> Called
@@ -14,16 +14,5 @@ pub fn seal(s: State, area: &mut [u64], file: u8) -> Called
     let c1 = is_misused(s, area.len(), file);
     let f = file_at(s, file as usize);
     let x = seal_on(c1, f, s.w, area);
-    if x.refusal != 0 {
-        return Called {
-            refusal: x.refusal,
-            state: s,
-        };
-    }
-    let after = x.file;
-    let t = with_file(s, file as usize, after);
-    Called {
-        refusal: 0,
-        state: t,
-    }
+    answer_of(s, file, x)
 }

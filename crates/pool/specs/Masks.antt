@@ -1,6 +1,6 @@
 -- The free buffers as bits (document 02, M-104): "Keep the free ones as one bit each and find the lowest, and the count of free ones, from the
 -- bits." Assumes nothing.
-use Rattle.std.specs.Prelude.{ℕ, suc, ◌+◌, ◌-◌, Bool, not, cond, ◌&&◌, ◌||◌, List, ltb}
+use Rattle.std.specs.Prelude.{ℕ, suc, ◌+◌, ◌-◌, not, cond, ◌&&◌, ◌||◌, List, ltb}
 use Rattle.area.specs.Lists.{first_along, count_along, number_or}
 use Rattle.area.specs.Masks.{bit_at, mask_of}
 use Rattle.file.specs.declared.File.{File}

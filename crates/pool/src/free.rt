@@ -9,15 +9,14 @@ use file::File;
 pub fn pool_fits(m: u8, w: u16) -> bool
     ensures { result ≡ pool_fits m w }
 {
-    ((1 <= m) & (m <= BUFFERS)) & ((1 <= w) & (w <= WORDS))
+    (1..=BUFFERS).contains(&m) & (1..=WORDS).contains(&w)
 }
 
 // Whether m and w are those of a pool, or of none.
 pub fn pool_sound(m: u8, w: u16) -> bool
     ensures { result ≡ pool_sound m w }
 {
-    let fits = pool_fits(m, w);
-    fits | ((m == 0) & (w == 0))
+    pool_fits(m, w) | ((m == 0) & (w == 0))
 }
 
 // Whether the file is open and holds buffer b.

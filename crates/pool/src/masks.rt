@@ -46,11 +46,8 @@ fn all_held(files: [File; FILES]) -> u32
     ensures { result ≡ mask_of (is_held files) buffer_limit }
 {
     let mut held: u32 = 0;
-    let mut i: usize = 0;
-    while i < FILES {
-        let f = files[i];
-        held |= held_bits(f);
-        i += 1;
+    for file in &files {
+        held |= held_bits(*file);
     }
     held
 }
@@ -59,19 +56,17 @@ fn all_held(files: [File; FILES]) -> u32
 pub fn free_mask(m: u8, files: [File; FILES]) -> u32
     ensures { result ≡ free_mask m files }
 {
-    let all = all_free(m);
-    let held = all_held(files);
-    all & !held
+    all_free(m) & !all_held(files)
 }
 
 // How many bits of a mask are set, and the two lowest.
 pub fn free_in(mask: u32) -> FreeBuffers
     ensures { result ≡ free_in mask }
 {
-    let low = u32::trailing_zeros(mask) as u8;
+    let low = mask.trailing_zeros() as u8;
     let rest = mask & !bit_of(low);
-    let high = u32::trailing_zeros(rest) as u8;
-    let count = u32::count_ones(mask) as usize;
+    let high = rest.trailing_zeros() as u8;
+    let count = mask.count_ones() as usize;
     FreeBuffers { count, low, high }
 }
 
@@ -79,14 +74,9 @@ pub fn free_in(mask: u32) -> FreeBuffers
 pub fn free_after(mask: u32, f: File, g: File) -> u32
     ensures { result ≡ free_after mask f g }
 {
-    if f.opened {
-        if g.opened {
-            return mask;
-        }
-        return mask | held_bits(f);
+    match (f.opened, g.opened) {
+        (false, true) => mask & !held_bits(g),
+        (true, false) => mask | held_bits(f),
+        _ => mask,
     }
-    if g.opened {
-        return mask & !held_bits(g);
-    }
-    mask
 }

@@ -17,13 +17,10 @@ pub fn serves(f: File, channel: u8, unit: u8) -> bool
 pub fn serving_file(files: [File; FILES], channel: u8, unit: u8) -> Found
     ensures { result ≡ serving_file files channel unit }
 {
-    let mut i: usize = 0;
-    while i < FILES {
-        let f = files[i];
-        if serves(f, channel, unit) {
+    for i in 0..FILES {
+        if serves(files[i], channel, unit) {
             return Found::At(i);
         }
-        i += 1;
     }
     Found::Nothing
 }
@@ -42,6 +39,5 @@ pub fn file_of(files: [File; FILES], channel: u8, unit: u8) -> usize
 pub fn is_bound(files: [File; FILES], channel: u8, unit: u8) -> bool
     ensures { result ≡ is_bound files channel unit }
 {
-    let x = serving_file(files, channel, unit);
-    is_found(x)
+    is_found(serving_file(files, channel, unit))
 }

@@ -1,13 +1,11 @@
 -- Laws of the answers: a refused call gives back what was passed, an accepted one what it makes. Assumes nothing.
 use mathlib.Core.Logic.{◌≢◌}
 use mathlib.Core.Path.{◌≡◌, refl, sym, ap, ◌∙◌}
-use mathlib.Core.Bool.{Bool, true, false, not, cond}
+use mathlib.Core.Bool.{Bool, true, false, not}
 use Prim.Native.Nat.{ℕ}
-use lib.Dec.{eqb}
 use borrow.Author.Tests.{eq-eqb, ne_eqb}
 use Rattle.state.specs.declared.State.{State}
 use Rattle.state.specs.Stores.{with_file}
-use Rattle.state.specs.declared.Called.{Called}
 use Rattle.file.specs.declared.FileChange.{FileChange}
 use Rattle.state.specs.Answers.{called}
 

@@ -2,9 +2,11 @@
 // a channel or the routines are looked up or replaced. When a state is sound stands in `state_sound`. It knows nothing of what a call does.
 #![tactic(auto)]
 
+mod answers;
 mod places;
 mod stores;
 
+pub use answers::answer_of;
 pub use channel::CHANNELS;
 use channel::Channel;
 use file::File;

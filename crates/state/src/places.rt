@@ -12,19 +12,14 @@ use routines::no_routines;
 pub fn before_start() -> State
     ensures { result ≡ before_start }
 {
-    let c = fresh(0);
-    let f = closed_file();
-    let routines = no_routines();
-    let channels = [c; CHANNELS];
-    let files = [f; FILES];
     State {
         m: 0,
         w: 0,
         frozen: false,
-        channels,
-        files,
+        channels: [fresh(0); CHANNELS],
+        files: [closed_file(); FILES],
         free: 0,
-        routines,
+        routines: no_routines(),
     }
 }
 
@@ -32,32 +27,32 @@ pub fn before_start() -> State
 pub fn file_at(s: State, i: usize) -> File
     ensures { result ≡ file_at s i }
 {
-    if FILES <= i {
-        return closed_file();
+    match s.files.get(i) {
+        Some(file) => *file,
+        None => closed_file(),
     }
-    let f = s.files[i];
-    f
 }
 
 // The channel of that number, one without units past the last.
+fn channel_of(channels: &[Channel; CHANNELS], c: usize) -> Channel
+    ensures { result ≡ channel_in channels.now c }
+{
+    match channels.get(c) {
+        Some(channel) => *channel,
+        None => fresh(0),
+    }
+}
+
 pub fn channel_in(channels: [Channel; CHANNELS], c: usize) -> Channel
     ensures { result ≡ channel_in channels c }
 {
-    if CHANNELS <= c {
-        return fresh(0);
-    }
-    let x = channels[c];
-    x
+    channel_of(&channels, c)
 }
 
 pub fn channel_at(s: State, c: usize) -> Channel
     ensures { result ≡ channel_at s c }
 {
-    if CHANNELS <= c {
-        return fresh(0);
-    }
-    let x = s.channels[c];
-    x
+    channel_of(&s.channels, c)
 }
 
 // Whether an area of n words is too short for the pool.

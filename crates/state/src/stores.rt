@@ -10,37 +10,31 @@ use routines::Routines;
 
 // The state with another file in the place of that number, unchanged past the last. A file that is opened takes its buffers from the free ones,
 // one that is closed gives them back.
-pub fn with_file(s: State, i: usize, f: File) -> State
+pub fn with_file(mut s: State, i: usize, f: File) -> State
     ensures { result ≡ with_file s i f }
 {
     if FILES <= i {
         return s;
     }
-    let old = s.files[i];
-    let free = free_after(s.free, old, f);
-    let mut t = s;
-    t.files[i] = f;
-    t.free = free;
-    t
+    s.free = free_after(s.free, s.files[i], f);
+    s.files[i] = f;
+    s
 }
 
 // The state with another channel in the place of that number, unchanged past the last.
-pub fn with_channel(s: State, c: usize, x: Channel) -> State
+pub fn with_channel(mut s: State, c: usize, x: Channel) -> State
     ensures { result ≡ with_channel s c x }
 {
     if CHANNELS <= c {
         return s;
     }
-    let mut t = s;
-    t.channels[c] = x;
-    t
+    s.channels[c] = x;
+    s
 }
 
 // The state with other routines.
 pub fn with_routines(s: State, r: Routines) -> State
     ensures { result ≡ with_routines s r }
 {
-    let mut t = s;
-    t.routines = r;
-    t
+    State { routines: r, ..s }
 }

@@ -5,4 +5,4 @@ use Rattle.call_open.proofs.closes.close_refusal.Goals as goal
 
 pub returns : goal.returns
 unfolding lowest close_rows
-returns c = simp (c.row-4.ensures, c.row-3.ensures, c.row-2.ensures, c.row.ensures, c.has_unsent-c15.ensures, c.has_request-c8.ensures)
+returns c = simp (c.row-4.ensures, c.row-3.ensures, c.row-2.ensures, c.row.ensures, c.has_unsent-unsent.ensures, c.has_request-asked.ensures)

@@ -4,4 +4,4 @@ use Rattle.call_record.proofs.put.fill.Goals as goal
 
 pub returns : goal.returns
 unfolding filled_area
-returns c = rw (← c.put_start-at.ensures.0) c.copy_in.ensures.area_after
+returns c = rw (← c.put_start.ensures.0) c.copy_in.ensures.area_after

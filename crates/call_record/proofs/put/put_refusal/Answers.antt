@@ -5,4 +5,4 @@ use Rattle.call_record.proofs.put.put_refusal.Goals as goal
 
 pub returns : goal.returns
 unfolding lowest put_rows put_refusal
-returns c = simp (c.row-6.ensures, c.row-5.ensures, c.row-4.ensures, c.row-3.ensures, c.row-2.ensures, c.row.ensures, c.are_words-right.ensures, c.sums_spoilt-spoilt.ensures, c.is_summed-summed.ensures, c.has_room-room.ensures)
+returns c = simp (c.row-5.ensures, c.row-4.ensures, c.row-3.ensures, c.row-2.ensures, c.row-shape.ensures, c.row.ensures, c.are_words-right.ensures, c.sums_spoilt-spoilt.ensures, c.is_summed-summed.ensures, c.has_room-room.ensures)

@@ -4,4 +4,4 @@ use Rattle.file.proofs.refills.filled_at.Goals as goal
 
 pub returns : goal.returns
 unfolding filled_at
-returns c = simp (c.with_slot.ensures, c.turned_by-turned.ensures, c.next_number-next.ensures.0)
+returns c = simp (c.with_slot.ensures, c.turned_by.ensures, c.next_number-next.ensures.0)

@@ -4,4 +4,4 @@ use Rattle.file.proofs.refills.without_oldest.Goals as goal
 
 pub returns : goal.returns
 unfolding without_oldest
-returns c = simp (c.emptied_at.ensures, c.oldest-k.ensures)
+returns c = simp (c.emptied_at.ensures, c.oldest.ensures)

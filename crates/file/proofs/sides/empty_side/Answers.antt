@@ -4,4 +4,4 @@ use Rattle.file.proofs.sides.empty_side.Goals as goal
 
 pub returns : goal.returns
 unfolding empty_side
-returns c = simp (c.lower_of.ensures, c.is_empty-a.ensures, c.is_empty-b.ensures)
+returns c = simp (c.lower_of.ensures, c.is_empty.ensures, c.is_empty-2.ensures)

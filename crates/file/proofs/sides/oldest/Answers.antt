@@ -4,4 +4,4 @@ use Rattle.file.proofs.sides.oldest.Goals as goal
 
 pub returns : goal.returns
 unfolding oldest
-returns c = simp (c.lower_of.ensures, c.is_full-a.ensures, c.is_full-b.ensures)
+returns c = simp (c.lower_of.ensures, c.is_full-low.ensures, c.is_full-high.ensures)

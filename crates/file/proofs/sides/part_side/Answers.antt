@@ -4,4 +4,4 @@ use Rattle.file.proofs.sides.part_side.Goals as goal
 
 pub returns : goal.returns
 unfolding part_side
-returns c = simp (c.lower_of.ensures, c.is_part-a.ensures, c.is_part-b.ensures)
+returns c = simp (c.lower_of.ensures, c.is_part.ensures, c.is_part-2.ensures)

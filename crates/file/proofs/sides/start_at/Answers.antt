@@ -8,4 +8,4 @@ pub overflow_mul-result : goal.overflow_mul-result
 overflow_mul-result c = record { fits = lt_of_le_of_lt (mul-le-mul {n₂ = 255} {m₂ = 65535} (omega (arith, c.struct_known-1)) (omega arith)) (lit< tt) }
 
 pub returns : goal.returns
-returns c = (simp c.buffer_at-b.ensures, lt_of_le_of_lt (mul-le-mul {n₂ = 255} {m₂ = 65535} (omega (arith, c.struct_known-1)) (omega arith)) (lit< tt))
+returns c = (simp c.buffer_at.ensures, lt_of_le_of_lt (mul-le-mul {n₂ = 255} {m₂ = 65535} (omega (arith, c.struct_known-1)) (omega arith)) (lit< tt))

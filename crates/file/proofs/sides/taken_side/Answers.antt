@@ -4,4 +4,4 @@ use Rattle.file.proofs.sides.taken_side.Goals as goal
 
 pub returns : goal.returns
 unfolding taken_side
-returns c = simp (c.lower_of.ensures, c.is_taken-a.ensures, c.is_taken-b.ensures)
+returns c = simp (c.lower_of.ensures, c.is_taken.ensures, c.is_taken-2.ensures)

@@ -4,4 +4,4 @@ use Rattle.file.proofs.sizes.opened_file.Goals as goal
 
 pub returns : goal.returns
 unfolding opened_file
-returns c = simp (c.empty_buffer-a.ensures, c.empty_buffer-b.ensures, c.second_number-second.ensures)
+returns c = simp (c.empty_buffer.ensures, c.empty_buffer-2.ensures, c.second_number.ensures)

@@ -4,4 +4,4 @@ use Rattle.file_input.proofs.delivers.delivered.Goals as goal
 
 pub returns : goal.returns
 unfolding delivered
-returns c = simp (c.filled_at.ensures, c.taken_side-k.ensures)
+returns c = simp (c.filled_at.ensures, c.taken_side.ensures)

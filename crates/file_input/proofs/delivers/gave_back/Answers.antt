@@ -4,4 +4,4 @@ use Rattle.file_input.proofs.delivers.gave_back.Goals as goal
 
 pub returns : goal.returns
 unfolding gave_back
-returns c = simp (c.emptied_at.ensures, c.taken_side-k.ensures)
+returns c = simp (c.emptied_at.ensures, c.taken_side.ensures)

@@ -4,4 +4,4 @@ use Rattle.file_input.proofs.delivers.met_mark.Goals as goal
 
 pub returns : goal.returns
 unfolding met_mark
-returns c = simp c.gave_back-g.ensures
+returns c = simp c.gave_back.ensures

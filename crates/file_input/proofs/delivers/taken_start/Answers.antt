@@ -3,4 +3,4 @@
 use Rattle.file_input.proofs.delivers.taken_start.Goals as goal
 
 pub returns : goal.returns
-returns c = (simp (c.start_at.ensures.0, c.taken_side-k.ensures), c.start_at.ensures.1)
+returns c = (simp (c.start_at.ensures.0, c.taken_side.ensures), c.start_at.ensures.1)

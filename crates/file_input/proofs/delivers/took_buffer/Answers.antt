@@ -4,4 +4,4 @@ use Rattle.file_input.proofs.delivers.took_buffer.Goals as goal
 
 pub returns : goal.returns
 unfolding took_buffer
-returns c = simp (c.with_slot.ensures, c.empty_side-k.ensures)
+returns c = simp (c.with_slot.ensures, c.empty_side.ensures)

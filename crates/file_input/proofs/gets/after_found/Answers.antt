@@ -4,4 +4,4 @@ use Rattle.file_input.proofs.gets.after_found.Goals as goal
 
 pub returns : goal.returns
 unfolding after_found
-returns c = simp (c.with_slot.ensures, c.slot_after-y.ensures, c.slot_at-x.ensures, c.oldest-k.ensures)
+returns c = simp (c.with_slot.ensures, c.slot_after-y.ensures, c.slot_at.ensures, c.oldest-k.ensures)

@@ -4,4 +4,4 @@ use Rattle.file_input.proofs.gets.after_get.Goals as goal
 
 pub returns : goal.returns
 unfolding after_get
-returns c = simp (c.after_found.ensures, c.looked_at-g.ensures)
+returns c = simp (c.after_found.ensures, c.looked_at.ensures)

@@ -4,7 +4,7 @@ use Rattle.file_input.proofs.gets.found.Goals as goal
 
 pub returns-then-is_side : goal.returns-then-is_side
 unfolding found
-returns-then-is_side c = rw (← c.oldest-k.ensures, ← c.is_side.ensures, c.if-is_side.true, ← c.slot_at-x.ensures, ← c.start_at-start.ensures.0) c.found_in.ensures
+returns-then-is_side c = rw (← c.oldest-k.ensures, ← c.is_side.ensures, c.if-is_side.true, ← c.slot_at.ensures, ← c.start_at.ensures.0) c.found_in.ensures
 
 pub returns : goal.returns
 unfolding found

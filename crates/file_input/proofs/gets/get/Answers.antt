@@ -4,4 +4,4 @@ use Rattle.file_input.proofs.gets.get.Goals as goal
 
 pub returns : goal.returns
 unfolding get_from
-returns c = simp (c.found-got.ensures, c.after_found-file.ensures, c.looked_at-g.ensures)
+returns c = simp (c.found.ensures, c.after_found.ensures, c.looked_at-g.ensures)

@@ -4,4 +4,4 @@ use Rattle.file_input.proofs.gets.looked_at.Goals as goal
 
 pub returns : goal.returns
 unfolding looked_at
-returns c = simp (c.passed.ensures, c.passed-g.ensures)
+returns c = simp (c.passed-2.ensures, c.passed.ensures)

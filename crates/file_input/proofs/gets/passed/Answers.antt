@@ -4,8 +4,8 @@ use Rattle.file_input.proofs.gets.passed.Goals as goal
 
 pub returns-then-is_used_up : goal.returns-then-is_used_up
 unfolding passed
-returns-then-is_used_up c = rw (← c.oldest-k.ensures, ← c.slot_at-x.ensures, ← c.is_used_up.ensures, c.if-is_used_up.true) c.without_oldest.ensures
+returns-then-is_used_up c = rw (← c.oldest.ensures, ← c.slot_at.ensures, ← c.is_used_up.ensures, c.if-is_used_up.true) c.without_oldest.ensures
 
 pub returns : goal.returns
 unfolding passed
-returns c = rw (← c.oldest-k.ensures, ← c.slot_at-x.ensures, ← c.is_used_up.ensures, c.if-is_used_up.false)
+returns c = rw (← c.oldest.ensures, ← c.slot_at.ensures, ← c.is_used_up.ensures, c.if-is_used_up.false)

@@ -3,4 +3,4 @@
 use Rattle.file_input.proofs.gets.slot_after.Goals as goal
 
 pub returns : goal.returns
-returns c = simp (c.full_words-n.ensures, c.full_place-at.ensures, c.words_given-given.ensures.0, c.after_told.ensures, c.full_arrival-arrival.ensures)
+returns c = simp (c.full_words-n.ensures, c.full_place-at.ensures, c.words_given-given.ensures.0, c.after_told.ensures, c.full_arrival.ensures)

@@ -4,4 +4,4 @@ use Rattle.file_output.proofs.parts.is_complete.Goals as goal
 
 pub returns : goal.returns
 unfolding is_complete
-returns c = simp c.part_length-n.ensures
+returns c = simp c.part_length.ensures

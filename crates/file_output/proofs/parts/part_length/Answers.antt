@@ -4,4 +4,4 @@ use Rattle.file_output.proofs.parts.part_length.Goals as goal
 
 pub returns : goal.returns
 unfolding part_length
-returns c = simp (c.part_words.ensures, c.slot_at-held.ensures, c.part_side-k.ensures)
+returns c = simp (c.part_words.ensures, c.slot_at.ensures, c.part_side.ensures)

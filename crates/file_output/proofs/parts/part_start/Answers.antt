@@ -4,4 +4,4 @@ use Rattle.file_output.proofs.parts.part_start.Goals as goal
 
 pub returns : goal.returns
 unfolding part_start
-returns c = (simp (c.start_at.ensures.0, c.part_side-k.ensures), c.start_at.ensures.1)
+returns c = (simp (c.start_at.ensures.0, c.part_side.ensures), c.start_at.ensures.1)

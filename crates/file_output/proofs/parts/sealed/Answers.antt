@@ -4,4 +4,4 @@ use Rattle.file_output.proofs.parts.sealed.Goals as goal
 
 pub returns : goal.returns
 unfolding sealed_file
-returns c = simp (c.filled_at.ensures, c.no_arrival-none.ensures, c.part_length-n.ensures, c.part_side-k.ensures)
+returns c = simp (c.filled_at.ensures, c.no_arrival.ensures, c.part_length-words.ensures, c.part_side.ensures)

@@ -5,8 +5,8 @@ use Rattle.file_output.proofs.puts.added.Goals as goal
 
 pub returns-then-n-f : goal.returns-then-n-f
 unfolding added
-returns-then-n-f c = rw (← c.put_side-k.ensures, ← c.slot_at-x.ensures, ← c.part_words-n.ensures, le-leb _ _ c.if-n-f.true) c.with_slot.ensures
+returns-then-n-f c = rw (← c.put_side-k.ensures, ← c.slot_at.ensures, ← c.part_words-n.ensures, le-leb _ _ c.if-n-f.true) c.with_slot.ensures
 
 pub returns : goal.returns
 unfolding added
-returns c = rw (← c.put_side-k.ensures, ← c.slot_at-x.ensures, ← c.part_words-n.ensures, lt-leb _ _ c.if-n-f.false)
+returns c = rw (← c.put_side-k.ensures, ← c.slot_at.ensures, ← c.part_words-n.ensures, lt-leb _ _ c.if-n-f.false)

@@ -5,4 +5,4 @@ use Rattle.file_output.proofs.puts.put_start.Goals as goal
 
 pub returns : goal.returns
 unfolding put_start
-returns c = (simp (c.part_words-n.ensures, c.start_at-start.ensures.0, c.slot_at-x.ensures, c.put_side-k.ensures), omega (arith, c.start_at-start.ensures.1, c.part_words-n.type_inv))
+returns c = (simp (c.part_words.ensures, c.start_at.ensures.0, c.slot_at.ensures, c.put_side-k.ensures), omega (arith, c.start_at.ensures.1, c.part_words.type_inv))

@@ -4,4 +4,4 @@ use Rattle.file_output.proofs.sends.send_start.Goals as goal
 
 pub returns : goal.returns
 unfolding send_start
-returns c = (simp (c.start_at.ensures.0, c.oldest-k.ensures), c.start_at.ensures.1)
+returns c = (simp (c.start_at.ensures.0, c.oldest.ensures), c.start_at.ensures.1)

@@ -5,4 +5,4 @@ use Rattle.file_output.proofs.sends.send_words.Goals as goal
 
 pub returns : goal.returns
 unfolding send_words
-returns c = (simp (c.extra-e.ensures.0, c.full_words-n.ensures, c.slot_at-x.ensures, c.oldest-k.ensures), omega (arith, c.extra-e.ensures.1, c.full_words-n.type_inv))
+returns c = (simp (c.extra-e.ensures.0, c.full_words-n.ensures, c.slot_at.ensures, c.oldest.ensures), omega (arith, c.extra-e.ensures.1, c.full_words-n.type_inv))

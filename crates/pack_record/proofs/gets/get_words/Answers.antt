@@ -4,4 +4,4 @@ use Rattle.pack_record.proofs.gets.get_words.Goals as goal
 
 pub returns : goal.returns
 returns c = let a = c.args in
-    get_shown a.s a.area.now a.file c.is_misused-wrong.result c.file_at-f.result c.is_misused-wrong.ensures c.file_at-f.ensures c.get_on-x.result c.get_on-x.ensures _ c.got_words.ensures
+    get_shown a.s a.area.now a.file c.is_misused-wrong.result c.file_at-f.result c.is_misused-wrong.ensures c.file_at-f.ensures c.get_on.result c.get_on.ensures _ c.got_words.ensures

@@ -3,4 +3,4 @@ use Rattle.pool.proofs.FreeMasks.{mask_word}
 use Rattle.pool.proofs.masks.free_mask.Goals as goal
 
 pub returns : goal.returns
-returns c = mask_word _ _ _ _ c.all_free-all.ensures c.all_held-held.ensures
+returns c = mask_word _ _ _ _ c.all_free.ensures c.all_held.ensures

@@ -1,5 +1,5 @@
 use mathlib.Core.Path.{◌≡◌}
-use Prim.Native.Nat.{suc, ◌≤◌, ◌-◌}
+use Prim.Native.Nat.{suc, ◌-◌}
 use lib.ListN.{length, get_or}
 use Rattle.area.specs.Lists.{first_along}
 use Rattle.file.specs.Sizes.{closed_file}
@@ -8,7 +8,4 @@ use Rattle.pool.specs.Serving.{serves, serving_file}
 use Rattle.pool.proofs.units.serving_file.Given as goal
 
 abbrev pub invariant-loop-i : goal.invariant-loop-i
-invariant-loop-i l = (l.i ≤ file_count) × (length l.files ≡ file_count) × (serving_file l.files l.channel l.unit ≡ first_along suc (λ j. serves l.channel l.unit (get_or l.files j closed_file)) (file_count - l.i) l.i)
-
-abbrev pub decreases-loop-i : goal.decreases-loop-i
-decreases-loop-i l = file_count - l.i
+invariant-loop-i l = (length l.files ≡ file_count) × (serving_file l.files l.channel l.unit ≡ first_along suc (λ j. serves l.channel l.unit (get_or l.files j closed_file)) (file_count - l.i) l.i)

@@ -4,4 +4,4 @@ use Rattle.state.proofs.places.before_start.Goals as goal
 
 pub returns : goal.returns
 unfolding before_start
-returns c = simp (c.fresh-c.ensures, c.closed_file-f.ensures, c.no_routines-routines.ensures)
+returns c = simp (c.fresh.ensures, c.closed_file.ensures, c.no_routines.ensures)

@@ -10,4 +10,4 @@ pub returns-then-i-ge-FILES : goal.returns-then-i-ge-FILES
 returns-then-i-ge-FILES c = let long : length c.args.s.files ≡ file_count = c.well_formed.0.1.1.1.1.1.1.0.1.0.1 in sym (with_file_beyond c.args.s c.args.i c.args.f (omega arith))
 
 pub returns : goal.returns
-returns c = let long : length c.args.s.files ≡ file_count = c.well_formed.0.1.1.1.1.1.1.0.1.0.1 in with_file_inside c.args.s c.args.i c.args.f _ (omega arith) c.free_after-free.ensures
+returns c = let long : length c.args.s.files ≡ file_count = c.well_formed.0.1.1.1.1.1.1.0.1.0.1 in with_file_inside c.args.s c.args.i c.args.f _ (omega arith) c.free_after.ensures
