@@ -5,9 +5,12 @@ use mathlib.Core.List.{List, [], ◌∷◌}
 use Prim.Native.Nat.{ℕ, ◌+◌, ◌≤◌}
 use native.Mathlib.Omega.{arith}
 use lib.Dec.{leb, ltb, eqb}
+use Rattle.std.specs.Bool.{then_some}
+use Rattle.std.specs.Option.{is_some}
+use Rattle.std.proofs.Common.{Some}
 use lib.ListN.{length}
 use borrow.Author.Tests.{ne_eqb, lt-ltb, leb-true, leb-false, le-ltb}
-use Rattle.area.proofs.Walks.{and_left, and_right, true_not_false}
+use Rattle.area.proofs.Walks.{and_left, and_right, or_left, true_not_false}
 use Rattle.area.proofs.Lowest.{lowest_none}
 use Rattle.area.specs.Lists.{all_of}
 use Rattle.area.specs.Parts.{is_word, part_of}
@@ -105,6 +108,18 @@ rows_room wrong u outcome len x v e fits clean room n z brings =
     so false true w t q = true_not_false refl q
     so false false w t q = true_not_false t refl
 
+-- a report that is not refused gives words below 2^36
+pub rows_fit : (wrong : Bool) (u outcome len : ℕ) (x : Work) (v : Verdict) (e : Effect) (fits clean room : Bool) (n : ℕ)
+    → lowest (rows_by wrong u outcome len x v e fits clean room n) ≡ 0 → fits ≡ true
+rows_fit wrong u outcome len x v e fits clean room n z =
+    let a = lowest_none 1 _ _ (λ q. omega arith) z in
+    let b = lowest_none 2 (not fits || not clean) _ (λ q. omega arith) a.1 in
+    so fits (or_left (not fits) _ b.0)
+  where
+    so : (r : Bool) → not r ≡ false → r ≡ true
+    so true q = refl
+    so false q = sym q
+
 -- what the code has looked at before it judges a report of a unit whose turn is t, by the names of `rows_by`
 pub record Seen (f : File) (t : Turn) (outcome len w : ℕ) (area words : List ℕ) (x : Work) (v : Verdict) (e : Effect) (fits clean room : Bool) (start count : ℕ) : Type 0 where
   pub work : x ≡ work_of t
@@ -143,6 +158,15 @@ module _ (wrong frozen : Bool) (y : Unit) (d : Desk) (u : ℕ) {f : File} {outco
     move_area h = rw (same, ← found, h)
 
 -- ---- the words that are given
+
+-- `look` found something exactly if the words fit, and then what the check finds
+pub is_then_some : (b : Bool) (k : Checked) → is_some (then_some b k) ≡ b
+is_then_some true k = refl
+is_then_some false k = refl
+
+pub then_some_is : (b : Bool) (k v : Checked) → Some v ≡ then_some b k → v ≡ k
+then_some_is true k v e = cc
+then_some_is false k v e = cc
 
 pub fits_bounds : (f : File) (n : ℕ) → block_fits f n ≡ true → (1 + extra f.sequence f.check ≤ n) × (n ≤ f.size + extra f.sequence f.check)
 fits_bounds f n h =

@@ -74,21 +74,16 @@ fn ask_refusal(
 pub fn asked_file(op: u8, f: File) -> File
     ensures { result ≡ asked_file op f }
 {
-    if op == READ {
-        return took_buffer(f);
-    }
-    f
+    if op == READ { took_buffer(f) } else { f }
 }
 
 // A refusal's change: none.
 pub fn rest(x: Unit, d: Desk) -> Move
     ensures { result ≡ rest_move x d }
 {
-    let turn = x.turn;
-    let position = x.position;
     Move {
-        turn,
-        position,
+        turn: x.turn,
+        position: x.position,
         mark: d.mark,
         urgent: d.urgent,
         starts: Found::Nothing,
@@ -111,16 +106,18 @@ pub fn ask_moved(
 ) -> AskMove
     ensures { result ≡ ask_moved wrong f x d op priority naming waits frozen }
 {
-    let t = x.turn;
-    let none = is_idle(t);
-    let refusal = ask_refusal(wrong, f, !none, op, priority, naming, waits);
+    let busy = !is_idle(x.turn);
+    let refusal = ask_refusal(wrong, f, busy, op, priority, naming, waits);
     if refusal != 0 {
-        let change = rest(x, d);
-        return AskMove { refusal, change };
+        return AskMove {
+            refusal,
+            change: rest(x, d),
+        };
     }
-    let o = op_of(op);
-    let change = ask_move(x, f.unit as usize, d, o, priority == 1, frozen);
-    AskMove { refusal: 0, change }
+    AskMove {
+        refusal: 0,
+        change: ask_move(x, f.unit as usize, d, op_of(op), priority == 1, frozen),
+    }
 }
 
 // The same on the channel c: the file and the channel after it.
@@ -148,13 +145,10 @@ pub fn ask_on(
             channel: c,
         };
     }
-    let m = a.change;
-    let file = asked_file(op, f);
-    let channel = moved_to(c, u, m);
     AskChange {
         refusal: 0,
-        working: m.working,
-        file,
-        channel,
+        working: a.change.working,
+        file: asked_file(op, f),
+        channel: moved_to(c, u, a.change),
     }
 }

@@ -1,5 +1,6 @@
 // The block that a report brings or hands out: where it lies, whether its words are right, and what it makes of the file and the area.
 ghost use Rattle.std.specs.Prelude.{◌≡◌, true, ◌<◌, length};
+ghost use Rattle.std.specs.Bool.{then_some};
 ghost use Rattle.area.specs.Lists.{all_of};
 ghost use Rattle.area.specs.Parts.{is_word};
 ghost use Rattle.file_input.specs.Delivers.{block_fits};
@@ -14,31 +15,16 @@ use file_input::{delivered, gave_back, met_mark, taken_start};
 use file_output::{after_write, send_start, send_words};
 use word::{Checked, LAST_NUMBER, extra, not_checked};
 
-// What one pass over the given words tells: whether each is below 2^36, and what the check finds if they are a delivered block.
-#[derive(Clone, Copy)]
-pub struct Looked {
-    pub fits: bool,
-    pub found: Checked,
-}
-
-// Looks at the words that are given with a report.
-pub fn look(x: Effect, f: File, words: &[u64]) -> Looked
-    ensures { (result.fits ≡ all_of is_word words.now) × (result.found ≡ delivery_check x f words.now) }
+// One pass over the words that are given with a report: what the check finds if they are a delivered block; nothing unless each is below 2^36.
+pub fn look(x: Effect, f: File, words: &[u64]) -> Option<Checked>
+    ensures { result ≡ then_some (all_of is_word words.now) (delivery_check x f words.now) }
 {
     let brings = is_delivery(x);
     if brings & (f.block <= LAST_NUMBER) {
-        let j = block::judge(words, f.sequence, f.check, f.block);
-        let found = j.found;
-        return Looked {
-            fits: j.refusal != 2,
-            found,
-        };
+        let judged = block::judge(words, f.sequence, f.check, f.block);
+        return (judged.refusal != 2).then_some(judged.found);
     }
-    let found = not_checked();
-    Looked {
-        fits: are_words(words),
-        found,
-    }
+    are_words(words).then_some(not_checked())
 }
 
 // What the report delivers, by what was found of the words.
@@ -46,9 +32,10 @@ pub fn delivery_of(x: Effect, found: Checked) -> Delivery
     ensures { result ≡ delivery_of x found }
 {
     if is_delivery(x) {
-        return Delivery::With(found);
+        Delivery::With(found)
+    } else {
+        Delivery::Without
     }
-    Delivery::Without
 }
 
 // Where in the area the block begins that the report hands out, 0 if it hands out none.
@@ -56,11 +43,8 @@ pub fn shown_start(x: Effect, w: u16, f: File) -> usize
     ensures { (result ≡ shown_start x w f) × (result < 16777216) }
 {
     match x {
-        Effect::Delivers(_) => 0,
-        Effect::MeetsMark => 0,
-        Effect::GivesBack => 0,
         Effect::Sends => send_start(f, w),
-        Effect::Keeps => 0,
+        Effect::Delivers(_) | Effect::MeetsMark | Effect::GivesBack | Effect::Keeps => 0,
     }
 }
 
@@ -69,11 +53,8 @@ pub fn shown_count(x: Effect, f: File) -> usize
     ensures { (result ≡ shown_count x f) × (result < 65537) }
 {
     match x {
-        Effect::Delivers(_) => 0,
-        Effect::MeetsMark => 0,
-        Effect::GivesBack => 0,
         Effect::Sends => send_words(f),
-        Effect::Keeps => 0,
+        Effect::Delivers(_) | Effect::MeetsMark | Effect::GivesBack | Effect::Keeps => 0,
     }
 }
 
@@ -109,7 +90,6 @@ pub fn put_words(x: Effect, f: File, w: u16, area: &mut [u64], words: &[u64])
     ensures { area.new ≡ reported_area x f w words.now area.old }
 {
     if is_delivery(x) {
-        let at = taken_start(f, w);
-        copy_in(area, at, words);
+        copy_in(area, taken_start(f, w), words);
     }
 }

@@ -1,6 +1,6 @@
 // What a report that is booked means for the file of its unit.
 ghost use Rattle.std.specs.Prelude.{◌≡◌};
-ghost use Rattle.call_request.specs.Effects.{kept_if, read_effect, write_effect, op_effect, work_effect, effect_of, is_delivery};
+ghost use Rattle.call_request.specs.Effects.{kept_if, read_effect, write_effect, work_effect, effect_of, is_delivery};
 ghost use Rattle.call_request.specs.Report.{takes_no_words};
 
 use crate::Effect;
@@ -13,9 +13,10 @@ fn kept_if(some: bool, error: u8) -> Effect
     ensures { result ≡ kept_if some error }
 {
     if some {
-        return Effect::Delivers(error);
+        Effect::Delivers(error)
+    } else {
+        Effect::GivesBack
     }
-    Effect::GivesBack
 }
 
 // The end of a read, by whether the report carries words.
@@ -23,8 +24,7 @@ fn read_effect(some: bool, e: Ending) -> Effect
     ensures { result ≡ read_effect some e }
 {
     match e {
-        Ending::Good => Effect::Delivers(0),
-        Ending::Opposite => Effect::Delivers(0),
+        Ending::Good | Ending::Opposite => Effect::Delivers(0),
         Ending::MarkRead => Effect::MeetsMark,
         Ending::MediumEnd => Effect::GivesBack,
         Ending::LostRedundancy => kept_if(some, REDUNDANCY_ERROR),
@@ -37,22 +37,9 @@ fn write_effect(e: Ending) -> Effect
     ensures { result ≡ write_effect e }
 {
     match e {
-        Ending::Good => Effect::Sends,
-        Ending::Opposite => Effect::Keeps,
-        Ending::MarkRead => Effect::Keeps,
-        Ending::MediumEnd => Effect::Sends,
-        Ending::LostRedundancy => Effect::Keeps,
-        Ending::LostIncomplete => Effect::Keeps,
-    }
-}
-
-fn op_effect(some: bool, op: Op, e: Ending) -> Effect
-    ensures { result ≡ op_effect some op e }
-{
-    match op {
-        Op::Read => read_effect(some, e),
-        Op::Write => write_effect(e),
-        Op::Mark => Effect::Keeps,
+        Ending::Good | Ending::MediumEnd => Effect::Sends,
+        Ending::Opposite | Ending::MarkRead | Ending::LostRedundancy | Ending::LostIncomplete =>
+            Effect::Keeps,
     }
 }
 
@@ -60,8 +47,9 @@ fn work_effect(some: bool, x: Work, e: Ending) -> Effect
     ensures { result ≡ work_effect some x e }
 {
     match x {
-        Work::At(op) => op_effect(some, op, e),
-        Work::Nothing => Effect::Keeps,
+        Work::At(Op::Read) => read_effect(some, e),
+        Work::At(Op::Write) => write_effect(e),
+        Work::At(Op::Mark) | Work::Nothing => Effect::Keeps,
     }
 }
 
@@ -70,8 +58,7 @@ pub fn effect_of(some: bool, x: Work, v: Verdict) -> Effect
     ensures { result ≡ effect_of some x v }
 {
     match v {
-        Verdict::Refused(_) => Effect::Keeps,
-        Verdict::Repeats(_) => Effect::Keeps,
+        Verdict::Refused(_) | Verdict::Repeats(_) => Effect::Keeps,
         Verdict::Ends(e) => work_effect(some, x, e),
     }
 }
@@ -79,31 +66,12 @@ pub fn effect_of(some: bool, x: Work, v: Verdict) -> Effect
 pub fn is_delivery(x: Effect) -> bool
     ensures { result ≡ is_delivery x }
 {
-    match x {
-        Effect::Delivers(_) => true,
-        Effect::MeetsMark => false,
-        Effect::GivesBack => false,
-        Effect::Sends => false,
-        Effect::Keeps => false,
-    }
-}
-
-fn writes(op: Op) -> bool
-    ensures { result ≡ takes_no_words (Work.At op) }
-{
-    match op {
-        Op::Read => false,
-        Op::Write => true,
-        Op::Mark => true,
-    }
+    matches!(x, Effect::Delivers(_))
 }
 
 // Whether a write or a mark is worked for, to which no words may be given.
 pub fn takes_no_words(x: Work) -> bool
     ensures { result ≡ takes_no_words x }
 {
-    match x {
-        Work::At(op) => writes(op),
-        Work::Nothing => false,
-    }
+    matches!(x, Work::At(Op::Write | Op::Mark))
 }

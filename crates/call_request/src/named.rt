@@ -13,15 +13,14 @@ const CLEANED: u8 = 7;
 pub fn answers_request(res: u8) -> bool
     ensures { result ≡ answers_request res }
 {
-    !((res == REPEATED) | (res == CLEANED))
+    !matches!(res, REPEATED | CLEANED)
 }
 
 // The routines after an accepted ask for a unit of a channel.
 pub fn asked_routines(r: Routines, channel: usize, unit: usize, naming: Naming) -> Routines
     ensures { result ≡ asked_routines r channel unit naming }
 {
-    let d = due_of(naming);
-    asked(r, channel, unit, d)
+    asked(r, channel, unit, due_of(naming))
 }
 
 // The routines after a report of a unit of a channel with that result; as they were for a refused one, whose result is 0.
@@ -34,9 +33,9 @@ pub fn reported_routines(
 ) -> Routines
     ensures { result ≡ reported_routines r frozen channel unit res }
 {
-    let answers = answers_request(res);
-    if answers {
-        return answered(r, frozen, channel, unit);
+    if answers_request(res) {
+        answered(r, frozen, channel, unit)
+    } else {
+        r
     }
-    r
 }

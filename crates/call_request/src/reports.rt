@@ -25,9 +25,9 @@ fn length_wrong(outcome: u8, length: u32, x: Work, n: usize) -> bool
     ensures { result ≡ length_wrong outcome length x n }
 {
     let silent = takes_no_words(x);
-    let given = !(length == NO_LENGTH);
-    let off = (NO_LENGTH < length) | !(outcome == REDUNDANCY);
-    let other = (0 < n) & !(length as usize == n);
+    let given = length != NO_LENGTH;
+    let off = (NO_LENGTH < length) | (outcome != REDUNDANCY);
+    let other = (0 < n) & (length as usize != n);
     given & (off | (other | silent))
 }
 
@@ -88,10 +88,8 @@ pub fn report_moved(
     ensures area_after { area.new ≡ report_moved_area wrong f y.turn unit outcome length w area.old words.now }
 {
     let n = words.len();
-    let t = y.turn;
-    let position = y.position;
-    let v = judge_turn(t, outcome, length);
-    let x = worked_for(t);
+    let v = judge_turn(y.turn, outcome, length);
+    let x = worked_for(y.turn);
     let e = effect_of(0 < n, x, v);
     let looked = look(e, f, words);
     let start = shown_start(e, w, f);
@@ -106,7 +104,7 @@ pub fn report_moved(
         x,
         v,
         e,
-        looked.fits,
+        looked.is_some(),
         clean,
         room,
         n,
@@ -115,19 +113,16 @@ pub fn report_moved(
         return refused(no, y, d);
     }
     put_words(e, f, w, area, words);
-    let found = looked.found;
-    let delivery = delivery_of(e, found);
-    let change = book_move(y, unit as usize, d, v, frozen);
-    let result = result_number(position, v);
+    let found = looked.unwrap();
     ReportMove {
         refusal: 0,
-        result,
-        delivery,
+        result: result_number(y.position, v),
+        delivery: delivery_of(e, found),
         start,
         count,
         effect: e,
         found,
-        change,
+        change: book_move(y, unit as usize, d, v, frozen),
     }
 }
 
@@ -135,8 +130,6 @@ pub fn report_moved(
 fn refused(refusal: u8, y: Unit, d: Desk) -> ReportMove
     ensures { result ≡ refused_move refusal y d }
 {
-    let found = not_checked();
-    let change = rest(y, d);
     ReportMove {
         refusal,
         result: 0,
@@ -144,8 +137,8 @@ fn refused(refusal: u8, y: Unit, d: Desk) -> ReportMove
         start: 0,
         count: 0,
         effect: Effect::Keeps,
-        found,
-        change,
+        found: not_checked(),
+        change: rest(y, d),
     }
 }
 
@@ -171,20 +164,14 @@ pub fn report_on(
     let x = report_moved(
         wrong, f, y, d, unit, outcome, length, w, frozen, area, words,
     );
-    let e = x.effect;
-    let found = x.found;
-    let delivery = x.delivery;
-    let m = x.change;
-    let file = reported_file(e, f, words.len(), found);
-    let channel = moved_to(c, u, m);
     ReportChange {
         refusal: x.refusal,
         result: x.result,
-        delivery,
-        working: m.working,
+        delivery: x.delivery,
+        working: x.change.working,
         start: x.start,
         count: x.count,
-        file,
-        channel,
+        file: reported_file(x.effect, f, words.len(), x.found),
+        channel: moved_to(c, u, x.change),
     }
 }

@@ -21,19 +21,15 @@ pub fn ask(s: State, file: u8, op: u8, priority: u8, naming: Naming) -> Asking
     let j = f.channel as usize;
     let u = f.unit as usize;
     let c = channel_at(s, j);
-    let old = s.routines;
-    let waits = waits_at(old, j, u);
+    let waits = waits_at(s.routines, j, u);
     let whole = is_sound(s);
     let wrong = !whole | (FILES <= i);
     let x = ask_on(wrong, f, c, op, priority, naming, waits, s.frozen);
-    let g = x.file;
-    let d = x.channel;
-    let new = asked_routines(old, j, u, naming);
-    let t = changed_state(s, i, j, x.refusal, g, d, new);
+    let routines = asked_routines(s.routines, j, u, naming);
     Asking {
         refusal: x.refusal,
         working: x.working,
-        state: t,
+        state: changed_state(s, i, j, x.refusal, x.file, x.channel, routines),
     }
 }
 
@@ -54,8 +50,7 @@ pub fn report(
 {
     let short = area_short(s, area.len());
     let whole = is_sound(s);
-    let files = s.files;
-    let i = file_of(files, channel, unit);
+    let i = file_of(s.files, channel, unit);
     let f = file_at(s, i);
     let j = channel as usize;
     let c = channel_at(s, j);
@@ -63,20 +58,15 @@ pub fn report(
     let x = report_on(
         wrong, f, c, unit, outcome, length, s.w, s.frozen, area, words,
     );
-    let g = x.file;
-    let d = x.channel;
-    let delivery = x.delivery;
-    let old = s.routines;
-    let new = reported_routines(old, s.frozen, j, unit as usize, x.result);
-    let t = changed_state(s, i, j, x.refusal, g, d, new);
+    let routines = reported_routines(s.routines, s.frozen, j, unit as usize, x.result);
     Reporting {
         refusal: x.refusal,
         result: x.result,
-        delivery,
+        delivery: x.delivery,
         working: x.working,
         start: x.start,
         count: x.count,
-        state: t,
+        state: changed_state(s, i, j, x.refusal, x.file, x.channel, routines),
     }
 }
 
@@ -84,7 +74,5 @@ pub fn report(
 pub fn reported_words<'a>(area: &'a [u64], r: Reporting) -> &'a [u64]
     ensures { result.now ≡ part_of r.start r.count area.now }
 {
-    let at = r.start;
-    let n = r.count;
-    part(area, at, n)
+    part(area, r.start, r.count)
 }

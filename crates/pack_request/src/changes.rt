@@ -20,9 +20,8 @@ pub fn changed_state(
     ensures { result ≡ changed_state s i j refusal f c r }
 {
     if refusal == 0 {
-        let t = with_channel(s, j, c);
-        let u = with_file(t, i, f);
-        return with_routines(u, r);
+        with_routines(with_file(with_channel(s, j, c), i, f), r)
+    } else {
+        s
     }
-    s
 }

@@ -7,7 +7,6 @@ use Prim.Native.Nat.{ℕ}
 use native.Mathlib.Decide.{ℕ_discrete}
 use Rattle.area.specs.Refusals.{lowest, Exactly, here, later}
 use Rattle.area.proofs.Exactly.{exactly}
-use Rattle.routines.specs.declared.Routines.{Routines}
 use Rattle.routines.specs.Ranks.{main_program}
 use Rattle.routines.specs.Schedule.{none_runs}
 use Rattle.routines.specs.Changes.{gave_back_in}
@@ -17,9 +16,8 @@ use Rattle.state.proofs.Answered.{not_so}
 use Rattle.state_sound.specs.Soundness.{sound}
 use Rattle.state_sound.proofs.Facts.{sound_facts, facts_sound}
 use Rattle.state_sound.proofs.Wholes.{back_kept}
-use Rattle.pack_routine.specs.declared.RoutineChange.{RoutineChange}
 use Rattle.pack_routine.specs.declared.Ran.{Ran}
-use Rattle.pack_routine.specs.Ons.{refused_change, return_rows, return_refusal, return_on, running_rows, running_refusal, running_on}
+use Rattle.pack_routine.specs.Ons.{refused_change, return_rows, return_refusal, running_rows, running_refusal}
 use Rattle.pack_routine.specs.Calls.{ran_in, return_by, running_by}
 use Rattle.pack_routine.proofs.OnLaws.{back_change, run_change, return_off, return_done, running_off, running_done}
 

@@ -10,11 +10,10 @@ use routines::{Routines, gave_back, is_main, main_program};
 fn refused(refusal: u8, r: Routines) -> RoutineChange
     ensures { result ≡ refused_change refusal r }
 {
-    let program = main_program();
     RoutineChange {
         refusal,
         entered: false,
-        program,
+        program: main_program(),
         routines: r,
     }
 }
@@ -23,9 +22,7 @@ fn refused(refusal: u8, r: Routines) -> RoutineChange
 fn return_refusal(wrong: bool, r: Routines) -> u8
     ensures { result ≡ return_refusal wrong r }
 {
-    let programs = r.programs;
-    let running = programs.running;
-    let none = is_main(running);
+    let none = is_main(r.programs.running);
     row(1, wrong, row(18, none, 0))
 }
 
@@ -39,14 +36,11 @@ pub fn return_on(wrong: bool, frozen: bool, r: Routines) -> RoutineChange
         return refused(no, r);
     }
     let back = gave_back(r, frozen);
-    let routines = back.routines;
-    let programs = routines.programs;
-    let program = programs.running;
     RoutineChange {
         refusal: 0,
         entered: back.entered,
-        program,
-        routines,
+        program: back.routines.programs.running,
+        routines: back.routines,
     }
 }
 
@@ -58,12 +52,10 @@ pub fn running_on(wrong: bool, r: Routines) -> RoutineChange
     if no != 0 {
         return refused(no, r);
     }
-    let programs = r.programs;
-    let program = programs.running;
     RoutineChange {
         refusal: 0,
         entered: false,
-        program,
+        program: r.programs.running,
         routines: r,
     }
 }

@@ -11,14 +11,11 @@ use state_sound::is_sound;
 fn ran_in(s: State, x: RoutineChange) -> Ran
     ensures { result ≡ ran_in s x }
 {
-    let new = x.routines;
-    let program = x.program;
-    let state = with_routines(s, new);
     Ran {
         refusal: x.refusal,
         entered: x.entered,
-        program,
-        state,
+        program: x.program,
+        state: with_routines(s, x.routines),
     }
 }
 
@@ -27,9 +24,7 @@ pub fn give_back(s: State) -> Ran
     ensures { result ≡ return_by s }
 {
     let whole = is_sound(s);
-    let old = s.routines;
-    let x = return_on(!whole, s.frozen, old);
-    ran_in(s, x)
+    ran_in(s, return_on(!whole, s.frozen, s.routines))
 }
 
 // Which program runs. The state is the one that was passed.
@@ -37,7 +32,5 @@ pub fn what_runs(s: State) -> Ran
     ensures { result ≡ running_by s }
 {
     let whole = is_sound(s);
-    let old = s.routines;
-    let x = running_on(!whole, old);
-    ran_in(s, x)
+    ran_in(s, running_on(!whole, s.routines))
 }

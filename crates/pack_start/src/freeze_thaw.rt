@@ -21,9 +21,7 @@ fn state_refusal(s: State) -> u8
 pub fn frozen_state(s: State) -> State
     ensures { result ≡ frozen_state s }
 {
-    let mut t = s;
-    t.frozen = true;
-    t
+    State { frozen: true, ..s }
 }
 
 // Every channel that is idle starts what is due.
@@ -31,12 +29,8 @@ fn all_started(channels: [Channel; CHANNELS]) -> [Channel; CHANNELS]
     ensures { result ≡ map thaw_of channels }
 {
     let mut started = channels;
-    let mut i: usize = 0;
-    while i < CHANNELS {
-        let c = started[i];
-        let d = channel_turns::thaw(c);
-        started[i] = d;
-        i += 1;
+    for c in &mut started {
+        *c = channel_turns::thaw(*c);
     }
     started
 }
@@ -45,19 +39,11 @@ fn all_started(channels: [Channel; CHANNELS]) -> [Channel; CHANNELS]
 pub fn thawed_state(s: State) -> State
     ensures { result ≡ thawed_state s }
 {
-    let channels = s.channels;
-    let files = s.files;
-    let started = all_started(channels);
-    let old = s.routines;
-    let routines = looked(old, false);
     State {
-        m: s.m,
-        w: s.w,
         frozen: false,
-        channels: started,
-        files,
-        free: s.free,
-        routines,
+        channels: all_started(s.channels),
+        routines: looked(s.routines, false),
+        ..s
     }
 }
 
@@ -72,10 +58,9 @@ pub fn freeze(s: State) -> Called
             state: s,
         };
     }
-    let frozen = frozen_state(s);
     Called {
         refusal: 0,
-        state: frozen,
+        state: frozen_state(s),
     }
 }
 
@@ -90,9 +75,8 @@ pub fn thaw(s: State) -> Called
             state: s,
         };
     }
-    let thawed = thawed_state(s);
     Called {
         refusal: 0,
-        state: thawed,
+        state: thawed_state(s),
     }
 }

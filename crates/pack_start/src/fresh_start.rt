@@ -17,7 +17,7 @@ const MASKS: u32 = 1 << UNITS;
 fn is_mask(mask: u16) -> bool
     ensures { result ≡ is_mask mask }
 {
-    (mask as u32) < MASKS
+    u32::from(mask) < MASKS
 }
 
 // Whether no mask has a bit above the last unit.
@@ -52,19 +52,14 @@ pub fn fresh_state(m: u8, w: u16, masks: Masks) -> State
     let c = channel::fresh(masks.c);
     let d = channel::fresh(masks.d);
     let e = channel::fresh(masks.e);
-    let f = closed_file();
-    let channels = [a, b, c, d, e];
-    let files = [f; FILES];
-    let free = all_free(m);
-    let routines = no_routines();
     State {
         m,
         w,
         frozen: false,
-        channels,
-        files,
-        free,
-        routines,
+        channels: [a, b, c, d, e],
+        files: [closed_file(); FILES],
+        free: all_free(m),
+        routines: no_routines(),
     }
 }
 
@@ -80,9 +75,8 @@ pub fn fresh(s: State, area: &[u64], m: u8, w: u16, masks: Masks) -> Called
             state: s,
         };
     }
-    let t = fresh_state(m, w, masks);
     Called {
         refusal: 0,
-        state: t,
+        state: fresh_state(m, w, masks),
     }
 }

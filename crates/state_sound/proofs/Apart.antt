@@ -1,5 +1,5 @@
 -- Two files that share neither a buffer nor a unit: the order does not matter, and a closed file is apart from every other. Assumes nothing.
-use mathlib.Core.Path.{◌≡◌, refl, sym, ap, ◌∙◌}
+use mathlib.Core.Path.{◌≡◌, refl, sym}
 use mathlib.Core.Bool.{Bool, true, false, not, ◌&&◌, ◌||◌}
 use Prim.Native.Nat.{ℕ}
 use lib.Dec.{eqb}
@@ -8,7 +8,6 @@ use Rattle.area.proofs.Walks.{true_not_false, and_left, and_right, and_both, or_
 use Rattle.file.specs.declared.File.{File}
 use Rattle.file.specs.Sizes.{closed_file}
 use Rattle.pool.specs.Free.{held_by}
-use Rattle.pool.specs.Serving.{serves}
 use Rattle.state_sound.specs.Files.{share_buffer, share_unit, apart}
 use Rattle.state_sound.proofs.Shares.{held_shared}
 use Rattle.state_sound.specs.Soundness.{buffers_apart, units_apart}

@@ -2,10 +2,10 @@
 -- Assumes nothing.
 use mathlib.Core.Path.{◌≡◌, refl, sym, ap, subst, ◌∙◌}
 use mathlib.Core.Logic.{◌≢◌}
-use mathlib.Core.Bool.{Bool, true, false, not, ◌&&◌, ◌||◌}
+use mathlib.Core.Bool.{Bool, true, false, ◌||◌}
 use mathlib.Core.Option.{Option, none, some}
 use mathlib.Core.List.{List}
-use Prim.Native.Nat.{ℕ, zero, suc, ◌+◌, ◌≤◌, ◌<◌}
+use Prim.Native.Nat.{ℕ, zero, suc, ◌<◌}
 use native.Mathlib.Omega.{arith}
 use lib.Dec.{leb, ltb, eqb}
 use lib.ListN.{get_or}
@@ -24,22 +24,21 @@ use Rattle.channel.specs.declared.Work.TheVariants.{At, Nothing}
 use Rattle.channel_turns.specs.declared.Asked.{Asked}
 use Rattle.channel_outcomes.specs.declared.Ending.{Ending}
 use Rattle.channel_outcomes.specs.declared.Verdict.{Verdict}
-use Rattle.channel_outcomes.specs.declared.Verdict.TheVariants.{Refused, Repeats, Ends}
+use Rattle.channel_outcomes.specs.declared.Verdict.TheVariants.{Repeats, Ends}
 use Rattle.channel_outcomes.specs.Positions.{most_passed, position_after, noted_by}
-use Rattle.channel_outcomes.specs.Rules.{verdict_of}
 use Rattle.channel.specs.Units.{size, idle_unit, unit_at, declared_at, turn_at, position_at, operation_at, with_unit, with_turn, is_idle, accepts_at}
 use Rattle.channel_turns.specs.Scans.{working_in}
 use Rattle.area.specs.Lists.{is_found}
 use Rattle.channel_turns.specs.Turns.{judge_turn, judge_of, goes_on, incomplete_turn, repeat_of, mark_moved, end_of, book_of, report_of}
 use Rattle.channel_turns.specs.Starts.{start_of, thaw_of, new_request, ask_of}
-use Rattle.channel_theorems.specs.History.{Station, station, Event, ask, report, freeze, thaw, Step, step}
+use Rattle.channel_theorems.specs.History.{Station, station, Event, ask, report, thaw, Step, step}
 use Rattle.channel_turns.proofs.Laws.Scans.{next_below}
 use Rattle.channel_turns.proofs.Laws.Starts.{ask_taken}
 use Rattle.channel_theorems.proofs.Theorems.Turning.{held_as, held, mark_as, mark_with, size_with, at_set, busy_inside, declared_inside}
 use Rattle.channel_theorems.proofs.Theorems.Starts.{Begins, Started, is_frozen, is_busy, is_quiet, begins, started, start_alive}
 use Rattle.channel_theorems.proofs.Theorems.Calls.{ended_at, ended_mark, Took, refuses, asks, repeats, ends, freezes, thaws, took, incomplete_held}
 use Rattle.channel_theorems.proofs.Theorems.Positions.{Held, after_held_lem, noted_held}
-use Rattle.channel_theorems.proofs.Theorems.Sound.{Again, verdict_again, Works, works, one_kept, ranges_kept}
+use Rattle.channel_theorems.proofs.Theorems.Sound.{verdict_again, works, one_kept, ranges_kept}
 use Rattle.state_sound.specs.Requests.{requested}
 use Rattle.state_sound.specs.Soundness.{position_in_range, noise_known, noise_right, position_right}
 use Rattle.state_sound.proofs.ChannelFacts.{ChannelFacts}

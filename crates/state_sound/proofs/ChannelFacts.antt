@@ -1,19 +1,17 @@
 -- A channel's part of a sound state as facts, both ways; and what calls on a channel keep of it. Assumes nothing.
-use mathlib.Core.Path.{◌≡◌, refl, sym, ap, subst, ◌∙◌}
-use mathlib.Core.Logic.{◌≢◌}
-use mathlib.Core.Bool.{Bool, true, false, not, cond, ◌&&◌, ◌||◌}
-use mathlib.Core.Option.{Option, none, some}
-use mathlib.Core.List.{List, map}
-use Prim.Native.Nat.{ℕ, ◌+◌, ◌≤◌, ◌<◌}
+use mathlib.Core.Path.{◌≡◌, refl, sym, ap, ◌∙◌}
+use mathlib.Core.Bool.{Bool, true, false, not, ◌||◌}
+use mathlib.Core.List.{List}
+use Prim.Native.Nat.{ℕ, ◌≤◌, ◌<◌}
 use native.Mathlib.Omega.{arith}
-use lib.Dec.{T, leb, ltb, eqb}
-use lib.ListN.{length, get_or, get_or-map}
-use borrow.Author.Tests.{leb-true, le-leb, ltb-true, lt-ltb, eqb-true, eq-eqb, not-true}
+use lib.Dec.{leb, ltb, eqb}
+use lib.ListN.{get_or, get_or-map}
+use borrow.Author.Tests.{leb-true, le-leb, ltb-true, lt-ltb, eqb-true, eq-eqb}
 use Rattle.area.specs.declared.Found.{Found}
 use Rattle.area.specs.Lists.{any_of, all_of, count_of, is_found}
 use Rattle.area.proofs.Walks.{by_test, true_not_false, and_left, and_right, and_both, or_either, or_first, or_second, at_all, none_at}
 use Rattle.area.proofs.Marks.{unless, unless_so}
-use Rattle.area.proofs.Bools.{both, any_at, at_any, Somewhere}
+use Rattle.area.proofs.Bools.{both, any_at, at_any}
 use Rattle.channel.specs.declared.Position.{Position}
 use Rattle.channel.specs.declared.Request.{Request}
 use Rattle.channel.specs.declared.Turn.{Turn}
@@ -29,7 +27,7 @@ use Rattle.channel_theorems.proofs.Theorems.Starts.{works_found}
 use Rattle.channel_theorems.proofs.Theorems.Sound.{Counted, OneWorks, HoldOk, InRanges}
 use Rattle.state.specs.Places.{no_channel}
 use Rattle.state_sound.specs.Requests.{requested, is_none, is_waiting}
-use Rattle.state_sound.specs.Soundness.{position_in_range, noise_right, position_right, marks_right, unit_waits, works_right, in_limit}
+use Rattle.state_sound.specs.Soundness.{position_right, marks_right, unit_waits, works_right}
 use Rattle.state_sound.specs.Judged.{is_counted, turn_right, unit_right}
 use Rattle.state_sound.proofs.Everywhere.{by_place, all_places, place_inside, count_some, some_place, count_one_place, one_place_count}
 

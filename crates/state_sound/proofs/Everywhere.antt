@@ -1,14 +1,14 @@
 -- What holds of every element of a list, and of what stands past its end, holds at every number. Assumes nothing.
-use mathlib.Core.Path.{◌≡◌, refl, sym, ap, ◌∙◌}
+use mathlib.Core.Path.{◌≡◌, refl, ap, ◌∙◌}
 use mathlib.Core.Logic.{◌≢◌}
-use mathlib.Core.Bool.{Bool, true, false, cond, ◌&&◌, ◌||◌}
+use mathlib.Core.Bool.{Bool, true, false, cond}
 use mathlib.Core.List.{List, [], ◌∷◌}
 use Prim.Native.Nat.{ℕ, zero, suc, ◌+◌, ◌≤◌, ◌<◌}
 use native.Mathlib.Nat.{le_of_suc-le-suc, not-suc-le-zero}
 use native.Mathlib.Decide.{dec_lt}
 use native.Mathlib.Omega.{arith}
 use lib.ListN.{length, get_or, get_or-eq_default}
-use Rattle.area.specs.Lists.{any_of, all_of, all_pairs, count_of}
+use Rattle.area.specs.Lists.{all_of, all_pairs, count_of}
 use Rattle.area.specs.Numbered.{all_from}
 use Rattle.area.proofs.Walks.{true_not_false, all_at}
 use Rattle.area.proofs.Numbered.{from_at}

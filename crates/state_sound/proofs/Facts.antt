@@ -3,15 +3,15 @@ use mathlib.Core.Path.{◌≡◌, refl, sym, ap, subst, ◌∙◌}
 use mathlib.Core.Logic.{◌≢◌}
 use mathlib.Core.Bool.{Bool, true, false, not, cond, ◌&&◌, ◌||◌}
 use mathlib.Core.List.{List}
-use Prim.Native.Nat.{ℕ, ◌+◌, ◌≤◌, ◌<◌}
+use Prim.Native.Nat.{ℕ, ◌≤◌}
 use native.Mathlib.Decide.{ℕ_discrete}
 use native.Mathlib.Omega.{arith}
 use lib.Dec.{leb, ltb, eqb}
-use lib.ListN.{length, get_or}
-use borrow.Author.Tests.{leb-true, le-leb, ltb-true, eqb-true, eq-eqb, not-true}
+use lib.ListN.{get_or}
+use borrow.Author.Tests.{le-leb, eqb-true, eq-eqb, not-true}
 use Rattle.area.specs.Lists.{any_of, all_of, all_pairs, one_if}
 use Rattle.area.specs.Numbered.{all_from}
-use Rattle.area.proofs.Walks.{by_test, true_not_false, and_left, and_right, and_both, or_either, or_first, or_second, all_at, at_all}
+use Rattle.area.proofs.Walks.{true_not_false, and_left, and_right, and_both, or_either, or_first, or_second, all_at, at_all}
 use Rattle.area.proofs.Marks.{cond_true, cond_false, unless, unless_so}
 use Rattle.area.proofs.Numbered.{from_at, at_from}
 use Rattle.area.proofs.Bools.{each_way, both, any_at, at_any, Somewhere, at_pairs}
@@ -22,7 +22,7 @@ use Rattle.channel.specs.declared.Unit.{Unit}
 use Rattle.channel.specs.declared.Channel.{Channel}
 use Rattle.channel.specs.declared.Work.{Work}
 use Rattle.channel.specs.declared.Work.TheVariants.{At, Nothing}
-use Rattle.channel.specs.Units.{size, idle_unit, unit_at, declared_at, turn_at}
+use Rattle.channel.specs.Units.{idle_unit, unit_at, declared_at, turn_at}
 use Rattle.file.specs.declared.File.{File}
 use Rattle.file.specs.Sizes.{closed_file}
 use Rattle.file_input.specs.Delivers.{has_full}
@@ -35,7 +35,7 @@ use Rattle.state_sound.proofs.FileFacts as file
 use Rattle.state.specs.declared.State.{State}
 use Rattle.state.specs.Places.{no_channel, file_at, channel_in, channel_at}
 use Rattle.state_sound.specs.Requests.{requested, is_none, is_read, is_write, fits_output}
-use Rattle.state_sound.specs.Soundness.{if_open, channel_of, request_of, file_in_range, turn_in_range, position_right, unit_in_range, marks_right, channel_in_range, numbers_in_range, buffers_apart, no_buffer_held_twice, has_its_own, units_apart, each_has_its_own, unit_fits, channel_fits, requests_fit, works_right, channels_work, taken_by_read, reads_alone_take, write_has_block, writes_have_blocks, full_blocks_right, part_buffers_right, places_right, in_limit, turn_in_limit, channel_in_limit, attempts_in_limit, free_mask_right, routines_right, sound}
+use Rattle.state_sound.specs.Soundness.{if_open, channel_of, request_of, file_in_range, turn_in_range, position_right, unit_in_range, marks_right, channel_in_range, numbers_in_range, buffers_apart, no_buffer_held_twice, has_its_own, units_apart, each_has_its_own, unit_fits, channel_fits, requests_fit, works_right, channels_work, taken_by_read, reads_alone_take, write_has_block, writes_have_blocks, full_blocks_right, part_buffers_right, places_right, turn_in_limit, channel_in_limit, attempts_in_limit, free_mask_right, routines_right, sound}
 use Rattle.state_sound.specs.Judged.{file_ready, file_fits, turn_right, unit_right, unit_served, channel_right, judged_state}
 use Rattle.routines.proofs.Laws.Facts.{RoutinesFacts, right_facts, facts_right}
 use Rattle.routines_sound.specs.Beside.{declared_in, request_in, routines_beside}

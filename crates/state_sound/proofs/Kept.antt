@@ -1,17 +1,15 @@
 -- Replacements that keep a sound state sound: one file and its channel, a file alone, an open, a close. Assumes nothing.
 use mathlib.Core.Path.{◌≡◌, refl, sym, ap, ap₂, subst, ◌∙◌}
 use mathlib.Core.Logic.{◌≢◌}
-use mathlib.Core.Bool.{Bool, true, false, not, cond, ◌&&◌, ◌||◌}
+use mathlib.Core.Bool.{Bool, true, false, not, ◌&&◌, ◌||◌}
 use mathlib.Core.List.{List}
-use Prim.Native.Nat.{ℕ, ◌+◌, ◌≤◌, ◌<◌}
+use Prim.Native.Nat.{ℕ, ◌<◌}
 use native.Mathlib.Decide.{ℕ_discrete}
-use native.Mathlib.Omega.{arith}
 use lib.Dec.{eqb}
 use lib.ListN.{length, get_or, set}
 use lib.Seq.{get_or-set_same, get_or-set_other, set-get_or}
 use borrow.Author.Tests.{eqb-true, eq-eqb, not-true}
-use Rattle.area.specs.Lists.{any_of}
-use Rattle.area.proofs.Walks.{by_test, true_not_false, and_left, and_right, and_both, or_either, none_at}
+use Rattle.area.proofs.Walks.{by_test, true_not_false, and_left, and_right, and_both, none_at}
 use Rattle.area.proofs.Bools.{both, any_at}
 use Rattle.channel.specs.declared.Channel.{Channel}
 use Rattle.channel.specs.declared.Work.{Work}
@@ -33,11 +31,11 @@ use Rattle.state.specs.Stores.{with_file, with_channel, with_routines}
 use Rattle.routines.specs.declared.Routines.{Routines}
 use Rattle.routines.proofs.Laws.Facts.{RoutinesFacts}
 use Rattle.routines_sound.specs.Beside.{declared_in, request_in}
-use Rattle.state_sound.specs.Requests.{requested, is_none, is_read, is_write, fits_output}
+use Rattle.state_sound.specs.Requests.{requested, is_none}
 use Rattle.state_sound.specs.Soundness.{channel_of, request_of}
 use Rattle.state_sound.specs.Judged.{file_ready}
 use Rattle.state_sound.proofs.Everywhere.{by_place, place_inside}
-use Rattle.state_sound.proofs.Apart.{apart_swap, apart_closed, apart_shut}
+use Rattle.state_sound.proofs.Apart.{apart_swap, apart_closed}
 use Rattle.state_sound.proofs.ChannelFacts.{ChannelFacts, no_declared}
 use Rattle.state_sound.proofs.Facts.{Served, SoundFacts}
 

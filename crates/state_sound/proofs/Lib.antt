@@ -15,3 +15,4 @@ pub mod Buffers
 pub mod Kept
 pub mod RoutinesKept
 pub mod Wholes
+pub mod Truths

@@ -23,87 +23,37 @@ fn requested(t: Turn) -> Work
 {
     match t {
         Turn::Idle => Work::Nothing,
-        Turn::Waiting(q) => {
-            let op = q.op;
-            Work::At(op)
-        }
-        Turn::Displaced(q) => {
-            let op = q.op;
-            Work::At(op)
-        }
-        Turn::Working(q) => {
-            let op = q.op;
-            Work::At(op)
-        }
+        Turn::Waiting(q) | Turn::Displaced(q) | Turn::Working(q) => Work::At(q.op),
     }
 }
 
 fn is_none(x: Work) -> bool
     ensures { result ≡ is_none x }
 {
-    match x {
-        Work::At(_) => false,
-        Work::Nothing => true,
-    }
-}
-
-fn is_read_op(op: Op) -> bool
-    ensures { result ≡ is_read_op op }
-{
-    match op {
-        Op::Read => true,
-        Op::Write => false,
-        Op::Mark => false,
-    }
-}
-
-fn is_write_op(op: Op) -> bool
-    ensures { result ≡ is_write_op op }
-{
-    match op {
-        Op::Read => false,
-        Op::Write => true,
-        Op::Mark => false,
-    }
+    matches!(x, Work::Nothing)
 }
 
 // Whether a read is requested.
 fn is_read(x: Work) -> bool
     ensures { result ≡ is_read x }
 {
-    match x {
-        Work::At(op) => is_read_op(op),
-        Work::Nothing => false,
-    }
+    matches!(x, Work::At(Op::Read))
 }
 
 // Whether a write is requested.
 fn is_write(x: Work) -> bool
     ensures { result ≡ is_write x }
 {
-    match x {
-        Work::At(op) => is_write_op(op),
-        Work::Nothing => false,
-    }
+    matches!(x, Work::At(Op::Write))
 }
 
-// A read fits an input file, a write or a mark an output file.
-fn op_fits(op: Op, output: bool) -> bool
-    ensures { result ≡ op_fits op output }
-{
-    match op {
-        Op::Read => !output,
-        Op::Write => output,
-        Op::Mark => output,
-    }
-}
-
-// Whether what is requested, if anything is, fits the direction of a file.
+// Whether what is requested, if anything is, fits the direction of a file: a read an input file, a write or a mark an output file.
 fn fits_output(x: Work, output: bool) -> bool
     ensures { result ≡ fits_output x output }
 {
     match x {
-        Work::At(op) => op_fits(op, output),
+        Work::At(Op::Read) => !output,
+        Work::At(Op::Write | Op::Mark) => output,
         Work::Nothing => true,
     }
 }
@@ -111,34 +61,24 @@ fn fits_output(x: Work, output: bool) -> bool
 fn is_working(t: Turn) -> bool
     ensures { result ≡ is_working t }
 {
-    match t {
-        Turn::Idle => false,
-        Turn::Waiting(_) => false,
-        Turn::Displaced(_) => false,
-        Turn::Working(_) => true,
-    }
+    matches!(t, Turn::Working(_))
 }
 
 // Whether the unit's request waits, displaced or not.
 fn is_waiting(t: Turn) -> bool
     ensures { result ≡ is_waiting t }
 {
-    match t {
-        Turn::Idle => false,
-        Turn::Waiting(_) => true,
-        Turn::Displaced(_) => true,
-        Turn::Working(_) => false,
-    }
+    matches!(t, Turn::Waiting(_) | Turn::Displaced(_))
 }
 
 // How many incomplete words the operation meets before one that is permanent.
+#[tactic(auto, unfolding(channel_outcomes::specs::Rules::row_of))]
 fn incomplete_limit(op: Op) -> u8
     ensures { result ≡ (row_of op).incomplete }
 {
     match op {
         Op::Read => 1,
-        Op::Write => 0,
-        Op::Mark => 0,
+        Op::Write | Op::Mark => 0,
     }
 }
 
@@ -146,10 +86,9 @@ fn incomplete_limit(op: Op) -> u8
 fn is_counted(q: Request) -> bool
     ensures { result ≡ is_counted q }
 {
-    let op = q.op;
-    let most = attempt_limit(op);
-    let words = incomplete_limit(op);
-    let noise = noise_limit(op);
+    let most = attempt_limit(q.op);
+    let words = incomplete_limit(q.op);
+    let noise = noise_limit(q.op);
     (1 <= q.attempts) & ((q.attempts <= most) & ((q.incomplete <= words) & (q.noise <= noise)))
 }
 
@@ -158,9 +97,7 @@ fn turn_right(t: Turn) -> bool
 {
     match t {
         Turn::Idle => true,
-        Turn::Waiting(q) => is_counted(q),
-        Turn::Displaced(q) => is_counted(q),
-        Turn::Working(q) => is_counted(q),
+        Turn::Waiting(q) | Turn::Displaced(q) | Turn::Working(q) => is_counted(q),
     }
 }
 
@@ -191,9 +128,7 @@ fn noise_right(t: Turn, p: Position) -> bool
 {
     match t {
         Turn::Idle => true,
-        Turn::Waiting(q) => noise_known(q, p),
-        Turn::Displaced(q) => noise_known(q, p),
-        Turn::Working(q) => noise_known(q, p),
+        Turn::Waiting(q) | Turn::Displaced(q) | Turn::Working(q) => noise_known(q, p),
     }
 }
 
@@ -201,10 +136,8 @@ fn noise_right(t: Turn, p: Position) -> bool
 fn position_right(x: Unit) -> bool
     ensures { result ≡ position_right x }
 {
-    let t = x.turn;
-    let p = x.position;
-    let inside = position_in_range(x.declared, p);
-    let noise = noise_right(t, p);
+    let inside = position_in_range(x.declared, x.position);
+    let noise = noise_right(x.turn, x.position);
     inside & noise
 }
 
@@ -212,21 +145,10 @@ fn position_right(x: Unit) -> bool
 fn unit_right(m: u8, x: Unit) -> bool
     ensures { result ≡ unit_right m x }
 {
-    let t = x.turn;
-    let idle = is_none(requested(t));
-    let counts = turn_right(t);
+    let idle = is_none(requested(x.turn));
+    let counts = turn_right(x.turn);
     let stands = position_right(x);
     (!x.declared | (0 < m)) & ((x.declared | idle) & (counts & stands))
-}
-
-// One if a read is requested, else 0.
-fn read_count(x: Work) -> u8
-    ensures { result ≡ one_if (read_of x) }
-{
-    if is_read(x) {
-        return 1;
-    }
-    0
 }
 
 // Whether the file is ready for what is requested of it: the direction, the buffer that a read alone has taken, a write's full block.
@@ -235,7 +157,7 @@ fn file_ready(x: Work, f: File) -> bool
 {
     let way = fits_output(x, f.output);
     let n = taken_count(f);
-    let read = read_count(x);
+    let read = u8::from(is_read(x));
     let write = is_write(x);
     let full = has_full(f);
     way & ((n == read) & (!write | full))
@@ -248,9 +170,7 @@ fn file_fits(channels: [Channel; CHANNELS], f: File) -> bool
     let c = channel_in(channels, f.channel as usize);
     let u = f.unit as usize;
     let known = is_declared(c, u);
-    let t = turn_of(c, u);
-    let x = requested(t);
-    let ready = file_ready(x, f);
+    let ready = file_ready(requested(turn_of(c, u)), f);
     !f.opened | (known & ready)
 }
 
@@ -258,13 +178,10 @@ fn file_fits(channels: [Channel; CHANNELS], f: File) -> bool
 pub fn files_fit(channels: [Channel; CHANNELS], files: [File; FILES]) -> bool
     ensures { result ≡ all_of (file_fits channels) files }
 {
-    let mut i: usize = 0;
-    while i < FILES {
-        let f = files[i];
-        if !file_fits(channels, f) {
+    for f in &files {
+        if !file_fits(channels, *f) {
             return false;
         }
-        i += 1;
     }
     true
 }
@@ -273,13 +190,10 @@ pub fn files_fit(channels: [Channel; CHANNELS], files: [File; FILES]) -> bool
 fn units_right(m: u8, units: [Unit; UNITS]) -> bool
     ensures { result ≡ all_of (unit_right m) units }
 {
-    let mut u: usize = 0;
-    while u < UNITS {
-        let x = units[u];
-        if !unit_right(m, x) {
+    for x in &units {
+        if !unit_right(m, *x) {
             return false;
         }
-        u += 1;
     }
     true
 }
@@ -289,14 +203,10 @@ fn work_count(units: [Unit; UNITS]) -> usize
     ensures { (result ≡ count_of unit_works units) × (result ≤ unit_count) }
 {
     let mut n: usize = 0;
-    let mut u: usize = 0;
-    while u < UNITS {
-        let x = units[u];
-        let t = x.turn;
-        if is_working(t) {
+    for x in &units {
+        if is_working(x.turn) {
             n += 1;
         }
-        u += 1;
     }
     n
 }
@@ -305,14 +215,10 @@ fn work_count(units: [Unit; UNITS]) -> usize
 fn any_waits(units: [Unit; UNITS]) -> bool
     ensures { result ≡ any_of unit_waits units }
 {
-    let mut u: usize = 0;
-    while u < UNITS {
-        let x = units[u];
-        let t = x.turn;
-        if is_waiting(t) {
+    for x in &units {
+        if is_waiting(x.turn) {
             return true;
         }
-        u += 1;
     }
     false
 }
@@ -330,13 +236,10 @@ fn works_right(frozen: bool, units: [Unit; UNITS]) -> bool
 fn is_served(files: [File; FILES], number: u8, unit: u8) -> bool
     ensures { result ≡ any_of (servesUnit number unit) files }
 {
-    let mut i: usize = 0;
-    while i < FILES {
-        let f = files[i];
-        if serves(f, number, unit) {
+    for f in &files {
+        if serves(*f, number, unit) {
             return true;
         }
-        i += 1;
     }
     false
 }
@@ -345,24 +248,17 @@ fn is_served(files: [File; FILES], number: u8, unit: u8) -> bool
 fn unit_served(files: [File; FILES], number: u8, unit: u8, x: Unit) -> bool
     ensures { result ≡ unit_served files number unit x }
 {
-    let t = x.turn;
-    if is_none(requested(t)) {
-        return true;
-    }
-    is_served(files, number, unit)
+    is_none(requested(x.turn)) || is_served(files, number, unit)
 }
 
 // Whether every unit with a request has an open file.
 fn units_served(files: [File; FILES], number: u8, units: [Unit; UNITS]) -> bool
     ensures { result ≡ all_from (unit_served files number) 0 units }
 {
-    let mut u: u8 = 0;
-    while (u as usize) < UNITS {
-        let x = units[u as usize];
-        if !unit_served(files, number, u, x) {
+    for u in 0..UNITS {
+        if !unit_served(files, number, u as u8, units[u]) {
             return false;
         }
-        u += 1;
     }
     true
 }
@@ -371,12 +267,11 @@ fn units_served(files: [File; FILES], number: u8, units: [Unit; UNITS]) -> bool
 fn channel_right(m: u8, frozen: bool, files: [File; FILES], number: u8, c: Channel) -> bool
     ensures { result ≡ channel_right m frozen files number c }
 {
-    let units = c.units;
     let mark = (c.mark as usize) < UNITS;
     let urgent = (c.urgent as usize) < UNITS;
-    let right = units_right(m, units);
-    let works = works_right(frozen, units);
-    let served = units_served(files, number, units);
+    let right = units_right(m, c.units);
+    let works = works_right(frozen, c.units);
+    let served = units_served(files, number, c.units);
     (mark & urgent) & (right & (works & served))
 }
 
@@ -389,13 +284,10 @@ pub fn channels_right(
 ) -> bool
     ensures { result ≡ all_from (channel_right m frozen files) 0 channels }
 {
-    let mut i: u8 = 0;
-    while (i as usize) < CHANNELS {
-        let c = channels[i as usize];
-        if !channel_right(m, frozen, files, i, c) {
+    for i in 0..CHANNELS {
+        if !channel_right(m, frozen, files, i as u8, channels[i]) {
             return false;
         }
-        i += 1;
     }
     true
 }

@@ -14,19 +14,7 @@ use word::BLOCK_NUMBERS;
 fn is_no_buffer(b: Buffer) -> bool
     ensures { result ≡ is_no_buffer b }
 {
-    let x = b.slot;
-    let empty = is_empty(x);
-    (b.number == 0) & empty
-}
-
-// One if it is so, else 0.
-fn one_if(b: bool) -> u8
-    ensures { (result ≡ one_if b) × (result ≤ 1) }
-{
-    if b {
-        return 1;
-    }
-    0
+    (b.number == 0) & is_empty(b.slot)
 }
 
 // A full block has 1 to B data words.
@@ -34,14 +22,8 @@ fn full_fits(size: u16, x: Slot) -> bool
     ensures { result ≡ full_fits size x }
 {
     match x {
-        Slot::Empty => true,
-        Slot::Taken => true,
-        Slot::Part(_) => true,
-        Slot::Full {
-            words,
-            at: _,
-            arrival: _,
-        } => (1 <= words) & (words <= size),
+        Slot::Full { words, .. } => (1 <= words) & (words <= size),
+        Slot::Empty | Slot::Taken | Slot::Part(_) => true,
     }
 }
 
@@ -50,17 +32,11 @@ fn part_fits(size: u16, rlen: u16, x: Slot) -> bool
     ensures { result ≡ part_fits size rlen x }
 {
     match x {
-        Slot::Empty => true,
-        Slot::Taken => true,
         Slot::Part(n) => {
-            let after = (n as u32) + (rlen as u32);
-            (rlen <= n) & (after <= size as u32)
+            let after = u32::from(n) + u32::from(rlen);
+            (rlen <= n) & (after <= u32::from(size))
         }
-        Slot::Full {
-            words: _,
-            at: _,
-            arrival: _,
-        } => true,
+        Slot::Empty | Slot::Taken | Slot::Full { .. } => true,
     }
 }
 
@@ -69,10 +45,8 @@ fn place_fits(x: Slot) -> bool
     ensures { result ≡ place_fits x }
 {
     match x {
-        Slot::Empty => true,
-        Slot::Taken => true,
-        Slot::Part(_) => true,
         Slot::Full { words, at, arrival } => { (at <= words) & ((arrival.failed == 0) | (at == 0)) }
+        Slot::Empty | Slot::Taken | Slot::Part(_) => true,
     }
 }
 
@@ -80,128 +54,80 @@ fn place_fits(x: Slot) -> bool
 fn is_unread(x: Slot) -> bool
     ensures { result ≡ is_unread x }
 {
-    let at = full_place(x);
-    let none = is_no_arrival(full_arrival(x));
-    (at == 0) & none
+    (full_place(x) == 0) & is_no_arrival(full_arrival(x))
 }
 
 // The sizes, the block number and how the blocks arrived are in their ranges.
 fn in_range(w: u16, f: File) -> bool
     ensures { result ≡ in_range w f }
 {
-    let number = f.block as u32;
-    let low = f.low;
-    let high = f.high;
-    let x = low.slot;
-    let y = high.slot;
     let sizes = sizes_fit(w, f.sequence, f.check, f.size, f.rlen);
-    let a = is_arrival(f.sequence, f.check, full_arrival(x));
-    let b = is_arrival(f.sequence, f.check, full_arrival(y));
-    sizes & ((number < BLOCK_NUMBERS) & (a & b))
+    let a = is_arrival(f.sequence, f.check, full_arrival(f.low.slot));
+    let b = is_arrival(f.sequence, f.check, full_arrival(f.high.slot));
+    sizes & ((u32::from(f.block) < BLOCK_NUMBERS) & (a & b))
 }
 
 // The file has its one or two buffers, of m.
 fn has_buffers(m: u8, f: File) -> bool
     ensures { result ≡ has_buffers m f }
 {
-    let low = f.low;
-    let high = f.high;
-    let first = low.number < m;
-    let second = (low.number < high.number) & (high.number < m);
-    let none = is_no_buffer(high);
+    let first = f.low.number < m;
     if f.double {
-        return first & second;
+        first & ((f.low.number < f.high.number) & (f.high.number < m))
+    } else {
+        first & is_no_buffer(f.high)
     }
-    first & none
 }
 
 // How many of the file's buffers are taken.
 pub fn taken_count(f: File) -> u8
     ensures { (result ≡ taken_count f) × (result ≤ 2) }
 {
-    let low = f.low;
-    let high = f.high;
-    let x = low.slot;
-    let y = high.slot;
-    let a = one_if(is_taken(x));
-    let b = one_if(is_taken(y));
-    a + b
+    u8::from(is_taken(f.low.slot)) + u8::from(is_taken(f.high.slot))
 }
 
 // None is taken in an output file, and one at most in an input file.
 fn taken_right(f: File) -> bool
     ensures { result ≡ taken_right f }
 {
-    let n = taken_count(f);
-    let most = one_if(!f.output);
-    n <= most
+    taken_count(f) <= u8::from(!f.output)
 }
 
 fn full_right(f: File) -> bool
     ensures { result ≡ full_right f }
 {
-    let low = f.low;
-    let high = f.high;
-    let x = low.slot;
-    let y = high.slot;
-    let a = full_fits(f.size, x);
-    let b = full_fits(f.size, y);
-    a & b
+    full_fits(f.size, f.low.slot) & full_fits(f.size, f.high.slot)
 }
 
 // How many of the file's buffers are part-filled.
 fn parts_held(f: File) -> u8
     ensures { result ≡ parts_held f }
 {
-    let low = f.low;
-    let high = f.high;
-    let x = low.slot;
-    let y = high.slot;
-    let a = one_if(is_part(x));
-    let b = one_if(is_part(y));
-    a + b
+    u8::from(is_part(f.low.slot)) + u8::from(is_part(f.high.slot))
 }
 
 // None is part-filled in an input file, and one at most in an output file.
 fn part_right(f: File) -> bool
     ensures { result ≡ part_right f }
 {
-    let low = f.low;
-    let high = f.high;
-    let x = low.slot;
-    let y = high.slot;
-    let n = parts_held(f);
-    let most = one_if(f.output);
-    let a = part_fits(f.size, f.rlen, x);
-    let b = part_fits(f.size, f.rlen, y);
-    (n <= most) & (a & b)
+    let a = part_fits(f.size, f.rlen, f.low.slot);
+    let b = part_fits(f.size, f.rlen, f.high.slot);
+    (parts_held(f) <= u8::from(f.output)) & (a & b)
 }
 
 fn place_right(f: File) -> bool
     ensures { result ≡ place_right f }
 {
-    let low = f.low;
-    let high = f.high;
-    let x = low.slot;
-    let y = high.slot;
-    let a = place_fits(x);
-    let b = place_fits(y);
-    a & b
+    place_fits(f.low.slot) & place_fits(f.high.slot)
 }
 
 // What has no meaning in an open file is zero.
 fn rest_is_zero(f: File) -> bool
     ensures { result ≡ rest_is_zero f }
 {
-    let low = f.low;
-    let high = f.high;
-    let x = low.slot;
-    let y = high.slot;
-    let a = is_full(x);
-    let b = is_full(y);
-    let c = is_unread(x);
-    let d = is_unread(y);
-    (!f.turned | (a & b)) & (!f.output | (!f.marked & (c & d)))
+    let full = is_full(f.low.slot) & is_full(f.high.slot);
+    let unread = is_unread(f.low.slot) & is_unread(f.high.slot);
+    (!f.turned | full) & (!f.output | (!f.marked & unread))
 }
 
 // Whether an open file is sound.
@@ -222,10 +148,8 @@ fn open_sound(m: u8, w: u16, f: File) -> bool
 fn is_blank(f: File) -> bool
     ensures { result ≡ is_blank f }
 {
-    let low = f.low;
-    let high = f.high;
-    let a = is_no_buffer(low);
-    let b = is_no_buffer(high);
+    let a = is_no_buffer(f.low);
+    let b = is_no_buffer(f.high);
     let unit = (f.channel == 0) & (f.unit == 0);
     let choices = !f.output & (!f.double & (!f.sequence & !f.check));
     let sizes = (f.size == 0) & (f.rlen == 0);
@@ -238,19 +162,18 @@ fn file_sound(m: u8, w: u16, f: File) -> bool
     ensures { result ≡ file_sound m w f }
 {
     if f.opened {
-        return open_sound(m, w, f);
+        open_sound(m, w, f)
+    } else {
+        is_blank(f)
     }
-    is_blank(f)
 }
 
 // Whether two open files share a buffer.
 fn share_buffer(f: File, g: File) -> bool
     ensures { result ≡ share_buffer f g }
 {
-    let low = f.low.number as usize;
-    let high = f.high.number as usize;
-    let a = holds(g, low);
-    let b = holds(g, high);
+    let a = holds(g, f.low.number as usize);
+    let b = holds(g, f.high.number as usize);
     f.opened & (a | (f.double & b))
 }
 
@@ -258,22 +181,17 @@ fn share_buffer(f: File, g: File) -> bool
 fn are_apart(f: File, g: File) -> bool
     ensures { result ≡ apart f g }
 {
-    let a = share_buffer(f, g);
-    let b = serves(g, f.channel, f.unit);
-    !a & !(f.opened & b)
+    !share_buffer(f, g) & !(f.opened & serves(g, f.channel, f.unit))
 }
 
 // Whether every file is sound by itself.
 fn each_sound(m: u8, w: u16, files: [File; FILES]) -> bool
     ensures { result ≡ all_of (file_sound m w) files }
 {
-    let mut i: usize = 0;
-    while i < FILES {
-        let f = files[i];
-        if !file_sound(m, w, f) {
+    for f in &files {
+        if !file_sound(m, w, *f) {
             return false;
         }
-        i += 1;
     }
     true
 }
@@ -282,13 +200,10 @@ fn each_sound(m: u8, w: u16, files: [File; FILES]) -> bool
 fn apart_from(f: File, files: [File; FILES], k: usize) -> bool
     ensures { result ≡ all_of (apart f) (drop k files) }
 {
-    let mut i = k;
-    while i < FILES {
-        let g = files[i];
-        if !are_apart(f, g) {
+    for i in k..FILES {
+        if !are_apart(f, files[i]) {
             return false;
         }
-        i += 1;
     }
     true
 }
@@ -297,13 +212,10 @@ fn apart_from(f: File, files: [File; FILES], k: usize) -> bool
 fn all_apart(files: [File; FILES]) -> bool
     ensures { result ≡ all_pairs apart files }
 {
-    let mut i: usize = 0;
-    while i < FILES {
-        let f = files[i];
-        if !apart_from(f, files, i + 1) {
+    for i in 0..FILES {
+        if !apart_from(files[i], files, i + 1) {
             return false;
         }
-        i += 1;
     }
     true
 }
@@ -312,7 +224,5 @@ fn all_apart(files: [File; FILES]) -> bool
 pub fn files_sound(m: u8, w: u16, files: [File; FILES]) -> bool
     ensures { result ≡ files_sound m w files }
 {
-    let a = each_sound(m, w, files);
-    let b = all_apart(files);
-    a & b
+    each_sound(m, w, files) & all_apart(files)
 }

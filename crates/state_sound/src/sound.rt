@@ -14,15 +14,12 @@ use state::State;
 fn is_judged(s: State) -> bool
     ensures { result ≡ judged_state s }
 {
-    let files = s.files;
-    let channels = s.channels;
-    let routines = s.routines;
     let pool = pool_sound(s.m, s.w);
-    let own = files_sound(s.m, s.w, files);
-    let fits = files_fit(channels, files);
-    let turns = channels_right(s.m, s.frozen, files, channels);
-    let free = free_mask(s.m, files);
-    let right = routines_right(channels, s.frozen, routines);
+    let own = files_sound(s.m, s.w, s.files);
+    let fits = files_fit(s.channels, s.files);
+    let turns = channels_right(s.m, s.frozen, s.files, s.channels);
+    let free = free_mask(s.m, s.files);
+    let right = routines_right(s.channels, s.frozen, s.routines);
     pool & (own & (fits & (turns & ((s.free == free) & right))))
 }
 

@@ -10,4 +10,4 @@ pub returns-then-a-ne0 : goal.returns-then-a-ne0
 returns-then-a-ne0 c = let long = c.well_formed.1.1.0.1.1.0.1.0.1 in let is : c.ask_moved-a.result ≡ ask_moved c.args.wrong c.args.f (unit_at c.args.c c.args.f.unit) (desk_of c.args.c) c.args.op c.args.priority c.args.naming c.args.waits c.args.frozen = rw (← c.unit_of-x.ensures, ← c.desk_of-d.ensures) c.ask_moved-a.ensures in from_refused c.args.wrong c.args.f c.args.c long c.args.op c.args.priority c.args.naming c.args.waits c.args.frozen c.ask_moved-a.result is c.if-a-ne0.true
 
 pub returns : goal.returns
-returns c = let long = c.well_formed.1.1.0.1.1.0.1.0.1 in let is : c.ask_moved-a.result ≡ ask_moved c.args.wrong c.args.f (unit_at c.args.c c.args.f.unit) (desk_of c.args.c) c.args.op c.args.priority c.args.naming c.args.waits c.args.frozen = rw (← c.unit_of-x.ensures, ← c.desk_of-d.ensures) c.ask_moved-a.ensures in rw (c.moved_to-channel.ensures, c.asked_file-file.ensures) (from_taken c.args.wrong c.args.f c.args.c long c.args.op c.args.priority c.args.naming c.args.waits c.args.frozen c.ask_moved-a.result is c.if-a-ne0.false)
+returns c = let long = c.well_formed.1.1.0.1.1.0.1.0.1 in let is : c.ask_moved-a.result ≡ ask_moved c.args.wrong c.args.f (unit_at c.args.c c.args.f.unit) (desk_of c.args.c) c.args.op c.args.priority c.args.naming c.args.waits c.args.frozen = rw (← c.unit_of-x.ensures, ← c.desk_of-d.ensures) c.ask_moved-a.ensures in rw (c.moved_to.ensures, c.asked_file.ensures) (from_taken c.args.wrong c.args.f c.args.c long c.args.op c.args.priority c.args.naming c.args.waits c.args.frozen c.ask_moved-a.result is c.if-a-ne0.false)

@@ -7,6 +7,6 @@ pub returns-then-op-eq-READ : goal.returns-then-op-eq-READ
 unfolding asked_file
 returns-then-op-eq-READ c = rw (eq-eqb _ _ c.if-op-eq-READ.true) c.took_buffer.ensures
 
-pub returns : goal.returns
+pub returns-else-op-eq-READ : goal.returns-else-op-eq-READ
 unfolding asked_file
-returns c = rw (ne_eqb _ _ c.if-op-eq-READ.false)
+returns-else-op-eq-READ c = rw (ne_eqb _ _ c.if-op-eq-READ.false)

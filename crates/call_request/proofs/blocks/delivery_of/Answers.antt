@@ -6,5 +6,5 @@ use Rattle.call_request.proofs.blocks.delivery_of.Goals as goal
 pub returns-then-is_delivery : goal.returns-then-is_delivery
 returns-then-is_delivery c = sym (cond_true _ _ (sym c.is_delivery.ensures ∙ c.if-is_delivery.true))
 
-pub returns : goal.returns
-returns c = sym (cond_false _ _ (sym c.is_delivery.ensures ∙ c.if-is_delivery.false))
+pub returns-else-is_delivery : goal.returns-else-is_delivery
+returns-else-is_delivery c = sym (cond_false _ _ (sym c.is_delivery.ensures ∙ c.if-is_delivery.false))

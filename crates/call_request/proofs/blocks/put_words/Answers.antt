@@ -5,7 +5,7 @@ use Rattle.call_request.proofs.blocks.put_words.Goals as goal
 
 pub returns-then-is_delivery : goal.returns-then-is_delivery
 unfolding reported_area
-returns-then-is_delivery c = rw (sym c.is_delivery.ensures ∙ c.if-is_delivery.true, ← c.taken_start-at.ensures.0) c.copy_in.ensures.area_after
+returns-then-is_delivery c = rw (sym c.is_delivery.ensures ∙ c.if-is_delivery.true, ← c.taken_start.ensures.0) c.copy_in.ensures.area_after
 
 pub returns-else-is_delivery : goal.returns-else-is_delivery
 unfolding reported_area

@@ -3,4 +3,4 @@ use mathlib.Core.Path.{◌∙◌}
 use Rattle.call_request.proofs.named.asked_routines.Goals as goal
 
 pub returns : goal.returns
-returns c = c.asked.ensures ∙ rw c.due_of-d.ensures
+returns c = c.asked.ensures ∙ rw c.due_of.ensures

@@ -3,10 +3,10 @@ use mathlib.Core.Path.{sym, ◌∙◌}
 use Rattle.call_request.specs.Named.{reported_routines}
 use Rattle.call_request.proofs.named.reported_routines.Goals as goal
 
-pub returns-then-answers : goal.returns-then-answers
+pub returns-then-answers_request : goal.returns-then-answers_request
 unfolding reported_routines
-returns-then-answers c = rw (sym c.answers_request-answers.ensures ∙ c.if-answers.true) c.answered.ensures
+returns-then-answers_request c = rw (sym c.answers_request.ensures ∙ c.if-answers_request.true) c.answered.ensures
 
-pub returns : goal.returns
+pub returns-else-answers_request : goal.returns-else-answers_request
 unfolding reported_routines
-returns c = rw (sym c.answers_request-answers.ensures ∙ c.if-answers.false)
+returns-else-answers_request c = rw (sym c.answers_request.ensures ∙ c.if-answers_request.false)

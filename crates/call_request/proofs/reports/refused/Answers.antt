@@ -3,4 +3,4 @@
 use Rattle.call_request.proofs.reports.refused.Goals as goal
 
 pub returns : goal.returns
-returns c = rw (c.rest-change.ensures, c.not_checked-found.ensures)
+returns c = rw (c.rest.ensures, c.not_checked.ensures)

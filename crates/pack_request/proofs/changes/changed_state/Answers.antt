@@ -5,8 +5,8 @@ use Rattle.pack_request.proofs.changes.changed_state.Goals as goal
 
 pub returns-then-refusal-eq0 : goal.returns-then-refusal-eq0
 unfolding changed_state
-returns-then-refusal-eq0 c = rw (eq-eqb _ _ c.if-refusal-eq0.true, ← c.with_channel-t.ensures, ← c.with_file-u.ensures) c.with_routines.ensures
+returns-then-refusal-eq0 c = rw (eq-eqb _ _ c.if-refusal-eq0.true, ← c.with_channel.ensures, ← c.with_file.ensures) c.with_routines.ensures
 
-pub returns : goal.returns
+pub returns-else-refusal-eq0 : goal.returns-else-refusal-eq0
 unfolding changed_state
-returns c = rw (ne_eqb _ _ c.if-refusal-eq0.false)
+returns-else-refusal-eq0 c = rw (ne_eqb _ _ c.if-refusal-eq0.false)

@@ -3,4 +3,4 @@
 use Rattle.pack_routine.proofs.ons.refused.Goals as goal
 
 pub returns : goal.returns
-returns c = simp c.main_program-program.ensures
+returns c = simp c.main_program.ensures

@@ -5,4 +5,4 @@ use Rattle.pack_routine.proofs.returns.give_back.Goals as goal
 
 pub returns : goal.returns
 unfolding return_by
-returns c = c.ran_in.ensures ∙ rw (c.return_on-x.ensures, c.is_sound-whole.ensures)
+returns c = c.ran_in.ensures ∙ rw (c.return_on.ensures, c.is_sound-whole.ensures)

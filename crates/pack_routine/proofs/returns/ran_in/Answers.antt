@@ -3,4 +3,4 @@
 use Rattle.pack_routine.proofs.returns.ran_in.Goals as goal
 
 pub returns : goal.returns
-returns c = rw c.with_routines-state.ensures
+returns c = rw c.with_routines.ensures

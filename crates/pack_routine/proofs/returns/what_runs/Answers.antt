@@ -5,4 +5,4 @@ use Rattle.pack_routine.proofs.returns.what_runs.Goals as goal
 
 pub returns : goal.returns
 unfolding running_by
-returns c = c.ran_in.ensures ∙ rw (c.running_on-x.ensures, c.is_sound-whole.ensures)
+returns c = c.ran_in.ensures ∙ rw (c.running_on.ensures, c.is_sound-whole.ensures)

@@ -9,4 +9,4 @@ returns-then-no-ne0 c = answers_refused _ _ _ _ c.state_refusal-no.ensures c.if-
 
 pub returns : goal.returns
 unfolding freeze_by
-returns c = answers_accepted _ _ _ _ _ c.state_refusal-no.ensures c.if-no-ne0.false c.frozen_state-frozen.ensures
+returns c = answers_accepted _ _ _ _ _ c.state_refusal-no.ensures c.if-no-ne0.false c.frozen_state.ensures

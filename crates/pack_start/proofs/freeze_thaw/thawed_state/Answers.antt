@@ -4,4 +4,4 @@ use Rattle.pack_start.proofs.freeze_thaw.thawed_state.Goals as goal
 
 pub returns : goal.returns
 unfolding thawed_state
-returns c = simp (c.all_started-started.ensures, c.looked-routines.ensures)
+returns c = simp (c.all_started.ensures, c.looked.ensures)

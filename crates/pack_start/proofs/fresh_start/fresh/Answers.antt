@@ -10,4 +10,4 @@ returns-then-no-ne0 c = answers_refused _ _ _ _ (c.fresh_refusal-no.ensures ∙ 
 
 pub returns : goal.returns
 unfolding fresh_by
-returns c = answers_accepted _ _ _ _ _ (c.fresh_refusal-no.ensures ∙ simp c.is_sound-whole.ensures) c.if-no-ne0.false c.fresh_state-t.ensures
+returns c = answers_accepted _ _ _ _ _ (c.fresh_refusal-no.ensures ∙ simp c.is_sound-whole.ensures) c.if-no-ne0.false c.fresh_state.ensures

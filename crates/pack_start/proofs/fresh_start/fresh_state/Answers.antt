@@ -4,4 +4,4 @@ use Rattle.pack_start.proofs.fresh_start.fresh_state.Goals as goal
 
 pub returns : goal.returns
 unfolding fresh_state
-returns c = simp (c.fresh-a.ensures, c.fresh-b.ensures, c.fresh-c.ensures, c.fresh-d.ensures, c.fresh-e.ensures, c.closed_file-f.ensures, c.all_free-free.ensures, c.no_routines-routines.ensures)
+returns c = simp (c.fresh-a.ensures, c.fresh-b.ensures, c.fresh-c.ensures, c.fresh-d.ensures, c.fresh-e.ensures, c.closed_file.ensures, c.all_free.ensures, c.no_routines.ensures)

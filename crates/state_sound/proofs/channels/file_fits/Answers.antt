@@ -4,4 +4,4 @@ use Rattle.state_sound.proofs.channels.file_fits.Goals as goal
 
 pub returns : goal.returns
 unfolding file_fits
-returns c = simp (c.channel_in-c.ensures, c.is_declared-known.ensures, c.turn_of-t.ensures, c.requested-x.ensures, c.file_ready-ready.ensures)
+returns c = simp (c.channel_in-c.ensures, c.is_declared-known.ensures, c.turn_of.ensures, c.requested.ensures, c.file_ready-ready.ensures)

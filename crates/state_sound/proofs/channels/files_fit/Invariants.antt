@@ -1,13 +1,8 @@
 use mathlib.Core.Path.{◌≡◌}
-use Prim.Native.Nat.{◌≤◌, ◌-◌}
-use lib.ListN.{length, drop}
+use lib.ListN.{drop}
 use Rattle.area.specs.Lists.{all_of}
-use Rattle.pool.specs.Free.{file_count}
 use Rattle.state_sound.specs.Judged.{file_fits}
 use Rattle.state_sound.proofs.channels.files_fit.Given as goal
 
-abbrev pub invariant-loop-i : goal.invariant-loop-i
-invariant-loop-i l = (l.i ≤ file_count) × (length l.files ≡ file_count) × (all_of (file_fits l.channels) l.files ≡ all_of (file_fits l.channels) (drop l.i l.files))
-
-abbrev pub decreases-loop-i : goal.decreases-loop-i
-decreases-loop-i l = file_count - l.i
+abbrev pub invariant-loop-f : goal.invariant-loop-f
+invariant-loop-f l = all_of (file_fits l.channels) l.f-items ≡ all_of (file_fits l.channels) (drop l.f-index l.f-items)

@@ -3,5 +3,4 @@
 use Rattle.state_sound.proofs.channels.is_counted.Goals as goal
 
 pub returns : goal.returns
-returns c = let x = c in
-    simp (x.attempt_limit-most.ensures, x.incomplete_limit-words.ensures, x.noise_limit-noise.ensures)
+returns c = simp (c.attempt_limit-most.ensures, c.incomplete_limit-words.ensures, c.noise_limit-noise.ensures)

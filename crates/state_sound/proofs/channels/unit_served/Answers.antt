@@ -6,6 +6,6 @@ pub returns-then-is_none : goal.returns-then-is_none
 unfolding unit_served
 returns-then-is_none c = rw (← c.requested.ensures, ← c.is_none.ensures, c.if-is_none.true)
 
-pub returns : goal.returns
+pub returns-else-is_none : goal.returns-else-is_none
 unfolding unit_served
-returns c = rw (← c.requested.ensures, ← c.is_none.ensures, c.if-is_none.false) c.is_served.ensures
+returns-else-is_none c = rw (← c.requested.ensures, ← c.is_none.ensures, c.if-is_none.false) c.is_served.ensures

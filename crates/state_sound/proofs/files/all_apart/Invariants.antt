@@ -1,5 +1,4 @@
 use mathlib.Core.Path.{◌≡◌}
-use Prim.Native.Nat.{◌≤◌, ◌-◌}
 use lib.ListN.{length, drop}
 use Rattle.area.specs.Lists.{all_pairs}
 use Rattle.pool.specs.Free.{file_count}
@@ -7,7 +6,4 @@ use Rattle.state_sound.specs.Files.{apart}
 use Rattle.state_sound.proofs.files.all_apart.Given as goal
 
 abbrev pub invariant-loop-i : goal.invariant-loop-i
-invariant-loop-i l = (l.i ≤ file_count) × (length l.files ≡ file_count) × (all_pairs apart l.files ≡ all_pairs apart (drop l.i l.files))
-
-abbrev pub decreases-loop-i : goal.decreases-loop-i
-decreases-loop-i l = file_count - l.i
+invariant-loop-i l = (length l.files ≡ file_count) × (all_pairs apart l.files ≡ all_pairs apart (drop l.i l.files))

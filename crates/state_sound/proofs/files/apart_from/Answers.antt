@@ -1,7 +1,7 @@
 -- `state_sound::apart_from` meets its contract, branch by branch, from the contract of `are_apart`. Assumes nothing.
 use borrow.Author.Rules.{rules}
 use mathlib.Core.Path.{refl, sym, ◌∙◌}
-use Prim.Native.Nat.{◌≤◌, ◌<◌, ◌-◌}
+use Prim.Native.Nat.{◌≤◌, ◌<◌}
 use native.Mathlib.Omega.{arith}
 use lib.ListN.{length}
 use Rattle.area.proofs.Walks.{all_hit, all_miss, all_done}
@@ -11,21 +11,9 @@ use Rattle.state_sound.proofs.files.apart_from.Goals as goal
 pub loop-i-init : goal.loop-i-init
 loop-i-init c = (search rules, refl)
 
-pub offset_bounds-files-i : goal.offset_bounds-files-i
-offset_bounds-files-i c = omega arith
-
-pub bounds-files-i : goal.bounds-files-i
-bounds-files-i c = omega arith
-
 pub returns-then-not-are_apart : goal.returns-then-not-are_apart
 returns-then-not-are_apart c = let h : c.loop-i.i < length c.args.files = omega arith in
     all_hit _ _ _ _ _ h c.loop-i.invariant.1 (sym c.are_apart.ensures ∙ c.if-not-are_apart.true)
-
-pub overflow_add-i : goal.overflow_add-i
-overflow_add-i c = omega arith
-
-pub loop-i-smaller : goal.loop-i-smaller
-loop-i-smaller c = omega arith
 
 pub loop-i-preserved : goal.loop-i-preserved
 loop-i-preserved c = let h : c.loop-i.i < length c.args.files = omega arith in

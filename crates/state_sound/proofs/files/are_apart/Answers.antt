@@ -4,4 +4,4 @@ use Rattle.state_sound.proofs.files.are_apart.Goals as goal
 
 pub returns : goal.returns
 unfolding apart
-returns c = simp (c.share_buffer-a.ensures, c.serves-b.ensures)
+returns c = simp (c.share_buffer.ensures, c.serves.ensures)

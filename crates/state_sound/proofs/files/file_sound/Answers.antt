@@ -8,6 +8,6 @@ pub returns-then-f : goal.returns-then-f
 unfolding file_sound
 returns-then-f c = c.open_sound.ensures ∙ sym (cond_true _ _ c.if-f.true)
 
-pub returns : goal.returns
+pub returns-else-f : goal.returns-else-f
 unfolding file_sound
-returns c = c.is_blank.ensures ∙ sym (cond_false _ _ c.if-f.false)
+returns-else-f c = c.is_blank.ensures ∙ sym (cond_false _ _ c.if-f.false)

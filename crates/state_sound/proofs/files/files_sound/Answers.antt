@@ -4,4 +4,4 @@ use Rattle.state_sound.proofs.files.files_sound.Goals as goal
 
 pub returns : goal.returns
 unfolding files_sound
-returns c = simp (c.each_sound-a.ensures, c.all_apart-b.ensures)
+returns c = simp (c.each_sound.ensures, c.all_apart.ensures)

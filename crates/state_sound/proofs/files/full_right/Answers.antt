@@ -3,4 +3,4 @@
 use Rattle.state_sound.proofs.files.full_right.Goals as goal
 
 pub returns : goal.returns
-returns c = simp (c.full_fits-a.ensures, c.full_fits-b.ensures)
+returns c = simp (c.full_fits.ensures, c.full_fits-2.ensures)

@@ -4,6 +4,7 @@ use Rattle.state_sound.proofs.files.in_range.Goals as goal
 
 pub returns : goal.returns
 returns c = simp (
+  c.from.ensures,
   c.sizes_fit-sizes.ensures,
   c.is_arrival-a.ensures,
   c.full_arrival.ensures,

@@ -3,4 +3,4 @@
 use Rattle.state_sound.proofs.files.is_no_buffer.Goals as goal
 
 pub returns : goal.returns
-returns c = simp c.is_empty-empty.ensures
+returns c = simp c.is_empty.ensures

@@ -3,4 +3,4 @@
 use Rattle.state_sound.proofs.files.is_unread.Goals as goal
 
 pub returns : goal.returns
-returns c = simp (c.full_place-at.ensures, c.is_no_arrival-none.ensures, c.full_arrival.ensures)
+returns c = simp (c.full_place.ensures, c.is_no_arrival.ensures, c.full_arrival.ensures)

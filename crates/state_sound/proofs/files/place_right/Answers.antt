@@ -3,4 +3,4 @@
 use Rattle.state_sound.proofs.files.place_right.Goals as goal
 
 pub returns : goal.returns
-returns c = simp (c.place_fits-a.ensures, c.place_fits-b.ensures)
+returns c = simp (c.place_fits.ensures, c.place_fits-2.ensures)

@@ -3,4 +3,4 @@
 use Rattle.state_sound.proofs.files.rest_is_zero.Goals as goal
 
 pub returns : goal.returns
-returns c = simp (c.is_full-a.ensures, c.is_full-b.ensures, c.is_unread-c.ensures, c.is_unread-d.ensures)
+returns c = simp (c.is_full.ensures, c.is_full-2.ensures, c.is_unread.ensures, c.is_unread-2.ensures)

@@ -1,6 +1,6 @@
--- `state_sound::taken_right` meets its contract, from the contracts of `one_if` and `taken_count`. Assumes nothing.
-
+-- `state_sound::taken_right` meets its contract, from the contract of `taken_count`. Assumes nothing.
+use Rattle.state_sound.proofs.Truths.{from_one_if}
 use Rattle.state_sound.proofs.files.taken_right.Goals as goal
 
 pub returns : goal.returns
-returns c = simp (c.taken_count-n.ensures.0, c.one_if-most.ensures.0)
+returns c = simp (c.taken_count.ensures.0, c.from.ensures, from_one_if)
