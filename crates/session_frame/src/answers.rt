@@ -28,9 +28,9 @@ fn digit(n: u8) -> u8
     ensures { result ≡ digit_of n }
 {
     if n < 10 {
-        return n + 48;
+        return n + b'0';
     }
-    n + 55
+    n - 10 + b'A'
 }
 
 // The low byte of a number.
@@ -45,11 +45,8 @@ fn write_byte(out: &mut [u8], at: usize, b: u8)
     requires { at + 2 ≤ length out.old }
     ensures { out.new ≡ paste at (byte_digits b) out.old }
 {
-    let high = digit(b / 16);
-    let low = digit(b % 16);
-    let next = at + 1;
-    out[at] = high;
-    out[next] = low;
+    out[at] = digit(b / 16);
+    out[at + 1] = digit(b % 16);
 }
 
 // A word's ten digits, where they fit.
@@ -69,16 +66,13 @@ fn put_words(out: &mut [u8], at: usize, words: &[u64]) -> usize
     ensures value { result ≡ place_after at (concat_map word_digits words.now) out.old }
     ensures out_after { out.new ≡ pasted_in at (concat_map word_digits words.now) out.old }
 {
-    let room = words_fit(out.len(), at, words.len());
-    if !room {
+    if !words_fit(out.len(), at, words.len()) {
         return at;
     }
     let mut to = at;
-    let mut i = 0;
-    while i < words.len() {
-        write_word(out, to, words[i]);
+    for word in words {
+        write_word(out, to, *word);
         to += 10;
-        i += 1;
     }
     to
 }
@@ -87,10 +81,9 @@ fn put_words(out: &mut [u8], at: usize, words: &[u64]) -> usize
 fn brief(count: usize, first: u8, second: u8, fourth: u8, worded: bool) -> Lead
     ensures { result ≡ brief_lead count first second fourth worded }
 {
-    let bytes = [first, second, 0, fourth, 0, 0, 0, 0, 0, 0, 0, 0, 0, 0, 0, 0];
     Lead {
         count,
-        bytes,
+        bytes: [first, second, 0, fourth, 0, 0, 0, 0, 0, 0, 0, 0, 0, 0, 0, 0],
         worded,
     }
 }
@@ -99,31 +92,30 @@ fn brief(count: usize, first: u8, second: u8, fourth: u8, worded: bool) -> Lead
 fn full(count: usize, second: u8, found: Checked, last: u8) -> Lead
     ensures { result ≡ full_lead count second found last }
 {
-    let sum = found.sum as u64;
-    let number = found.number as u64;
-    let sumread = found.sumread as u64;
-    let numberread = found.numberread as u64;
-    let bytes = [
-        0,
-        second,
-        found.error,
-        low(sum >> 24),
-        low(sum >> 16),
-        low(sum >> 8),
-        low(sum),
-        low(number >> 8),
-        low(number),
-        low(sumread >> 24),
-        low(sumread >> 16),
-        low(sumread >> 8),
-        low(sumread),
-        low(numberread >> 8),
-        low(numberread),
-        last,
-    ];
+    let sum = u64::from(found.sum);
+    let number = u64::from(found.number);
+    let sumread = u64::from(found.sumread);
+    let numberread = u64::from(found.numberread);
     Lead {
         count,
-        bytes,
+        bytes: [
+            0,
+            second,
+            found.error,
+            low(sum >> 24),
+            low(sum >> 16),
+            low(sum >> 8),
+            low(sum),
+            low(number >> 8),
+            low(number),
+            low(sumread >> 24),
+            low(sumread >> 16),
+            low(sumread >> 8),
+            low(sumread),
+            low(numberread >> 8),
+            low(numberread),
+            last,
+        ],
         worded: false,
     }
 }
@@ -141,30 +133,19 @@ fn program_byte(p: Program, n: u8) -> u8
     n
 }
 
-// 1 for yes, 0 for no.
-fn flag(yes: bool) -> u8
-    ensures { result ≡ cond yes 1 0 }
-{
-    if yes {
-        return 1;
-    }
-    0
-}
-
 // The lead of a return: 00, whether a routine was entered, and what runs.
 fn returned(entered: bool, p: Program) -> Lead
     ensures { result ≡ returned_lead entered p }
 {
-    let how = flag(entered);
     let channel = program_byte(p, p.channel);
     let unit = program_byte(p, p.unit);
     let routine = program_byte(p, p.routine);
-    let bytes = [
-        0, how, channel, unit, routine, 0, 0, 0, 0, 0, 0, 0, 0, 0, 0, 0,
-    ];
+    let entered = u8::from(entered);
     Lead {
         count: 5,
-        bytes,
+        bytes: [
+            0, entered, channel, unit, routine, 0, 0, 0, 0, 0, 0, 0, 0, 0, 0, 0,
+        ],
         worded: false,
     }
 }
@@ -176,12 +157,11 @@ fn runs(p: Program) -> Lead
     let channel = program_byte(p, p.channel);
     let unit = program_byte(p, p.unit);
     let routine = program_byte(p, p.routine);
-    let bytes = [
-        0, channel, unit, routine, 0, 0, 0, 0, 0, 0, 0, 0, 0, 0, 0, 0,
-    ];
     Lead {
         count: 4,
-        bytes,
+        bytes: [
+            0, channel, unit, routine, 0, 0, 0, 0, 0, 0, 0, 0, 0, 0, 0, 0,
+        ],
         worded: false,
     }
 }
@@ -213,17 +193,12 @@ fn write_lead(bytes: &[u8], out: &mut [u8]) -> usize
     ensures { (result ≡ 2 * length bytes.now) × (out.new ≡ paste 0 (concat_map byte_digits bytes.now) out.old) }
 {
     let mut to = 0;
-    let mut i = 0;
-    while i < bytes.len() {
-        write_byte(out, to, bytes[i]);
+    for byte in bytes {
+        write_byte(out, to, *byte);
         to += 2;
-        i += 1;
     }
     to
 }
-
-// The line feed.
-const FEED: u8 = 10;
 
 // The words that an answer shows: all or none.
 fn shown(words: &[u64], worded: bool) -> &[u64]
@@ -254,15 +229,12 @@ pub fn write_answer(a: Answer, words: &[u64], out: &mut [u8]) -> usize
     ensures out_after { out.new ≡ pasted_in 0 (answer_text a words.now) out.old }
 {
     let lead = lead_of(a);
-    let bytes = lead.bytes;
     let part = shown(words, lead.worded);
-    let room = line_fits(out.len(), lead.count, part.len());
-    if !room {
+    if !line_fits(out.len(), lead.count, part.len()) {
         return 0;
     }
-    let n = lead.count;
-    let mid = write_lead(&bytes[..n], out);
-    let end = crate::answers::put_words(out, mid, part);
-    out[end] = FEED;
+    let mid = write_lead(&lead.bytes[..lead.count], out);
+    let end = put_words(out, mid, part);
+    out[end] = b'\n';
     end + 1
 }

@@ -4,7 +4,7 @@ ghost use Rattle.std.specs.Prelude.{◌≡◌, ◌<◌, length};
 ghost use Rattle.area.specs.Lists.{all_of};
 ghost use Rattle.session_frame.specs.Digits.{is_digit, value_of, bytes_of};
 ghost use Rattle.session_frame.specs.Fields.{byte_at, size_at, word_at};
-ghost use Rattle.session_frame.specs.Frames.{sized, worded, word_count, fresh_from, open_from, ask_with, named_as, naming_in, ask_from, shows_length, report_with, report_from, words_at, put_from, is_text, kind_of, frame_of, words_from};
+ghost use Rattle.session_frame.specs.Frames.{sized, worded, word_count, fresh_from, open_from, ask_with, naming_in, ask_from, shows_length, report_with, report_from, words_at, put_from, is_text, kind_of, frame_of, words_from};
 ghost use Rattle.area.specs.Parts.{paste};
 
 use crate::{AskFrame, Frame, FreshFrame, LONGEST, Masks, OpenFrame, PutFrame, ReportFrame};
@@ -15,20 +15,18 @@ use routines::{Naming, no_naming};
 fn is_digit(c: u8) -> bool
     ensures { result ≡ is_digit c }
 {
-    ((48 <= c) & (c <= 57)) | ((65 <= c) & (c <= 70))
+    ((b'0' <= c) & (c <= b'9')) | ((b'A' <= c) & (c <= b'F'))
 }
 
 // What a digit stands for, 0 for what is no digit.
 fn value(c: u8) -> u8
     ensures { (result ≡ value_of c) × (result < 16) }
 {
-    if (48 <= c) & (c <= 57) {
-        return c - 48;
+    match c {
+        b'0'..=b'9' => c - b'0',
+        b'A'..=b'F' => c - b'A' + 10,
+        _ => 0,
     }
-    if (65 <= c) & (c <= 70) {
-        return c - 55;
-    }
-    0
 }
 
 // Whether every character of a line is a digit. It looks at all of them without a branch, which a processor does many at a time.
@@ -36,11 +34,8 @@ fn all_digits(line: &[u8]) -> bool
     ensures { result ≡ all_of is_digit line.now }
 {
     let mut all = true;
-    let mut i = 0;
-    while i < line.len() {
-        let good = is_digit(line[i]);
-        all = all & good;
-        i += 1;
+    for c in line {
+        all &= is_digit(*c);
     }
     all
 }
@@ -52,11 +47,7 @@ fn byte_at(line: &[u8], k: usize) -> u8
     if line.len() / 2 <= k {
         return 0;
     }
-    let at = 2 * k;
-    let next = at + 1;
-    let high = value(line[at]);
-    let low = value(line[next]);
-    high * 16 + low
+    value(line[2 * k]) * 16 + value(line[2 * k + 1])
 }
 
 // The number of two bytes that begins at byte k.
@@ -68,7 +59,7 @@ fn size_at(line: &[u8], k: usize) -> u16
     }
     let high = byte_at(line, k);
     let low = byte_at(line, k + 1);
-    (high as u16) * 256 + (low as u16)
+    u16::from(high) * 256 + u16::from(low)
 }
 
 // The word of five bytes that begins at byte k.
@@ -78,11 +69,11 @@ fn word_at(line: &[u8], k: usize) -> u64
     if line.len() / 2 <= k {
         return 0;
     }
-    let a = byte_at(line, k) as u64;
-    let b = byte_at(line, k + 1) as u64;
-    let c = byte_at(line, k + 2) as u64;
-    let d = byte_at(line, k + 3) as u64;
-    let e = byte_at(line, k + 4) as u64;
+    let a = u64::from(byte_at(line, k));
+    let b = u64::from(byte_at(line, k + 1));
+    let c = u64::from(byte_at(line, k + 2));
+    let d = u64::from(byte_at(line, k + 3));
+    let e = u64::from(byte_at(line, k + 4));
     (((a * 256 + b) * 256 + c) * 256 + d) * 256 + e
 }
 
@@ -113,10 +104,7 @@ fn if_worded(n: usize, head: usize, f: Frame) -> Frame
 fn words_after(n: usize, head: usize) -> usize
     ensures { result ≡ word_count n head }
 {
-    if n < head {
-        return 0;
-    }
-    (n - head) / 5
+    n.saturating_sub(head) / 5
 }
 
 // A fresh start.
@@ -130,9 +118,11 @@ fn fresh(line: &[u8], n: usize) -> Frame
         d: size_at(line, 10),
         e: size_at(line, 12),
     };
-    let m = byte_at(line, 1);
-    let w = size_at(line, 2);
-    let f = FreshFrame { m, w, masks };
+    let f = FreshFrame {
+        m: byte_at(line, 1),
+        w: size_at(line, 2),
+        masks,
+    };
     if_sized(n, 14, Frame::Fresh(f))
 }
 
@@ -140,19 +130,13 @@ fn fresh(line: &[u8], n: usize) -> Frame
 fn opening(line: &[u8], n: usize) -> Frame
     ensures { result ≡ open_from n (bytes_of line.now) }
 {
-    let file = byte_at(line, 1);
-    let channel = byte_at(line, 2);
-    let unit = byte_at(line, 3);
-    let flags = byte_at(line, 4);
-    let size = size_at(line, 5);
-    let rlen = size_at(line, 7);
     let f = OpenFrame {
-        file,
-        channel,
-        unit,
-        flags,
-        size,
-        rlen,
+        file: byte_at(line, 1),
+        channel: byte_at(line, 2),
+        unit: byte_at(line, 3),
+        flags: byte_at(line, 4),
+        size: size_at(line, 5),
+        rlen: size_at(line, 7),
     };
     if_sized(n, 9, Frame::Open(f))
 }
@@ -166,36 +150,23 @@ const NAMING_ASK: usize = 6;
 fn ask_with(line: &[u8], naming: Naming) -> Frame
     ensures { result ≡ ask_with naming (bytes_of line.now) }
 {
-    let file = byte_at(line, 1);
-    let op = byte_at(line, 2);
-    let priority = byte_at(line, 3);
-    let f = AskFrame {
-        file,
-        op,
-        priority,
+    Frame::Ask(AskFrame {
+        file: byte_at(line, 1),
+        op: byte_at(line, 2),
+        priority: byte_at(line, 3),
         naming,
-    };
-    Frame::Ask(f)
-}
-
-// What an ask says that names a routine.
-fn named(routine: u8, level: u8) -> Naming
-    ensures { result ≡ named_as routine level }
-{
-    Naming {
-        given: true,
-        routine,
-        level,
-    }
+    })
 }
 
 // The routine and its priority, which stand after the numbers of an ask.
 fn naming_in(line: &[u8]) -> Naming
     ensures { result ≡ naming_in (bytes_of line.now) }
 {
-    let routine = byte_at(line, 4);
-    let level = byte_at(line, 5);
-    named(routine, level)
+    Naming {
+        given: true,
+        routine: byte_at(line, 4),
+        level: byte_at(line, 5),
+    }
 }
 
 // A request; one of six bytes names a routine.
@@ -203,12 +174,9 @@ fn ask(line: &[u8], n: usize) -> Frame
     ensures { result ≡ ask_from n (bytes_of line.now) }
 {
     if n == NAMING_ASK {
-        let naming = naming_in(line);
-        return ask_with(line, naming);
+        return ask_with(line, naming_in(line));
     }
-    let none = no_naming();
-    let f = ask_with(line, none);
-    if_sized(n, PLAIN_ASK, f)
+    if_sized(n, PLAIN_ASK, ask_with(line, no_naming()))
 }
 
 // The bytes of a report ahead of its words: without a length, and with one.
@@ -223,26 +191,19 @@ const REDUNDANCY: u8 = 1;
 fn shows_length(n: usize) -> bool
     ensures { result ≡ shows_length n }
 {
-    if n < HEAD {
-        return false;
-    }
-    (n - HEAD) % 5 == 2
+    n.saturating_sub(HEAD) % 5 == 2
 }
 
 // A report with this length, whose words come after `head` bytes.
 fn report_with(line: &[u8], n: usize, head: usize, length: u32) -> Frame
     ensures { result ≡ report_with head length n (bytes_of line.now) }
 {
-    let channel = byte_at(line, 1);
-    let unit = byte_at(line, 2);
-    let outcome = byte_at(line, 3);
-    let words = words_after(n, head);
     let f = ReportFrame {
-        channel,
-        unit,
-        outcome,
+        channel: byte_at(line, 1),
+        unit: byte_at(line, 2),
+        outcome: byte_at(line, 3),
         length,
-        words,
+        words: words_after(n, head),
     };
     if_worded(n, head, Frame::Report(f))
 }
@@ -251,16 +212,14 @@ fn report_with(line: &[u8], n: usize, head: usize, length: u32) -> Frame
 fn report(line: &[u8], n: usize) -> Frame
     ensures { result ≡ report_from n (bytes_of line.now) }
 {
-    let shown = shows_length(n);
-    if !shown {
+    if !shows_length(n) {
         return report_with(line, n, HEAD, NO_LENGTH);
     }
     let outcome = byte_at(line, 3);
     if outcome != REDUNDANCY {
         return Frame::Malformed;
     }
-    let length = size_at(line, 4);
-    report_with(line, n, LENGTH_HEAD, length as u32)
+    report_with(line, n, LENGTH_HEAD, u32::from(size_at(line, 4)))
 }
 
 // How many bytes of a report's line stand ahead of its words.
@@ -277,9 +236,10 @@ pub fn words_at(q: ReportFrame) -> usize
 fn put(line: &[u8], n: usize) -> Frame
     ensures { result ≡ put_from n (bytes_of line.now) }
 {
-    let file = byte_at(line, 1);
-    let words = words_after(n, 2);
-    let f = PutFrame { file, words };
+    let f = PutFrame {
+        file: byte_at(line, 1),
+        words: words_after(n, 2),
+    };
     if_worded(n, 2, Frame::Put(f))
 }
 
@@ -291,17 +251,15 @@ fn is_text(line: &[u8]) -> bool
     if LONGEST < n {
         return false;
     }
-    let good = crate::frames::all_digits(line);
-    (n % 2 == 0) & good
+    (n % 2 == 0) & all_digits(line)
 }
 
 // The frame of a line of digits, of which n bytes count, by its first byte.
 fn kind_of(line: &[u8], n: usize) -> Frame
     ensures { result ≡ kind_of n (bytes_of line.now) }
 {
-    let kind = byte_at(line, 0);
     let file = byte_at(line, 1);
-    match kind {
+    match byte_at(line, 0) {
         0 => fresh(line, n),
         1 => opening(line, n),
         2 => if_sized(n, 2, Frame::Close(file)),
@@ -323,10 +281,8 @@ fn kind_of(line: &[u8], n: usize) -> Frame
 pub fn frame_of(line: &[u8]) -> Frame
     ensures { result ≡ frame_of line.now }
 {
-    let text = is_text(line);
-    if text {
-        let n = line.len() / 2;
-        return kind_of(line, n);
+    if is_text(line) {
+        return kind_of(line, line.len() / 2);
     }
     Frame::Malformed
 }
@@ -339,18 +295,12 @@ pub fn words_into(line: &[u8], start: usize, room: &mut [u64]) -> usize
 {
     let n = line.len() / 2;
     let mut at = start;
-    let mut i = 0;
-    while i < room.len() {
-        if n < 5 {
+    for i in 0..room.len() {
+        if n.saturating_sub(at) < 5 {
             return i;
         }
-        if n - 5 < at {
-            return i;
-        }
-        let w = crate::frames::word_at(line, at);
-        room[i] = w;
-        i += 1;
+        room[i] = word_at(line, at);
         at += 5;
     }
-    i
+    room.len()
 }

@@ -16,11 +16,8 @@ fn copy_in(area: &mut [u8], at: usize, bytes: &[u8]) -> bool
     if area.len() - at < bytes.len() {
         return false;
     }
-    let mut i = 0;
-    while i < bytes.len() {
-        area[at + i] = bytes[i];
-        i += 1;
-    }
+    let end = at + bytes.len();
+    area[at..end].copy_from_slice(bytes);
     true
 }
 
@@ -28,10 +25,7 @@ fn copy_in(area: &mut [u8], at: usize, bytes: &[u8]) -> bool
 fn filled_in(line: Line, len: usize) -> usize
     ensures { (result ≡ filled_in line len) × (result ≤ len) }
 {
-    if len < line.filled {
-        return len;
-    }
-    line.filled
+    line.filled.min(len)
 }
 
 // A line of which nothing is kept.
@@ -53,8 +47,7 @@ pub fn grown(line: Line, piece: &[u8], room: &mut [u8]) -> Line
         return overlong_line();
     }
     let filled = filled_in(line, room.len());
-    let fits = copy_in(room, filled, piece);
-    if fits {
+    if copy_in(room, filled, piece) {
         return Line {
             filled: filled + piece.len(),
             overlong: false,

@@ -6,9 +6,6 @@ ghost use Rattle.session_line.specs.Machine.{no_line, has_begun, step_of, room_o
 use crate::grow::grown;
 use crate::{Line, Step};
 
-// The line feed.
-const FEED: u8 = 10;
-
 // The line of which nothing has come.
 pub fn no_line() -> Line
     ensures { result ≡ no_line }
@@ -34,10 +31,8 @@ fn is_feedless(piece: &[u8]) -> bool
     ensures { result ≡ feedless piece.now }
 {
     let mut all = true;
-    let mut i = 0;
-    while i < piece.len() {
-        all = all & (piece[i] != FEED);
-        i += 1;
+    for c in piece {
+        all &= *c != b'\n';
     }
     all
 }
@@ -46,33 +41,27 @@ fn is_feedless(piece: &[u8]) -> bool
 fn feedless_from(bytes: &[u8], at: usize) -> usize
     ensures { (at + feed_at (drop at bytes.now) ≡ result + feed_at (drop result bytes.now)) × (at ≤ result) × (result ≤ max at (length bytes.now)) }
 {
-    let mut i = at;
-    while i < bytes.len() {
-        if bytes.len() - i < STRIDE {
+    let strides = bytes.len().saturating_sub(at) / STRIDE;
+    for k in 0..strides {
+        let i = at + k * STRIDE;
+        if !is_feedless(&bytes[i..i + STRIDE]) {
             return i;
         }
-        let end = i + STRIDE;
-        let none = is_feedless(&bytes[i..end]);
-        if !none {
-            return i;
-        }
-        i = end;
     }
-    i
+    at + strides * STRIDE
 }
 
 // The place of the next line feed from `at` on, or the end.
 fn feed_from(bytes: &[u8], at: usize) -> usize
     ensures { (result ≡ at + feed_at (drop at bytes.now)) × (at ≤ result) × (result ≤ max at (length bytes.now)) }
 {
-    let mut i = feedless_from(bytes, at);
-    while i < bytes.len() {
-        if bytes[i] == FEED {
+    let start = feedless_from(bytes, at);
+    for i in start..bytes.len() {
+        if bytes[i] == b'\n' {
             return i;
         }
-        i += 1;
     }
-    i
+    start.max(bytes.len())
 }
 
 // The bytes from `at` up to `end`; none past the end.

@@ -17,4 +17,8 @@ returns c = rw (
   c.low-10.ensures,
   c.low-11.ensures,
   c.low-12.ensures,
+  c.from-sum.ensures,
+  c.from-number.ensures,
+  c.from-sumread.ensures,
+  c.from-numberread.ensures,
 )

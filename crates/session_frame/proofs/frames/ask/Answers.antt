@@ -9,12 +9,12 @@ use Rattle.session_frame.proofs.frames.ask.Goals as goal
 
 pub returns-then-n-eq-NAMING_ASK : goal.returns-then-n-eq-NAMING_ASK
 returns-then-n-eq-NAMING_ASK c = let a = c.args in
-    c.ask_with.ensures ∙ ap (λ (q : Naming). ask_with q (bytes_of a.line.now)) c.naming_in-naming.ensures
+    c.ask_with.ensures ∙ ap (λ (q : Naming). ask_with q (bytes_of a.line.now)) c.naming_in.ensures
     ∙ sym (ask_named a.n (bytes_of a.line.now) c.if-n-eq-NAMING_ASK.true)
 
 pub returns : goal.returns
 returns c = let a = c.args in
     c.if_sized.ensures
     ∙ ap (λ (f : Frame). sized a.n plain_ask f)
-    (c.ask_with-f.ensures ∙ ap (λ (q : Naming). ask_with q (bytes_of a.line.now)) c.no_naming-none.ensures)
+    (c.ask_with-2.ensures ∙ ap (λ (q : Naming). ask_with q (bytes_of a.line.now)) c.no_naming.ensures)
     ∙ sym (ask_plain a.n (bytes_of a.line.now) c.if-n-eq-NAMING_ASK.false)

@@ -4,4 +4,4 @@ use Rattle.session_frame.proofs.frames.ask_with.Goals as goal
 
 pub returns : goal.returns
 unfolding ask_with
-returns c = rw (c.byte_at-file.ensures, c.byte_at-op.ensures, c.byte_at-priority.ensures)
+returns c = rw (c.byte_at.ensures, c.byte_at-2.ensures, c.byte_at-3.ensures)

@@ -9,4 +9,4 @@ returns-then-line-k c = let a = c.args in
 
 pub returns : goal.returns
 returns c = let a = c.args in
-    rw (c.value-high.ensures.0, c.value-low.ensures.0) (sym (byte_digits_lem a.line.now a.k c.if-line-k.false))
+    rw (c.value.ensures.0, c.value-2.ensures.0) (sym (byte_digits_lem a.line.now a.k c.if-line-k.false))

@@ -5,4 +5,4 @@ use Rattle.session_frame.proofs.frames.fresh.Goals as goal
 
 pub returns : goal.returns
 unfolding fresh_from
-returns c = c.if_sized.ensures ∙ rw (c.size_at.ensures, c.size_at-2.ensures, c.size_at-3.ensures, c.size_at-4.ensures, c.size_at-5.ensures, c.byte_at-m.ensures, c.size_at-w.ensures)
+returns c = c.if_sized.ensures ∙ rw (c.size_at.ensures, c.size_at-2.ensures, c.size_at-3.ensures, c.size_at-4.ensures, c.size_at-5.ensures, c.byte_at.ensures, c.size_at-6.ensures)

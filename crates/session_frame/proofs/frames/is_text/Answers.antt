@@ -7,4 +7,4 @@ pub returns-then-n-gt-LONGEST : goal.returns-then-n-gt-LONGEST
 returns-then-n-gt-LONGEST c = sym (text_long c.args.line.now c.if-n-gt-LONGEST.true)
 
 pub returns : goal.returns
-returns c = rw c.all_digits-good.ensures (sym (text_short c.args.line.now c.if-n-gt-LONGEST.false))
+returns c = rw c.all_digits.ensures (sym (text_short c.args.line.now c.if-n-gt-LONGEST.false))

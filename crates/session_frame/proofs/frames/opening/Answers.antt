@@ -5,4 +5,4 @@ use Rattle.session_frame.proofs.frames.opening.Goals as goal
 
 pub returns : goal.returns
 unfolding open_from
-returns c = c.if_sized.ensures ∙ rw (c.byte_at-file.ensures, c.byte_at-channel.ensures, c.byte_at-unit.ensures, c.byte_at-flags.ensures, c.size_at-size.ensures, c.size_at-rlen.ensures)
+returns c = c.if_sized.ensures ∙ rw (c.byte_at.ensures, c.byte_at-2.ensures, c.byte_at-3.ensures, c.byte_at-4.ensures, c.size_at.ensures, c.size_at-2.ensures)

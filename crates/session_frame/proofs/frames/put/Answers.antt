@@ -5,4 +5,4 @@ use Rattle.session_frame.proofs.frames.put.Goals as goal
 
 pub returns : goal.returns
 unfolding put_from
-returns c = c.if_worded.ensures ∙ rw (c.byte_at-file.ensures, c.words_after-words.ensures)
+returns c = c.if_worded.ensures ∙ rw (c.byte_at.ensures, c.words_after.ensures)

@@ -5,4 +5,4 @@ use Rattle.session_frame.proofs.frames.report_with.Goals as goal
 
 pub returns : goal.returns
 unfolding report_with
-returns c = c.if_worded.ensures ∙ rw (c.byte_at-channel.ensures, c.byte_at-unit.ensures, c.byte_at-outcome.ensures, c.words_after-words.ensures)
+returns c = c.if_worded.ensures ∙ rw (c.byte_at.ensures, c.byte_at-2.ensures, c.byte_at-3.ensures, c.words_after.ensures)

@@ -1,5 +1,5 @@
 use mathlib.Core.Path.{◌≡◌}
-use Prim.Native.Nat.{◌-◌, ◌/◌, ◌≤◌}
+use Prim.Native.Nat.{◌/◌}
 use lib.ListN.{length}
 use Rattle.area.specs.Parts.{paste}
 use Rattle.session_frame.specs.Frames.{words_from}
@@ -7,8 +7,5 @@ use Rattle.session_frame.proofs.Laws.Words.{Fills}
 use Rattle.session_frame.proofs.frames.words_into.Given as goal
 
 abbrev pub invariant-loop-i : goal.invariant-loop-i
-invariant-loop-i l = (l.n ≡ length l.line / 2) × (l.i ≤ length l.initial.room) × (length l.room ≡ length l.initial.room)
+invariant-loop-i l = (l.n ≡ length l.line / 2) × (length l.room ≡ length l.initial.room)
     × Fills l.line l.room (paste 0 (words_from l.line l.start (length l.initial.room)) l.initial.room) l.at l.i (length l.initial.room) (length (words_from l.line l.start (length l.initial.room)))
-
-abbrev pub decreases-loop-i : goal.decreases-loop-i
-decreases-loop-i l = length l.initial.room - l.i

@@ -1,9 +1,22 @@
--- `session_line::grow::copy_in` meets its contract. After i turns the first i bytes are in their places (`Copied`). Assumes nothing.
-use mathlib.Core.Path.{refl}
-use Prim.Native.Nat.{◌+◌, ◌-◌}
+-- `session_line::grow::copy_in` meets its contract: the part is replaced where the bytes fit. Assumes nothing.
+use mathlib.Core.Path.{◌≡◌, sym, ap, ◌∙◌}
+use mathlib.Core.List.{List, ◌++◌}
+use Prim.Native.Nat.{ℕ, ◌+◌, ◌-◌, ◌≤◌}
 use native.Mathlib.Omega.{arith}
-use Rattle.area.proofs.Copies.{copy_misfit, copied_none, copied_length, copied_one, copied_all}
+use lib.ListN.{length, take, drop}
+use lib.Seq.{drop-drop}
+use Rattle.area.specs.Parts.{paste, pasted_in}
+use Rattle.area.proofs.Copies.{copy_misfit}
+use Rattle.area.proofs.Pastes.{paste_fitting}
 use Rattle.session_line.proofs.grow.copy_in.Goals as goal
+
+put_back : (at : ℕ) (zs ys xs : List ℕ) → at + length ys ≤ length xs → zs ≡ ys → take at xs ++ (zs ++ drop (at + length ys - at) (drop at xs)) ≡ pasted_in at ys xs
+unfolding paste
+put_back at zs ys xs h e =
+    let k : at + length ys - at ≡ length ys = omega arith in
+    ap (λ (l : List ℕ). take at xs ++ (l ++ drop (at + length ys - at) (drop at xs))) e
+    ∙ ap (λ (l : List ℕ). take at xs ++ (ys ++ l)) (ap (λ (n : ℕ). drop n (drop at xs)) k ∙ drop-drop (length ys) at xs)
+    ∙ sym (paste_fitting at ys xs h)
 
 pub returns-then-area-at : goal.returns-then-area-at
 returns-then-area-at c = let both = (let a = c.args in
@@ -13,30 +26,5 @@ pub returns-then-area-at-2 : goal.returns-then-area-at-2
 returns-then-area-at-2 c = let both = (let a = c.args in
     copy_misfit a.at a.bytes.now a.area.now (omega arith)) in record { value = both.0; area_after = both.1 }
 
-pub loop-i-init : goal.loop-i-init
-loop-i-init c = let a = c.args in
-    copied_none a.at a.bytes.now a.area.now (omega arith)
-
-pub overflow_add-area : goal.overflow_add-area
-overflow_add-area c = let t = c.loop-i in
-    omega (arith, t.invariant.fits)
-
-pub bounds-area-at : goal.bounds-area-at
-bounds-area-at c = let t = c.loop-i in
-    let a = c.args in
-    omega (arith, copied_length a.at a.bytes.now a.area.now t.i t.area t.invariant, t.invariant.fits)
-
-pub loop-i-preserved : goal.loop-i-preserved
-loop-i-preserved c = let t = c.loop-i in
-    let a = c.args in
-    copied_one a.at a.bytes.now a.area.now t.i (a.at + t.i) t.area 0 refl (omega arith) t.invariant
-
-pub shape_of-area : goal.shape_of-area
-shape_of-area c = let t = c.loop-i in
-    let a = c.args in
-    copied_length a.at a.bytes.now a.area.now t.i t.area t.invariant
-
-pub returns : goal.returns
-returns c = let both = (let t = c.loop-i in
-    let a = c.args in
-    copied_all a.at a.bytes.now a.area.now t.i t.area (omega arith) t.invariant) in record { value = both.0; area_after = both.1 }
+pub returns-clause-area_after : goal.returns-clause-area_after
+returns-clause-area_after c = put_back c.args.at c.copy_from_slice.new.self c.args.bytes.now c.args.area.now (omega arith) c.copy_from_slice.ensures.after
