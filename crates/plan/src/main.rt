@@ -2,7 +2,7 @@
 // A list that is good ends within the first 65,536 bytes, and one that is not has its first fault there.
 #![tactic(auto)]
 
-use planner::{FILES, Judged, Proposed, judge, plan};
+use planner::{ListFault, NoPlan, Proposal, judge, plan};
 use planner_text::read_list;
 use std::io::Stdout;
 use std::num::wrapping_add_u64;
@@ -41,44 +41,27 @@ fn put_row(to: Stdout, row: u32) -> bool {
     good & put(to, b"\n")
 }
 
-fn put_rows(to: Stdout, rows: [u32; FILES], count: usize) -> bool {
-    let mut i: usize = 0;
-    while i < FILES {
-        if count <= i {
-            return true;
-        }
-        let row = rows[i];
-        if !put_row(to, row) {
-            return false;
-        }
-        i += 1;
-    }
-    true
-}
-
-// The proposal, or that no pool within the limit will do.
-fn put_plan(to: Stdout, p: Proposed) -> bool {
-    if p.refusal != 0 {
-        return put(to, b"refused 19\n");
-    }
+fn put_proposal(to: Stdout, p: Proposal) -> bool {
     let word = put(to, b"size ");
     let size = put_number(to, p.size as u64);
     let end = put(to, b"\n");
-    let rows = p.rows;
-    let count = p.count;
-    if word & size & end {
-        return put_rows(to, rows, count);
+    word & size & end && p.rows.iter().take(p.count).all(|row| put_row(to, *row))
+}
+
+// The proposal, or that no pool within the limit will do.
+fn put_plan(to: Stdout, planned: Result<Proposal, NoPlan>) -> bool {
+    match planned {
+        Ok(proposal) => put_proposal(to, proposal),
+        Err(_) => put(to, b"refused 19\n"),
     }
-    false
 }
 
 // What a list comes to. Line 1 is the limit, and the first event is on line 2.
 fn answer(to: Stdout, limit: u8, events: &[u8]) -> bool {
-    let judged = judge(limit, events);
-    match judged {
-        Judged::Good => put_plan(to, plan(limit, events)),
-        Judged::Limit => refused_at(to, 1),
-        Judged::Event(i) => refused_at(to, wrapping_add_u64(i as u64, 2)),
+    match judge(limit, events) {
+        Ok(()) => put_plan(to, plan(limit, events)),
+        Err(ListFault::Limit) => refused_at(to, 1),
+        Err(ListFault::Event(i)) => refused_at(to, wrapping_add_u64(i as u64, 2)),
     }
 }
 
@@ -87,10 +70,7 @@ fn main(rt: HostRuntime) {
     let n = read_full(&mut rt.stdin(), &mut text);
     let mut events = [0u8; ROOM];
     let list = read_list(&text[..n], &mut events);
-    let limit = list.limit;
-    let count = list.count;
-    let good = answer(rt.stdout(), limit, &events[..count]);
-    if !good {
+    if !answer(rt.stdout(), list.limit, &events[..list.count]) {
         write_all(rt.stderr(), b"plan: the plan cannot be written\n");
     }
 }

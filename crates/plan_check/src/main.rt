@@ -2,9 +2,9 @@
 // The planner is not run: the verdict is that of the check alone.
 #![tactic(auto)]
 
-ghost use Rattle.std.specs.Prelude.{◌≤◌, length};
+ghost use Rattle.std.specs.Prelude.{◌≤◌, MatchOption, length};
 
-use planner::{Judged, Verdict, check, judge};
+use planner::{Fault, ListFault, Rejection, check, judge};
 use planner_text::{read_list, read_proposal};
 use std::io::{Stderr, Stdout};
 use std::num::wrapping_add_u64;
@@ -15,13 +15,6 @@ use streams::{argument, large_buffer, opened, print_decimal, read_full, write_al
 const EVENTS: usize = 129;
 
 const ROWS: usize = 65;
-
-// What was read of a file.
-#[derive(Clone, Copy)]
-struct Text {
-    good: bool,
-    length: usize,
-}
 
 // Writes bytes, or a number in decimal.
 fn put(to: Stdout, bytes: &[u8]) -> bool {
@@ -40,30 +33,30 @@ fn refused_at(to: Stdout, line: u64) -> bool {
     word & put_line(to, line)
 }
 
-// Why a proposal is not accepted.
-fn put_reason(to: Stdout, reason: u8) -> bool {
-    match reason {
-        1 => put(to, b"size"),
-        2 => put(to, b"count of openings"),
-        3 => put(to, b"no line of this opening"),
-        4 => put(to, b"wrong count of buffers"),
-        5 => put(to, b"a buffer outside the size"),
-        6 => put(to, b"the same buffer twice"),
-        _ => put(to, b"a buffer that serves two open files"),
+// Why a row is not accepted.
+fn put_reason(to: Stdout, fault: Fault) -> bool {
+    match fault {
+        Fault::Openings => put(to, b"count of openings"),
+        Fault::OtherFile => put(to, b"no line of this opening"),
+        Fault::OtherCount => put(to, b"wrong count of buffers"),
+        Fault::Outside => put(to, b"a buffer outside the size"),
+        Fault::Twice => put(to, b"the same buffer twice"),
+        Fault::Shared => put(to, b"a buffer that serves two open files"),
     }
 }
 
 // The verdict. Line 1 is the size, and the first row is on line 2.
-fn put_verdict(to: Stdout, v: Verdict) -> bool {
-    match v {
-        Verdict::Accepted => put(to, b"accepted\n"),
-        Verdict::Refused => put(to, b"refused 1\n"),
-        Verdict::Fault(reason, row) => {
+fn put_verdict(to: Stdout, verdict: Result<(), Rejection>) -> bool {
+    match verdict {
+        Ok(()) => put(to, b"accepted\n"),
+        Err(Rejection::BadList) => put(to, b"refused 1\n"),
+        Err(Rejection::Size) => {
+            let word = put(to, b"not accepted: size");
+            word & put_line(to, 1)
+        }
+        Err(Rejection::Row(fault, row)) => {
             let word = put(to, b"not accepted: ");
-            let why = put_reason(to, reason);
-            if reason == 1 {
-                return word & why & put_line(to, 1);
-            }
+            let why = put_reason(to, fault);
             word & why & put_line(to, wrapping_add_u64(row as u64, 2))
         }
     }
@@ -71,36 +64,21 @@ fn put_verdict(to: Stdout, v: Verdict) -> bool {
 
 // What a list and a proposal come to.
 fn answer(to: Stdout, limit: u8, events: &[u8], size: u8, rows: &[u32]) -> bool {
-    let judged = judge(limit, events);
-    match judged {
-        Judged::Good => put_verdict(to, check(limit, events, size, rows)),
-        Judged::Limit => refused_at(to, 1),
-        Judged::Event(i) => refused_at(to, wrapping_add_u64(i as u64, 2)),
+    match judge(limit, events) {
+        Ok(()) => put_verdict(to, check(limit, events, size, rows)),
+        Err(ListFault::Limit) => refused_at(to, 1),
+        Err(ListFault::Event(i)) => refused_at(to, wrapping_add_u64(i as u64, 2)),
     }
 }
 
-// Reads the file that argument i names, as far as the room goes, or says that it cannot be read.
-fn read_file<R: Env + Files>(rt: &R, err: Stderr, i: usize, text: &mut [u8]) -> Text
-    ensures { result.length ≤ length text.new }
+// Reads the file that argument i names, as far as the room goes, and gives how many bytes it read; or says that it cannot be read.
+fn read_file<R: Env + Files>(rt: &R, err: Stderr, i: usize, text: &mut [u8]) -> Option<usize>
+    ensures { MatchOption result (Unit {0}) (λ n. n ≤ length text.new) }
 {
     let mut path = [0u8; 4096];
-    let Some(length) = argument(rt, err, i, &mut path, b"plan: argument") else {
-        return Text {
-            good: false,
-            length: 0,
-        };
-    };
-    let Some(mut file) = opened(rt, err, &path[..length]) else {
-        return Text {
-            good: false,
-            length: 0,
-        };
-    };
-    let n = read_full(&mut file, text);
-    Text {
-        good: true,
-        length: n,
-    }
+    let length = argument(rt, err, i, &mut path, b"plan: argument")?;
+    let mut file = opened(rt, err, &path[..length])?;
+    Some(read_full(&mut file, text))
 }
 
 fn main(rt: HostRuntime) {
@@ -108,23 +86,19 @@ fn main(rt: HostRuntime) {
     let list_file = read_file(&rt, rt.stderr(), 1, &mut list_text);
     let mut proposal_text = large_buffer();
     let proposal_file = read_file(&rt, rt.stderr(), 2, &mut proposal_text);
-    if !(list_file.good & proposal_file.good) {
+    let (Some(n), Some(m)) = (list_file, proposal_file) else {
         return;
-    }
-    let n = list_file.length;
-    let m = proposal_file.length;
+    };
     let mut events = [0u8; EVENTS];
     let list = read_list(&list_text[..n], &mut events);
     let mut rows = [0u32; ROWS];
     let proposal = read_proposal(&proposal_text[..m], &mut rows);
-    let count = list.count;
-    let served = proposal.count;
     let good = answer(
         rt.stdout(),
         list.limit,
-        &events[..count],
+        &events[..list.count],
         proposal.size,
-        &rows[..served],
+        &rows[..proposal.count],
     );
     if !good {
         write_all(rt.stderr(), b"plan: the verdict cannot be written\n");

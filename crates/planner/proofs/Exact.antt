@@ -1,7 +1,7 @@
 -- The check accepts exactly the proposals that are accepted by the plain statement: whom each buffer serves (the walk's owners q) and what each file
 -- holds (the statement's desk d) say the same from event to event. Assumes nothing.
 use mathlib.Core.Path.{◌≡◌, refl, sym, ap, ◌∙◌}
-use mathlib.Core.Bool.{Bool, true, false, not, cond}
+use mathlib.Core.Bool.{Bool, true, false, cond}
 use mathlib.Core.List.{List, [], ◌∷◌, ◌++◌}
 use Prim.Native.Nat.{ℕ, zero, suc, ◌+◌, ◌-◌, ◌≤◌, ◌<◌}
 use native.Mathlib.Nat.{not-suc-le-zero}
@@ -12,11 +12,13 @@ use lib.ListN.{length, get_or, set, length-set, length-map}
 use lib.Seq.{get_or-set_same, get_or-set_other}
 use Rattle.area.specs.Lists.{all_of}
 use Rattle.area.proofs.Walks.{by_test, true_not_false, and_left, and_right, and_both, or_left}
-use Rattle.planner.specs.declared.Verdict.TheVariants.{Accepted, Fault}
+use Rattle.std.proofs.Common.{Err}
+use Rattle.planner.specs.declared.Fault.TheVariants.{Openings}
+use Rattle.planner.specs.declared.Rejection.TheVariants.{Row}
 use Rattle.planner.specs.Events.{file_limit, file_of, opens, wrong_event, opened_after, judge_from, is_good}
 use Rattle.planner.specs.Rows.{buffers_of, among, different}
 use Rattle.planner.specs.Acceptable.{openings, Desk, opened, closed, desk_after, Apart, Served}
-use Rattle.planner.specs.Walk.{mark, leave, is_free, claimed, released, used, check_from}
+use Rattle.planner.specs.Walk.{accepted, mark, leave, is_free, claimed, released, used, check_from}
 use Rattle.planner.proofs.Turns.{good_from}
 use Rattle.planner.proofs.Fits.{Fits, closing_accepted, accepted_closing, opening_missing, opening_accepted, accepted_opening}
 use Rattle.planner.proofs.Smallest.{get_d_released}
@@ -246,17 +248,17 @@ fits_served size q e row f = record {
   inside = λ b m. ltb-true b size (all_among (λ b. ltb b size) (buffers_of row) f.inside b m);
 }
 
-end_accepted : (s : ℕ) (q : List ℕ) (n : ℕ) (rows : List ℕ) → check_from s q n [] rows ≡ Accepted → length rows ≡ 0
+end_accepted : (s : ℕ) (q : List ℕ) (n : ℕ) (rows : List ℕ) → check_from s q n [] rows ≡ accepted → length rows ≡ 0
 unfolding check_from
 end_accepted s q n rows a =
-    by_test (λ t. eqb (length rows) 0 ≡ t → cond t Accepted (Fault 2 n) ≡ Accepted → length rows ≡ 0) (eqb (length rows) 0)
+    by_test (λ t. eqb (length rows) 0 ≡ t → cond t accepted (Err (Row Openings n)) ≡ accepted → length rows ≡ 0) (eqb (length rows) 0)
     (λ _ w z. eqb-true _ _ w)
     (λ _ w z. absurd (let x : ◌≡◌ {A = ℕ} 0 1 = cc in omega arith)) refl a
 
 below_more : (s t : ℕ) (bs : List ℕ) → s ≤ t → all_of (λ b. ltb b s) bs ≡ true → all_of (λ b. ltb b t) bs ≡ true
 below_more s t bs h a = among_all (λ b. ltb b t) bs (λ b m. let l : b < s = ltb-true b s (all_among (λ b. ltb b s) bs a b m) in lt-ltb b t (omega arith))
 
-pub sound : (s : ℕ) (q : List ℕ) (n : ℕ) (events rows : List ℕ) (d : Desk) → s ≤ length q → Link q d → check_from s q n events rows ≡ Accepted → Fine s events rows d
+pub sound : (s : ℕ) (q : List ℕ) (n : ℕ) (events rows : List ℕ) (d : Desk) → s ≤ length q → Link q d → check_from s q n events rows ≡ accepted → Fine s events rows d
 sound s q n [] rows d h l a = fine_none s rows d (end_accepted s q n rows a) (link_apart q d l)
 sound s q n (e ∷ es) [] d h l a =
     by_test (λ b. opens e ≡ b → Fine s (e ∷ es) [] d) (opens e)
@@ -325,7 +327,7 @@ served_fits size q e row v z = record {
   free = z;
 }
 
-end_right : (s : ℕ) (q : List ℕ) (n : ℕ) (rows : List ℕ) → length rows ≡ 0 → check_from s q n [] rows ≡ Accepted
+end_right : (s : ℕ) (q : List ℕ) (n : ℕ) (rows : List ℕ) → length rows ≡ 0 → check_from s q n [] rows ≡ accepted
 unfolding check_from
 end_right s q n rows e = rw (eq-eqb (length rows) 0 e)
 
@@ -340,16 +342,16 @@ length_opened flags e = length-set flags (file_of e) (opens e)
 
 module _ (s : ℕ) where
   pub complete : (q : List ℕ) (n : ℕ) (events rows : List ℕ) (d : Desk) (flags : List Bool) (m i : ℕ) → s ≤ length q → length flags ≡ 64 → Link q d → Idle flags d
-      → is_good (judge_from flags m i events) ≡ true → Fine s events rows d → check_from s q n events rows ≡ Accepted
+      → is_good (judge_from flags m i events) ≡ true → Fine s events rows d → check_from s q n events rows ≡ accepted
   complete q n [] rows d flags m i h long l idle g f = end_right s q n rows (none_fine s rows d f)
   complete q n (e ∷ es) [] d flags m i h long l idle g f =
-      by_test (λ b. opens e ≡ b → check_from s q n (e ∷ es) [] ≡ Accepted) (opens e)
+      by_test (λ b. opens e ≡ b → check_from s q n (e ∷ es) [] ≡ accepted) (opens e)
       (λ _ w. absurd (opening_none s e es d w f))
       (λ _ w. accepted_closing s q n e es [] w
       (complete (released (mark e) q) (n + 0) es [] (closed (file_of e) d) (opened_after flags e) (m + used e) (i + 1) (omega (arith, length_released (mark e) q)) (length_opened flags e ∙ long)
       (link_released (file_of e) q d l) (idle_closed e flags d idle) (good_from flags m i e es g).1 (closing_fine s e es [] d w f))) refl
   complete q n (e ∷ es) (r ∷ rs) d flags m i h long l idle g f =
-      by_test (λ b. opens e ≡ b → check_from s q n (e ∷ es) (r ∷ rs) ≡ Accepted) (opens e)
+      by_test (λ b. opens e ≡ b → check_from s q n (e ∷ es) (r ∷ rs) ≡ accepted) (opens e)
       (λ _ w. let shut : get_or flags (file_of e) false ≡ false = opening_closed flags m e w (good_from flags m i e es g).0 in
       let z : all_of (is_free q) (buffers_of r) ≡ true = apart_free q d l (file_of e) (buffers_of r) (idle (file_of e) (omega arith) shut) (first_apart s e es d w r rs f) in
       let fits : Fits s q e r = served_fits s q e r (opening_served s e es d w r rs f) z in

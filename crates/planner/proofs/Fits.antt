@@ -8,11 +8,13 @@ use borrow.Author.Tests.{ltb-true, lt-ltb, le-ltb, eqb-true, eq-eqb, ne_eqb}
 use lib.Dec.{eqb, ltb}
 use lib.ListN.{length, get_or, drop}
 use Rattle.area.specs.Lists.{all_of}
-use Rattle.area.proofs.Walks.{by_test, true_not_false, and_left, and_right}
-use Rattle.planner.specs.declared.Verdict.TheVariants.{Accepted, Fault}
+use Rattle.area.proofs.Walks.{true_not_false, and_left, and_right}
+use Rattle.std.proofs.Common.{Ok, Err}
+use Rattle.planner.specs.declared.Fault.{Fault}
+use Rattle.planner.specs.declared.Fault.TheVariants.{Openings, OtherFile, OtherCount, Outside, Twice, Shared}
 use Rattle.planner.specs.Events.{file_of, opens, asked}
 use Rattle.planner.specs.Rows.{row_count, row_file, row_first, row_second, buffers_of, among, different}
-use Rattle.planner.specs.Walk.{is_free, claimed, released, mark, used, buffers_fault, row_fault, event_fault, owners_next, check_from}
+use Rattle.planner.specs.Walk.{RowJudged, Verdict, accepted, unless_fault, is_free, claimed, released, mark, used, buffers_fault, row_fault, event_fault, owners_next, check_from}
 use Rattle.planner.proofs.Faults.{one_buffer, two_buffers}
 
 -- ---- a row that can serve an opening
@@ -24,74 +26,71 @@ pub record Fits (size : ℕ) (q : List ℕ) (e row : ℕ) : Type 0 where
   pub differ : different (buffers_of row) ≡ true
   pub free : all_of (is_free q) (buffers_of row) ≡ true
 
-no_fault : (b : Bool) (k x : ℕ) → 0 < k → cond (not b) k x ≡ 0 → (b ≡ true) × (x ≡ 0)
-no_fault true k x h e = (refl, e)
-no_fault false k x h e = absurd (omega arith)
+no_fault : (b : Bool) (f : Fault) (x : RowJudged) → cond (not b) (Err f) x ≡ Ok tt → (b ≡ true) × (x ≡ Ok tt)
+no_fault true f x e = (refl, e)
+no_fault false f x e = absurd (cc)
 
 module _ (size : ℕ) (q : List ℕ) (e row : ℕ) where
-  pub row_fits : row_fault size q e row ≡ 0 → Fits size q e row
+  pub row_fits : row_fault size q e row ≡ Ok tt → Fits size q e row
   unfolding row_fault buffers_fault
   row_fits z =
-      let a = no_fault (eqb (row_file row) (file_of e)) 3 _ (omega arith) z in
-      let b = no_fault (eqb (row_count row) (asked e)) 4 _ (omega arith) a.1 in
-      let c = no_fault (all_of (λ b. ltb b size) (buffers_of row)) 5 _ (omega arith) b.1 in
-      let d = no_fault (different (buffers_of row)) 6 _ (omega arith) c.1 in
-      let f = no_fault (all_of (is_free q) (buffers_of row)) 7 0 (omega arith) d.1 in
+      let a = no_fault (eqb (row_file row) (file_of e)) OtherFile _ z in
+      let b = no_fault (eqb (row_count row) (asked e)) OtherCount _ a.1 in
+      let c = no_fault (all_of (λ b. ltb b size) (buffers_of row)) Outside _ b.1 in
+      let d = no_fault (different (buffers_of row)) Twice _ c.1 in
+      let f = no_fault (all_of (is_free q) (buffers_of row)) Shared (Ok tt) d.1 in
       record { file = eqb-true _ _ a.0; count = eqb-true _ _ b.0; inside = c.0; differ = d.0; free = f.0 }
 
-  pub fits_row : Fits size q e row → row_fault size q e row ≡ 0
+  pub fits_row : Fits size q e row → row_fault size q e row ≡ Ok tt
   unfolding row_fault buffers_fault
   fits_row f = rw (eq-eqb _ _ f.file, eq-eqb _ _ f.count, f.inside, f.differ, f.free)
 
 -- ---- an event, and the events after it
 
-module _ (size : ℕ) (q : List ℕ) (n e : ℕ) (es rows : List ℕ) where
-  pub event_accepted : check_from size q n (e ∷ es) rows ≡ Accepted
-      → (event_fault size q e rows ≡ 0) × (check_from size (owners_next e rows q) (n + used e) es (drop (used e) rows) ≡ Accepted)
-  unfolding check_from
-  event_accepted a =
-      by_test
-      (λ t. eqb (event_fault size q e rows) 0 ≡ t
-      → cond t (check_from size (owners_next e rows q) (n + used e) es (drop (used e) rows)) (Fault (event_fault size q e rows) n) ≡ Accepted
-      → (event_fault size q e rows ≡ 0) × (check_from size (owners_next e rows q) (n + used e) es (drop (used e) rows) ≡ Accepted))
-      (eqb (event_fault size q e rows) 0)
-      (λ _ w r. (eqb-true _ _ w, r))
-      (λ _ w r. absurd (let z : ◌≡◌ {A = ℕ} 0 1 = cc in omega arith)) refl a
+unless_accepted : (x : RowJudged) (n : ℕ) (v : Verdict) → unless_fault x n v ≡ accepted → (x ≡ Ok tt) × (v ≡ accepted)
+unless_accepted (Ok tt) n v e = (refl, e)
+unless_accepted (Err f) n v e = absurd (cc)
 
-  pub accepted_event : event_fault size q e rows ≡ 0 → check_from size (owners_next e rows q) (n + used e) es (drop (used e) rows) ≡ Accepted
-      → check_from size q n (e ∷ es) rows ≡ Accepted
+module _ (size : ℕ) (q : List ℕ) (n e : ℕ) (es rows : List ℕ) where
+  pub event_accepted : check_from size q n (e ∷ es) rows ≡ accepted
+      → (event_fault size q e rows ≡ Ok tt) × (check_from size (owners_next e rows q) (n + used e) es (drop (used e) rows) ≡ accepted)
   unfolding check_from
-  accepted_event z r = rw (eq-eqb _ _ z) r
+  event_accepted a = unless_accepted (event_fault size q e rows) n _ a
+
+  pub accepted_event : event_fault size q e rows ≡ Ok tt → check_from size (owners_next e rows q) (n + used e) es (drop (used e) rows) ≡ accepted
+      → check_from size q n (e ∷ es) rows ≡ accepted
+  unfolding check_from
+  accepted_event z r = rw z r
 
 -- a closing uses no row
 module _ (size : ℕ) (q : List ℕ) (n e : ℕ) (es rows : List ℕ) (w : opens e ≡ false) where
-  pub closing_accepted : check_from size q n (e ∷ es) rows ≡ Accepted → check_from size (released (mark e) q) (n + 0) es rows ≡ Accepted
+  pub closing_accepted : check_from size q n (e ∷ es) rows ≡ accepted → check_from size (released (mark e) q) (n + 0) es rows ≡ accepted
   unfolding owners_next
   closing_accepted a = rw w at (event_accepted size q n e es rows a).1
 
-  pub accepted_closing : check_from size (released (mark e) q) (n + 0) es rows ≡ Accepted → check_from size q n (e ∷ es) rows ≡ Accepted
+  pub accepted_closing : check_from size (released (mark e) q) (n + 0) es rows ≡ accepted → check_from size q n (e ∷ es) rows ≡ accepted
   unfolding owners_next event_fault
   accepted_closing a = accepted_event size q n e es rows (rw w) (rw w a)
 
 -- an opening uses the first
 module _ (size : ℕ) (q : List ℕ) (n e : ℕ) (es : List ℕ) (w : opens e ≡ true) where
-  pub opening_missing : check_from size q n (e ∷ es) [] ≡ Accepted → ⊥
+  pub opening_missing : check_from size q n (e ∷ es) [] ≡ accepted → ⊥
   unfolding event_fault
-  opening_missing a = let z : ◌≡◌ {A = ℕ} 2 0 = rw w at (event_accepted size q n e es [] a).0 in omega arith
+  opening_missing a = let z : ◌≡◌ {A = RowJudged} (Err Openings) (Ok tt) = rw w at (event_accepted size q n e es [] a).0 in absurd (cc)
 
   module _ (r : ℕ) (rs : List ℕ) where
-    pub opening_accepted : check_from size q n (e ∷ es) (r ∷ rs) ≡ Accepted
-        → Fits size q e r × (check_from size (claimed (mark e) (buffers_of r) q) (n + 1) es rs ≡ Accepted)
+    pub opening_accepted : check_from size q n (e ∷ es) (r ∷ rs) ≡ accepted
+        → Fits size q e r × (check_from size (claimed (mark e) (buffers_of r) q) (n + 1) es rs ≡ accepted)
     unfolding event_fault owners_next
     opening_accepted a =
-        let z : row_fault size q e r ≡ 0 = rw (w, some) at (event_accepted size q n e es (r ∷ rs) a).0 in
+        let z : row_fault size q e r ≡ Ok tt = rw (w, some) at (event_accepted size q n e es (r ∷ rs) a).0 in
         (row_fits size q e r z, rw w at (event_accepted size q n e es (r ∷ rs) a).1)
       where
         some : eqb (suc (length rs)) 0 ≡ false
         some = ne_eqb (suc (length rs)) 0 (λ z. omega arith)
 
-    pub accepted_opening : Fits size q e r → check_from size (claimed (mark e) (buffers_of r) q) (n + 1) es rs ≡ Accepted
-        → check_from size q n (e ∷ es) (r ∷ rs) ≡ Accepted
+    pub accepted_opening : Fits size q e r → check_from size (claimed (mark e) (buffers_of r) q) (n + 1) es rs ≡ accepted
+        → check_from size q n (e ∷ es) (r ∷ rs) ≡ accepted
     unfolding event_fault owners_next
     accepted_opening f a =
         accepted_event size q n e es (r ∷ rs) (rw (w, ne_eqb (suc (length rs)) 0 (λ z. omega arith)) (fits_row size q e r f)) (rw w a)

@@ -11,7 +11,8 @@ use lib.ListN.{length, get_or, set, replicate, length-set, get_or-replicate}
 use lib.Seq.{get_or-set_same, get_or-set_other}
 use Rattle.area.specs.Lists.{count_of}
 use Rattle.area.proofs.Walks.{by_test, true_not_false, and_left, and_right, and_both, or_left, or_right, or_neither}
-use Rattle.planner.specs.declared.Judged.TheVariants.{Limit}
+use Rattle.std.proofs.Common.{Err}
+use Rattle.planner.specs.declared.ListFault.TheVariants.{Limit}
 use Rattle.planner.specs.Events.{file_limit, file_of, opens, limit_fits, wrong_event, opened_after, judge_from, judge_of, is_good}
 use Rattle.planner.specs.Good.{after_event, open_after, GoodList}
 use Rattle.planner.specs.Walk.{used}
@@ -95,7 +96,7 @@ no_flags f h = get_or-replicate 64 f false false h
 pub good_only : (limit : ℕ) (events : List ℕ) → is_good (judge_of limit events) ≡ true → GoodList limit events
 unfolding judge_of
 good_only limit events g =
-    by_test (λ b. limit_fits limit ≡ b → is_good (cond b (judge_from (replicate file_limit false) 0 0 events) Limit) ≡ true → GoodList limit events) (limit_fits limit)
+    by_test (λ b. limit_fits limit ≡ b → is_good (cond b (judge_from (replicate file_limit false) 0 0 events) (Err Limit)) ≡ true → GoodList limit events) (limit_fits limit)
     (λ _ w z. let r = good_right (replicate file_limit false) 0 0 events (λ f. false) refl no_flags (omega arith) z in
     record {
       least = leb-true 1 limit (and_left (leb 1 limit) (leb limit 64) w);

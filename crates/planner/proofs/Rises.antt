@@ -8,11 +8,11 @@ use borrow.Author.Tests.{lt-ltb, le-ltb}
 use lib.ListN.{length, get_or, take, drop, set}
 use Rattle.area.specs.Lists.{count_of}
 use Rattle.area.proofs.Walks.{count_step}
-use Rattle.planner.specs.declared.Proposed.{Proposed}
+use Rattle.planner.specs.declared.Proposal.{Proposal}
 use Rattle.planner.specs.Events.{file_of, opens, judge_of, is_good}
 use Rattle.planner.specs.Walk.{nobody, released, used}
 use Rattle.planner.specs.Greedy.{first_free, taken, owners_after, row_of, wants, size_from, rows_from, plan_refusal, plan_size, plan_rows, Made}
-use Rattle.planner.proofs.Turns.{size_go, size_end, size_one, rows_put, rows_end, Planned, plan_refused, plan_wanting, plan_proposed}
+use Rattle.planner.proofs.Turns.{size_go, size_end, size_one, rows_put, rows_end, Planned, plan_wanting, plan_proposed}
 
 -- ---- an event, case by case
 
@@ -89,19 +89,13 @@ module _ (events o rows : List ℕ) (size n i : ℕ) (u : Upto events o rows siz
 
 -- ---- the answer
 
-module _ (limit : ℕ) (events : List ℕ) (r : Proposed) where
-  pub planned_refused : (r.refusal ≡ 1) × (r.size ≡ 0) × (take r.count r.rows ≡ []) → is_good (judge_of limit events) ≡ false
-      → Planned limit events r.refusal r.size (take r.count r.rows)
-  planned_refused e g = rw (e.0, e.1, e.2) (plan_refused limit events g)
+module _ (limit : ℕ) (events : List ℕ) where
+  pub planned_wanting : is_good (judge_of limit events) ≡ true → {size : ℕ} {rows : List ℕ} → Made events size rows → limit < size → Planned limit events 19 0 []
+  planned_wanting g m l = plan_wanting limit events g (omega (arith, m.sized))
 
-  pub planned_wanting : (r.refusal ≡ 19) × (r.size ≡ 0) × (take r.count r.rows ≡ []) → is_good (judge_of limit events) ≡ true
-      → {size : ℕ} {rows : List ℕ} → Made events size rows → limit < size
-      → Planned limit events r.refusal r.size (take r.count r.rows)
-  planned_wanting e g m l = rw (e.0, e.1, e.2) (plan_wanting limit events g (omega (arith, m.sized)))
-
-  pub planned_proposed : is_good (judge_of limit events) ≡ true → (r.refusal ≡ 0) × Made events r.size (take r.count r.rows) → r.size ≤ limit
-      → Planned limit events r.refusal r.size (take r.count r.rows)
-  planned_proposed g m l = rw (m.0, m.1.sized, m.1.served) (plan_proposed limit events g (omega (arith, m.1.sized)))
+  pub planned_proposed : (p : Proposal) → is_good (judge_of limit events) ≡ true → Made events p.size (take p.count p.rows) → p.size ≤ limit
+      → Planned limit events 0 p.size (take p.count p.rows)
+  planned_proposed p g m l = rw (m.sized, m.served) (plan_proposed limit events g (omega (arith, m.sized)))
 
 -- as the contract says it
 pub told : {limit : ℕ} {events : List ℕ} {refusal size : ℕ} {rows : List ℕ} → Planned limit events refusal size rows

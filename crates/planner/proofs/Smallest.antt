@@ -11,10 +11,9 @@ use lib.ListN.{length, get_or, set, length-set, length-map, get_or-map}
 use lib.Seq.{get_or-set_same, get_or-set_other}
 use Rattle.area.specs.Lists.{count_of, all_of}
 use Rattle.area.proofs.Walks.{by_test}
-use Rattle.planner.specs.declared.Verdict.TheVariants.{Accepted}
 use Rattle.planner.specs.Events.{file_of, opens}
 use Rattle.planner.specs.Rows.{row_count, row_file, row_first, row_second, buffers_of, among, different}
-use Rattle.planner.specs.Walk.{mark, leave, claimed, released, check_from}
+use Rattle.planner.specs.Walk.{accepted, mark, leave, claimed, released, check_from}
 use Rattle.planner.specs.Greedy.{first_free, taken, owners_after, row_of, wants, size_from, rows_from}
 use Rattle.planner.proofs.Faults.{one_buffer, two_buffers, claimed_one, claimed_two}
 use Rattle.planner.proofs.Counts.{busy, count_set, count_released, free_busy, free_long, free_is, busy_below}
@@ -130,7 +129,7 @@ module _ (s : ℕ) (o q : List ℕ) (t : Twin s o q) (e row : ℕ) (f : Fits s q
             rw (owners_double e o w h, g.buffers, claimed_two (mark e) q (row_first row) (row_second row)) (twin_taken s _ _ t1 (mark e) (row_second row) g.high z),
           )
 
-pub smallest : (s : ℕ) (o q : List ℕ) (n : ℕ) (events rows : List ℕ) → 1 ≤ s → Twin s o q → check_from s q n events rows ≡ Accepted → size_from o events ≤ s
+pub smallest : (s : ℕ) (o q : List ℕ) (n : ℕ) (events rows : List ℕ) → 1 ≤ s → Twin s o q → check_from s q n events rows ≡ accepted → size_from o events ≤ s
 unfolding size_from
 smallest s o q n [] rows h t a = h
 smallest s o q n (e ∷ es) [] h t a =
@@ -169,7 +168,7 @@ taken_is : (v : ℕ) (o : List ℕ) → taken v o ≡ set o (first_free o) v
 unfolding taken
 taken_is v o = refl
 
-pub nothing_left : (s : ℕ) (o : List ℕ) (n : ℕ) → check_from s o n [] [] ≡ Accepted
+pub nothing_left : (s : ℕ) (o : List ℕ) (n : ℕ) → check_from s o n [] [] ≡ accepted
 unfolding check_from
 nothing_left s o n = refl
 
@@ -257,15 +256,15 @@ owners_long e o long =
     (λ _. length-set (taken (mark e) o) (first_free (taken (mark e) o)) (mark e) ∙ (length-set o (first_free o) (mark e) ∙ long)))
     (λ _. length-map o (leave (mark e)) ∙ long)
 
-pub own : (s : ℕ) (o : List ℕ) (n : ℕ) (events : List ℕ) → length o ≡ 64 → s ≤ 64 → size_from o events ≤ s → check_from s o n events (rows_from o events) ≡ Accepted
+pub own : (s : ℕ) (o : List ℕ) (n : ℕ) (events : List ℕ) → length o ≡ 64 → s ≤ 64 → size_from o events ≤ s → check_from s o n events (rows_from o events) ≡ accepted
 unfolding size_from rows_from
 own s o n [] long small h = nothing_left s o n
 own s o n (e ∷ es) long small h =
     by_test
     (λ b. opens e ≡ b
-    → check_from s o n (e ∷ es) (cond b (row_of e o ∷ rows_from (owners_after e o) es) (rows_from (owners_after e o) es)) ≡ Accepted)
+    → check_from s o n (e ∷ es) (cond b (row_of e o ∷ rows_from (owners_after e o) es) (rows_from (owners_after e o) es)) ≡ accepted)
     (opens e)
-    (λ _ w. let rest : check_from s (owners_after e o) (n + 1) es (rows_from (owners_after e o) es) ≡ Accepted = own s (owners_after e o) (n + 1) es (owners_long e o long) small (omega arith) in
+    (λ _ w. let rest : check_from s (owners_after e o) (n + 1) es (rows_from (owners_after e o) es) ≡ accepted = own s (owners_after e o) (n + 1) es (owners_long e o long) small (omega arith) in
     accepted_opening s o n e es w (row_of e o) (rows_from (owners_after e o) es) (own_row s o long small e w (omega arith)) (rw (own_owners s o long small e w) rest))
-    (λ _ w. let rest : check_from s (owners_after e o) (n + 0) es (rows_from (owners_after e o) es) ≡ Accepted = own s (owners_after e o) (n + 0) es (owners_long e o long) small (omega arith) in
+    (λ _ w. let rest : check_from s (owners_after e o) (n + 0) es (rows_from (owners_after e o) es) ≡ accepted = own s (owners_after e o) (n + 0) es (owners_long e o long) small (omega arith) in
     accepted_closing s o n e es (rows_from (owners_after e o) es) w (rw (← owners_closing e o w) rest)) refl

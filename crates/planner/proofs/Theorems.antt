@@ -8,12 +8,13 @@ use borrow.Author.Tests.{leb-true, leb-false, le-leb, lt-leb, eq-eqb, ne_eqb}
 use lib.Dec.{leb, eqb}
 use lib.ListN.{get_or, replicate, get_or-replicate, get_or-eq_default}
 use Rattle.area.proofs.Walks.{by_test, true_not_false, and_left, and_right, and_both}
-use Rattle.planner.specs.declared.Verdict.TheVariants.{Accepted, Refused, Fault}
-use Rattle.planner.specs.declared.Judged.TheVariants.{Limit}
+use Rattle.std.proofs.Common.{Err}
+use Rattle.planner.specs.declared.Rejection.TheVariants.{BadList, Size}
+use Rattle.planner.specs.declared.ListFault.TheVariants.{Limit}
 use Rattle.planner.specs.Events.{file_limit, limit_fits, judge_from, judge_of, is_good}
 use Rattle.planner.specs.Rows.{among}
 use Rattle.planner.specs.Acceptable.{none_open, Acceptable}
-use Rattle.planner.specs.Walk.{nobody, check_of}
+use Rattle.planner.specs.Walk.{Verdict, accepted, nobody, check_of}
 use Rattle.planner.specs.Greedy.{size_from, rows_from, plan_refusal, plan_size, plan_rows}
 use Rattle.planner.proofs.Turns.{size_one, verdict_refused, verdict_sized, verdict_size}
 use Rattle.planner.proofs.Smallest.{Twin, smallest, own}
@@ -41,7 +42,7 @@ module _ (limit : ℕ) (events : List ℕ) (good : is_good (judge_of limit event
   good_limit : limit_fits limit ≡ true
   unfolding judge_of
   good_limit =
-      by_test (λ b. is_good (cond b (judge_from (replicate file_limit false) 0 0 events) Limit) ≡ true → b ≡ true) (limit_fits limit)
+      by_test (λ b. is_good (cond b (judge_from (replicate file_limit false) 0 0 events) (Err Limit)) ≡ true → b ≡ true) (limit_fits limit)
       (λ _ w. refl)
       (λ _ w. true_not_false w refl) good
 
@@ -54,16 +55,16 @@ module _ (limit : ℕ) (events : List ℕ) (good : is_good (judge_of limit event
 
   -- ---- "A separate check accepts a proposal only if .., whoever proposed it; it accepts every such one."
 
-  pub accepted_only : (size : ℕ) (rows : List ℕ) → check_of limit events size rows ≡ Accepted → Acceptable limit events size rows
+  pub accepted_only : (size : ℕ) (rows : List ℕ) → check_of limit events size rows ≡ accepted → Acceptable limit events size rows
   accepted_only size rows a =
       by_test (λ b. (leb 1 size && leb size limit) ≡ b → Acceptable limit events size rows) (leb 1 size && leb size limit)
       (λ _ w. let low : 1 ≤ size = leb-true 1 size (and_left (leb 1 size) (leb size limit) w) in
       let high : size ≤ limit = leb-true size limit (and_right (leb 1 size) (leb size limit) w) in
       let f = sound size nobody 0 events rows none_open (omega (arith, most)) link_first (verdict_sized limit events size rows good w ∙ a) in
       record { least = low; most = high; whole = f.whole; each = f.each; apart = f.apart })
-      (λ _ w. absurd (let z : Fault 1 0 ≡ Accepted = verdict_size limit events size rows good w ∙ a in let x : ◌≡◌ {A = ℕ} 0 1 = cc in omega arith)) refl
+      (λ _ w. absurd (let z : ◌≡◌ {A = Verdict} (Err Size) accepted = verdict_size limit events size rows good w ∙ a in cc)) refl
 
-  pub accepted_every : (size : ℕ) (rows : List ℕ) → Acceptable limit events size rows → check_of limit events size rows ≡ Accepted
+  pub accepted_every : (size : ℕ) (rows : List ℕ) → Acceptable limit events size rows → check_of limit events size rows ≡ accepted
   accepted_every size rows p =
       let w : (leb 1 size && leb size limit) ≡ true = and_both (leb 1 size) (leb size limit) (le-leb 1 size p.least) (le-leb size limit p.most) in
       let f : Fine size events rows none_open = record { whole = p.whole; each = p.each; apart = p.apart } in
@@ -78,7 +79,7 @@ module _ (limit : ℕ) (events : List ℕ) (good : is_good (judge_of limit event
       let first : Twin size nobody nobody = record { same = λ t. refl; within = λ b l. nobody_owns b; longo = refl; longq = refl; small = omega (arith, p.most, most) } in
       smallest size nobody nobody 0 events rows p.least first (verdict_sized limit events size rows good w ∙ accepted_every size rows p)
 
-  fits_itself : size_from nobody events ≤ limit → check_of limit events (size_from nobody events) (rows_from nobody events) ≡ Accepted
+  fits_itself : size_from nobody events ≤ limit → check_of limit events (size_from nobody events) (rows_from nobody events) ≡ accepted
   fits_itself h =
       let w : (leb 1 (size_from nobody events) && leb (size_from nobody events) limit) ≡ true = and_both (leb 1 (size_from nobody events)) (leb (size_from nobody events) limit) (le-leb 1 (size_from nobody events) (size_one nobody events)) (le-leb (size_from nobody events) limit h) in
       sym (verdict_sized limit events (size_from nobody events) (rows_from nobody events) good w)
@@ -102,12 +103,12 @@ module _ (limit : ℕ) (events : List ℕ) (good : is_good (judge_of limit event
 
   -- ---- "or a refusal 19 exactly if no proposal within the limit would be accepted"
 
-  pub refused_19_none : plan_refusal limit events ≡ 19 → (size : ℕ) (rows : List ℕ) → check_of limit events size rows ≡ Accepted → ⊥
+  pub refused_19_none : plan_refusal limit events ≡ 19 → (size : ℕ) (rows : List ℕ) → check_of limit events size rows ≡ accepted → ⊥
   refused_19_none r size rows a =
       let p = accepted_only size rows a in
       by_size ⊥ (λ h. omega (arith, refusal_fits h)) (λ h. omega (arith, no_smaller size rows p, p.most))
 
-  pub none_refused_19 : ((size : ℕ) (rows : List ℕ) → check_of limit events size rows ≡ Accepted → ⊥) → plan_refusal limit events ≡ 19
+  pub none_refused_19 : ((size : ℕ) (rows : List ℕ) → check_of limit events size rows ≡ accepted → ⊥) → plan_refusal limit events ≡ 19
   none_refused_19 none = by_size (plan_refusal limit events ≡ 19) (λ h. absurd (none _ _ (fits_itself h))) refusal_wants
 
 -- ---- the same of the planner's answer
@@ -131,7 +132,7 @@ module _ (limit : ℕ) (events : List ℕ) where
       (λ _ g. g)
       (λ _ g. absurd (omega (arith, refused_1 g))) refl
 
-  pub check_refused : is_good (judge_of limit events) ≡ false → (size : ℕ) (rows : List ℕ) → check_of limit events size rows ≡ Refused
+  pub check_refused : is_good (judge_of limit events) ≡ false → (size : ℕ) (rows : List ℕ) → check_of limit events size rows ≡ Err BadList
   check_refused g size rows = sym (verdict_refused limit events size rows g)
 
   -- what is proposed is the proposal of the walk, of a good list, within the limit
@@ -154,9 +155,9 @@ module _ (limit : ℕ) (events : List ℕ) where
     proposed_fits = by_size limit events proposed_good (size_from nobody events ≤ limit) (λ h. h) (λ h. absurd (omega (arith, refusal_wants limit events proposed_good h)))
 
     -- the check accepts it
-    pub plan_accepted : check_of limit events (plan_size limit events) (plan_rows limit events) ≡ Accepted
+    pub plan_accepted : check_of limit events (plan_size limit events) (plan_rows limit events) ≡ accepted
     plan_accepted = rw (proposed_size, proposed_rows) (fits_itself limit events proposed_good proposed_fits)
 
     -- and no accepted proposal has a smaller size
-    pub plan_smallest : (size : ℕ) (rows : List ℕ) → check_of limit events size rows ≡ Accepted → plan_size limit events ≤ size
+    pub plan_smallest : (size : ℕ) (rows : List ℕ) → check_of limit events size rows ≡ accepted → plan_size limit events ≤ size
     plan_smallest size rows a = rw proposed_size (no_smaller limit events proposed_good size rows (accepted_only limit events proposed_good size rows a))

@@ -1,5 +1,5 @@
 -- One turn of each walk over a list, at index i, and its end. Assumes nothing.
-use mathlib.Core.Path.{◌≡◌, refl, sym, ap, ◌∙◌}
+use mathlib.Core.Path.{◌≡◌, refl, sym, ◌∙◌}
 use mathlib.Core.Bool.{Bool, true, false, cond, ◌&&◌}
 use mathlib.Core.List.{List, [], ◌∷◌, ◌++◌, append_assoc}
 use Prim.Native.Nat.{ℕ, suc, ◌+◌, ◌≤◌, ◌<◌, max}
@@ -13,19 +13,20 @@ use lib.Seq.{drop-cons, drop-drop, get_or-drop, take-suc-set, take-set-le}
 use Rattle.area.specs.Lists.{count_of}
 use Rattle.area.proofs.Marks.{cond_true, cond_false}
 use Rattle.area.proofs.Walks.{by_test, true_not_false, or_right}
-use Rattle.planner.specs.declared.Judged.{Judged}
-use Rattle.planner.specs.declared.Judged.TheVariants.{Good, Limit, Event}
-use Rattle.planner.specs.declared.Verdict.{Verdict}
-use Rattle.planner.specs.declared.Verdict.TheVariants.{Accepted, Refused, Fault}
-use Rattle.planner.specs.Events.{file_limit, file_of, opens, limit_fits, wrong_event, opened_after, judge_from, judge_of, is_good}
+use Rattle.std.proofs.Common.{Ok, Err, is_err}
+use Rattle.planner.specs.declared.ListFault.TheVariants.{Limit, Event}
+use Rattle.planner.specs.declared.Fault.{Fault}
+use Rattle.planner.specs.declared.Fault.TheVariants.{Openings}
+use Rattle.planner.specs.declared.Rejection.TheVariants.{BadList, Size, Row}
+use Rattle.planner.specs.Events.{file_limit, file_of, opens, limit_fits, wrong_event, opened_after, Judged, judge_from, judge_of, is_good}
 use Rattle.planner.specs.Rows.{buffers_of}
-use Rattle.planner.specs.Walk.{nobody, mark, claimed, released, row_fault, used, event_fault, owners_next, check_from, check_of}
+use Rattle.planner.specs.Walk.{Verdict, accepted, nobody, mark, claimed, released, row_fault, used, event_fault, owners_next, check_from, check_of}
 use Rattle.planner.specs.Greedy.{first_free, owners_after, row_of, wants, size_from, rows_from, plan_refusal, plan_size, plan_rows}
 
 -- ---- the judgement
 
 module _ (events : List ℕ) (i : ℕ) (h : i < length events) (opened : List Bool) (n : ℕ) where
-  pub judge_stop : wrong_event opened n (get_or events i 0) ≡ true → judge_from opened n i (drop i events) ≡ Event i
+  pub judge_stop : wrong_event opened n (get_or events i 0) ≡ true → judge_from opened n i (drop i events) ≡ Err (Event i)
   unfolding judge_from
   judge_stop e = rw (drop-cons events i 0 h, e)
 
@@ -34,26 +35,25 @@ module _ (events : List ℕ) (i : ℕ) (h : i < length events) (opened : List Bo
   unfolding judge_from
   judge_go e = rw (drop-cons events i 0 h, e, add-one i)
 
-pub judge_end : (events : List ℕ) (i : ℕ) → length events ≤ i → (opened : List Bool) (n : ℕ) → judge_from opened n i (drop i events) ≡ Good
+pub judge_end : (events : List ℕ) (i : ℕ) → length events ≤ i → (opened : List Bool) (n : ℕ) → judge_from opened n i (drop i events) ≡ Ok tt
 unfolding judge_from
 judge_end events i h opened n = rw (drop_of_length-le events h)
 
 -- ---- the check
 
 module _ (events : List ℕ) (i : ℕ) (h : i < length events) (size : ℕ) (q : List ℕ) (n : ℕ) (rows : List ℕ) where
-  pub check_stop : eqb (event_fault size q (get_or events i 0) rows) 0 ≡ false
-      → check_from size q n (drop i events) rows ≡ Fault (event_fault size q (get_or events i 0) rows) n
+  pub check_stop : (f : Fault) → event_fault size q (get_or events i 0) rows ≡ Err f → check_from size q n (drop i events) rows ≡ Err (Row f n)
   unfolding check_from
-  check_stop e = rw (drop-cons events i 0 h, e)
+  check_stop f e = rw (drop-cons events i 0 h, e)
 
-  pub check_go : eqb (event_fault size q (get_or events i 0) rows) 0 ≡ true
+  pub check_go : event_fault size q (get_or events i 0) rows ≡ Ok tt
       → check_from size q n (drop i events) rows
       ≡ check_from size (owners_next (get_or events i 0) rows q) (n + used (get_or events i 0)) (drop (i + 1) events) (drop (used (get_or events i 0)) rows)
   unfolding check_from
   check_go e = rw (add-one, drop-cons events i 0 h, e)
 
 pub check_end : (events : List ℕ) (i : ℕ) → length events ≤ i → (size : ℕ) (q : List ℕ) (n : ℕ) (rows : List ℕ)
-    → check_from size q n (drop i events) rows ≡ cond (eqb (length rows) 0) Accepted (Fault 2 n)
+    → check_from size q n (drop i events) rows ≡ cond (eqb (length rows) 0) accepted (Err (Row Openings n))
 unfolding check_from
 check_end events i h size q n rows = rw (drop_of_length-le events h)
 
@@ -109,12 +109,12 @@ module _ (owner : List ℕ) (i : ℕ) where
 -- ---- the check: one event, and the end, with the rows from row n on
 
 module _ (size : ℕ) (q : List ℕ) (e : ℕ) where
-  pub fault_closing : (rows : List ℕ) → opens e ≡ false → 0 ≡ event_fault size q e rows
+  pub fault_closing : (rows : List ℕ) → opens e ≡ false → Ok tt ≡ event_fault size q e rows
   unfolding event_fault
   fault_closing rows w = rw w
 
   module _ (rows : List ℕ) (n : ℕ) (w : opens e ≡ true) where
-    pub fault_missing : length rows ≤ n → 2 ≡ event_fault size q e (drop n rows)
+    pub fault_missing : length rows ≤ n → Err Openings ≡ event_fault size q e (drop n rows)
     unfolding event_fault
     fault_missing h = rw (w, drop_of_length-le rows h)
 
@@ -139,27 +139,24 @@ module _ (q : List ℕ) (e v : ℕ) (own : v ≡ mark e) where
     next_row = rw (w, own, get_or-drop n rows 0 0, add-zero n)
 
 module _ (events : List ℕ) (i size : ℕ) (q : List ℕ) (n : ℕ) (rows : List ℕ) (whole : Verdict) (inv : check_from size q n (drop i events) (drop n rows) ≡ whole) where
-  pub check_fault : (f : ℕ) → i < length events → f ≡ event_fault size q (get_or events i 0) (drop n rows) → (f ≡ 0 → ⊥) → Fault f n ≡ whole
-  check_fault f h e ne =
-      let no : eqb (event_fault size q (get_or events i 0) (drop n rows)) 0 ≡ false = ne_eqb (event_fault size q (get_or events i 0) (drop n rows)) 0 (λ z. ne (e ∙ z)) in
-      ap (λ (x : ℕ). Fault x n) e ∙ (sym (check_stop events i h size q n (drop n rows) no) ∙ inv)
+  pub check_fault : (f : Fault) → i < length events → event_fault size q (get_or events i 0) (drop n rows) ≡ Err f → Err (Row f n) ≡ whole
+  check_fault f h e = sym (check_stop events i h size q n (drop n rows) f e) ∙ inv
 
-  pub check_turn : (f n' : ℕ) (q' : List ℕ) → i < length events → f ≡ event_fault size q (get_or events i 0) (drop n rows) → f ≡ 0
+  pub check_turn : (n' : ℕ) (q' : List ℕ) → i < length events → event_fault size q (get_or events i 0) (drop n rows) ≡ Ok tt
       → q' ≡ owners_next (get_or events i 0) (drop n rows) q → n' ≡ n + used (get_or events i 0)
       → check_from size q' n' (drop (i + 1) events) (drop n' rows) ≡ whole
-  check_turn f n' q' h e z own next =
-      let yes : eqb (event_fault size q (get_or events i 0) (drop n rows)) 0 ≡ true = eq-eqb (event_fault size q (get_or events i 0) (drop n rows)) 0 (sym e ∙ z) in
-      rw (own, next, ← drop-drop (used (get_or events i 0)) n rows) (sym (check_go events i h size q n (drop n rows) yes) ∙ inv)
+  check_turn n' q' h e own next =
+      rw (own, next, ← drop-drop (used (get_or events i 0)) n rows) (sym (check_go events i h size q n (drop n rows) e) ∙ inv)
 
-  pub check_left : length events ≤ i → n < length rows → Fault 2 n ≡ whole
+  pub check_left : length events ≤ i → n < length rows → Err (Row Openings n) ≡ whole
   check_left h l =
       let some : eqb (length (drop n rows)) 0 ≡ false = ne_eqb (length (drop n rows)) 0 (λ z. omega (arith, length-drop n rows)) in
-      sym (cond_false Accepted (Fault 2 n) some) ∙ (sym (check_end events i h size q n (drop n rows)) ∙ inv)
+      sym (cond_false accepted (Err (Row Openings n)) some) ∙ (sym (check_end events i h size q n (drop n rows)) ∙ inv)
 
-  pub check_done : length events ≤ i → length rows ≤ n → Accepted ≡ whole
+  pub check_done : length events ≤ i → length rows ≤ n → accepted ≡ whole
   check_done h l =
       let none : eqb (length (drop n rows)) 0 ≡ true = eq-eqb (length (drop n rows)) 0 (omega (arith, length-drop n rows)) in
-      sym (cond_true Accepted (Fault 2 n) none) ∙ (sym (check_end events i h size q n (drop n rows)) ∙ inv)
+      sym (cond_true accepted (Err (Row Openings n)) none) ∙ (sym (check_end events i h size q n (drop n rows)) ∙ inv)
 
 -- ---- the verdict and the plan, case by case
 
@@ -169,8 +166,17 @@ pub record Planned (limit : ℕ) (events : List ℕ) (refusal size : ℕ) (rows 
   pub sized : size ≡ plan_size limit events
   pub served : rows ≡ plan_rows limit events
 
+-- the list is good, and a fault of it
+pub list_good : (j w : Judged) → j ≡ w → is_err j ≡ false → is_good w ≡ true
+list_good (Ok t) w e n = rw (← e) refl
+list_good (Err fault) w e n = absurd (cc)
+
+pub list_bad : (j w : Judged) → j ≡ w → is_err j ≡ true → is_good w ≡ false
+list_bad (Ok t) w e n = absurd (cc)
+list_bad (Err fault) w e n = rw (← e) refl
+
 module _ (limit : ℕ) (events : List ℕ) (size : ℕ) (rows : List ℕ) where
-  pub verdict_refused : is_good (judge_of limit events) ≡ false → Refused ≡ check_of limit events size rows
+  pub verdict_refused : is_good (judge_of limit events) ≡ false → Err BadList ≡ check_of limit events size rows
   unfolding check_of
   verdict_refused g = rw g
 
@@ -178,7 +184,7 @@ module _ (limit : ℕ) (events : List ℕ) (size : ℕ) (rows : List ℕ) where
   unfolding check_of
   verdict_sized g s = rw (g, s)
 
-  pub verdict_size : is_good (judge_of limit events) ≡ true → (leb 1 size && leb size limit) ≡ false → Fault 1 0 ≡ check_of limit events size rows
+  pub verdict_size : is_good (judge_of limit events) ≡ true → (leb 1 size && leb size limit) ≡ false → Err Size ≡ check_of limit events size rows
   unfolding check_of
   verdict_size g s = rw (g, s)
 
@@ -211,7 +217,7 @@ pub good_from : (opened : List Bool) (n i e : ℕ) (es : List ℕ) → is_good (
     → (wrong_event opened n e ≡ false) × (is_good (judge_from (opened_after opened e) (n + used e) (i + 1) es) ≡ true)
 unfolding judge_from
 good_from opened n i e es g =
-    by_test (λ b. is_good (cond b (Event i) (judge_from (opened_after opened e) (n + used e) (i + 1) es)) ≡ true → (b ≡ false) × (is_good (judge_from (opened_after opened e) (n + used e) (i + 1) es) ≡ true))
+    by_test (λ b. is_good (cond b (Err (Event i)) (judge_from (opened_after opened e) (n + used e) (i + 1) es)) ≡ true → (b ≡ false) × (is_good (judge_from (opened_after opened e) (n + used e) (i + 1) es) ≡ true))
     (wrong_event opened n e)
     (λ _ w. true_not_false w refl)
     (λ _ w. (refl, w)) g
@@ -230,14 +236,14 @@ openings_fit opened n i (e ∷ es) h g =
 pub list_fits : (limit : ℕ) (events : List ℕ) → is_good (judge_of limit events) ≡ true → count_of opens events ≤ 64
 unfolding judge_of
 list_fits limit events g =
-    by_test (λ b. is_good (cond b (judge_from (replicate file_limit false) 0 0 events) Limit) ≡ true → count_of opens events ≤ 64) (limit_fits limit)
+    by_test (λ b. is_good (cond b (judge_from (replicate file_limit false) 0 0 events) (Err Limit)) ≡ true → count_of opens events ≤ 64) (limit_fits limit)
     (λ _ w. omega (arith, openings_fit (replicate file_limit false) 0 0 events (omega arith) w))
     (λ _ w. true_not_false w refl) g
 
 -- ---- the judgement, as its loop meets it
 
 module _ (limit : ℕ) (events : List ℕ) where
-  pub judge_limit : limit_fits limit ≡ false → Limit ≡ judge_of limit events
+  pub judge_limit : limit_fits limit ≡ false → Err Limit ≡ judge_of limit events
   unfolding judge_of
   judge_limit w = rw w
 
@@ -246,7 +252,7 @@ module _ (limit : ℕ) (events : List ℕ) where
   judge_first w = rw w
 
 module _ (events : List ℕ) (opened : List Bool) (n i : ℕ) (whole : Judged) (inv : judge_from opened n i (drop i events) ≡ whole) where
-  pub judge_fault : i < length events → wrong_event opened n (get_or events i 0) ≡ true → Event i ≡ whole
+  pub judge_fault : i < length events → wrong_event opened n (get_or events i 0) ≡ true → Err (Event i) ≡ whole
   judge_fault h w = sym (judge_stop events i h opened n w) ∙ inv
 
   pub judge_turn_lem : (opened' : List Bool) (n' : ℕ) → i < length events → wrong_event opened n (get_or events i 0) ≡ false

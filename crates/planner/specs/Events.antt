@@ -1,7 +1,7 @@
 -- A list of openings and closings, and when it is good (document 02, M-111). Assumes nothing.
-use Rattle.std.specs.Prelude.{Bool, true, false, not, cond, ◌&&◌, ◌||◌, List, [], ◌∷◌, ℕ, ◌+◌, ◌%◌, leb, ltb, get_or, set, replicate}
-use Rattle.planner.specs.declared.Judged.{Judged}
-use Rattle.planner.specs.declared.Judged.TheVariants.{Good, Limit, Event}
+use Rattle.std.specs.Prelude.{Result, Ok, Err, Bool, true, false, not, cond, ◌&&◌, ◌||◌, List, [], ◌∷◌, ℕ, ◌+◌, ◌%◌, leb, ltb, get_or, set, replicate}
+use Rattle.planner.specs.declared.ListFault.{ListFault}
+use Rattle.planner.specs.declared.ListFault.TheVariants.{Limit, Event}
 
 -- files, and openings in a list, at most
 abbrev pub file_limit : ℕ
@@ -39,16 +39,19 @@ wrong_event opened n e =
 unfoldable pub opened_after : List Bool → ℕ → List Bool
 opened_after opened e = set opened (file_of e) (opens e)
 
+-- a list is good, or at fault
+abbrev pub Judged : Type 0
+Judged = Result (Unit {0}) ListFault
+
 -- the first wrong event of a list, whose first event has index i
 unfoldable pub judge_from : List Bool → ℕ → ℕ → List ℕ → Judged
-judge_from opened n i [] = Good
-judge_from opened n i (e ∷ es) = cond (wrong_event opened n e) (Event i) (judge_from (opened_after opened e) (n + cond (opens e) 1 0) (i + 1) es)
+judge_from opened n i [] = Ok tt
+judge_from opened n i (e ∷ es) = cond (wrong_event opened n e) (Err (Event i)) (judge_from (opened_after opened e) (n + cond (opens e) 1 0) (i + 1) es)
 
 -- the judgement of a limit and a list: no file is open at first
 unfoldable pub judge_of : ℕ → List ℕ → Judged
-judge_of limit events = cond (limit_fits limit) (judge_from (replicate file_limit false) 0 0 events) Limit
+judge_of limit events = cond (limit_fits limit) (judge_from (replicate file_limit false) 0 0 events) (Err Limit)
 
 abbrev pub is_good : Judged → Bool
-is_good Good = true
-is_good Limit = false
-is_good (Event i) = false
+is_good (Ok t) = true
+is_good (Err fault) = false

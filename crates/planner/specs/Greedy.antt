@@ -1,5 +1,8 @@
 -- The planner: each opening takes the lowest free buffers. Assumes nothing.
-use Rattle.std.specs.Prelude.{◌≡◌, cond, List, [], ◌∷◌, ℕ, suc, ◌+◌, ◌*◌, max, eqb, leb, ltb, set}
+use Rattle.std.specs.Prelude.{◌≡◌, Result, Ok, Err, cond, List, [], ◌∷◌, ℕ, suc, ◌+◌, ◌*◌, max, eqb, leb, ltb, set, take}
+use Rattle.planner.specs.declared.Proposal.{Proposal}
+use Rattle.planner.specs.declared.NoPlan.{NoPlan}
+use Rattle.planner.specs.declared.NoPlan.TheVariants.{BadList, NoPool}
 use Rattle.planner.specs.Events.{file_of, opens, is_good, judge_of}
 use Rattle.planner.specs.Walk.{nobody, mark, released}
 
@@ -48,6 +51,24 @@ plan_size limit events = cond (eqb (plan_refusal limit events) 0) (size_from nob
 
 unfoldable pub plan_rows : ℕ → List ℕ → List ℕ
 plan_rows limit events = cond (eqb (plan_refusal limit events) 0) (rows_from nobody events) []
+
+-- ---- an answer of the planner as these numbers
+
+abbrev pub refusal_number : NoPlan → ℕ
+refusal_number BadList = 1
+refusal_number NoPool = 19
+
+abbrev pub refusal_of : Result Proposal NoPlan → ℕ
+refusal_of (Ok p) = 0
+refusal_of (Err e) = refusal_number e
+
+abbrev pub size_in : Result Proposal NoPlan → ℕ
+size_in (Ok p) = p.size
+size_in (Err e) = 0
+
+abbrev pub rows_in : Result Proposal NoPlan → List ℕ
+rows_in (Ok p) = take p.count p.rows
+rows_in (Err e) = []
 
 -- this size and these rows, whatever the limit
 pub record Made (events : List ℕ) (size : ℕ) (rows : List ℕ) : Type 0 where

@@ -1,8 +1,8 @@
 // The judgement of a list, which the planner and the check share.
 ghost use Rattle.std.specs.Prelude.{◌≡◌, cond, ◌+◌, ◌-◌, ◌^◌, ◌<◌, ◌≤◌};
-ghost use Rattle.planner.specs.Events.{limit_fits, opens, file_of, asked, wrong_event, opened_after, judge_of, is_good};
+ghost use Rattle.planner.specs.Events.{limit_fits, opens, file_of, asked, wrong_event, opened_after, judge_of};
 
-use crate::{FILES, Judged};
+use crate::{FILES, ListFault};
 
 // The largest limit, and the most openings that a list has.
 const LIMIT: u8 = 64;
@@ -80,36 +80,22 @@ pub fn count_after(n: usize, e: u8) -> usize
     n
 }
 
-// What the list is: the first fault, if there is one.
-pub fn judge(limit: u8, events: &[u8]) -> Judged
+// Whether the list is good: else its first fault.
+pub fn judge(limit: u8, events: &[u8]) -> Result<(), ListFault>
     ensures { result ≡ judge_of limit events.now }
 {
     if !limit_fits(limit) {
-        return Judged::Limit;
+        return Err(ListFault::Limit);
     }
     let mut opened = [false; FILES];
-    let mut n: usize = 0;
-    let mut i: usize = 0;
-    while i < events.len() {
-        let e = events[i];
-        if wrong_event(opened, n, e) {
-            return Judged::Event(i);
+    let mut n = 0;
+    for (i, e) in events.iter().enumerate() {
+        if wrong_event(opened, n, *e) {
+            return Err(ListFault::Event(i));
         }
-        let after = opened_after(opened, e);
+        let after = opened_after(opened, *e);
         opened = after;
-        n = count_after(n, e);
-        i += 1;
+        n = count_after(n, *e);
     }
-    Judged::Good
-}
-
-// Whether a list is good.
-pub fn is_good(j: Judged) -> bool
-    ensures { result ≡ is_good j }
-{
-    match j {
-        Judged::Good => true,
-        Judged::Limit => false,
-        Judged::Event(_) => false,
-    }
+    Ok(())
 }

@@ -16,27 +16,44 @@ pub use walk::check;
 // Files, openings and buffers, at most.
 pub const FILES: usize = 64;
 
-// What a list is: good, or at fault in its limit, or first in the event of that index.
-#[derive(Clone, Copy)]
-pub enum Judged {
-    Good,
+// Where a list is at fault: in its limit, or first in the event of that index.
+#[derive(Clone, Copy, PartialEq, Eq, Debug)]
+pub enum ListFault {
     Limit,
     Event(usize),
 }
 
-// What the planner answers: 0 and the proposal, whose rows are the first `count`; or 1 or 19 and no proposal.
+// What the planner proposes: a pool size and the first `count` of these rows.
 #[derive(Clone, Copy)]
-pub struct Proposed {
-    pub refusal: u8,
+pub struct Proposal {
     pub size: u8,
     pub count: usize,
     pub rows: [u32; FILES],
 }
 
-// What the check answers: accepted; the list is refused 1; or why the proposal is not accepted, and at which row (1: its size).
-#[derive(Clone, Copy)]
-pub enum Verdict {
-    Accepted,
-    Refused,
-    Fault(u8, usize),
+// Why it proposes nothing: the list is at fault, refusal 1; or no pool within the limit will do, refusal 19.
+#[derive(Clone, Copy, PartialEq, Eq, Debug)]
+pub enum NoPlan {
+    BadList,
+    NoPool,
+}
+
+// Why a row, or the want of one, is not accepted: not as many rows as openings; a row of another file; another count of buffers than the opening asks for;
+// a buffer outside the size; the same buffer twice; a buffer that serves two open files.
+#[derive(Clone, Copy, PartialEq, Eq, Debug)]
+pub enum Fault {
+    Openings,
+    OtherFile,
+    OtherCount,
+    Outside,
+    Twice,
+    Shared,
+}
+
+// Why the check accepts no proposal of this list, or not this one: the list is at fault, refusal 1; its size; or the first fault, at the row of that index.
+#[derive(Clone, Copy, PartialEq, Eq, Debug)]
+pub enum Rejection {
+    BadList,
+    Size,
+    Row(Fault, usize),
 }

@@ -3,8 +3,8 @@ ghost use Rattle.std.specs.Prelude.{◌≡◌, [], ◌∷◌, drop, set};
 ghost use Rattle.planner.specs.Rows.{buffers_of};
 ghost use Rattle.planner.specs.Walk.{is_free, leave, released, claimed, buffers_fault, row_fault, event_fault, owners_next, nobody, check_from, check_of};
 
-use crate::events::{asked, count_after, file_of, is_good, judge, opens};
-use crate::{FILES, Verdict};
+use crate::events::{asked, count_after, file_of, judge, opens};
+use crate::{FILES, Fault, Rejection};
 
 // Whether a buffer serves nobody.
 fn is_free(owner: [u8; FILES], b: u8) -> bool
@@ -17,48 +17,48 @@ fn is_free(owner: [u8; FILES], b: u8) -> bool
     true
 }
 
-// Why one buffer cannot serve an opening: 5 outside the size, 7 it serves another file; 0 if it can.
-fn single_fault(size: u8, owner: [u8; FILES], b: u8) -> u8
+// Whether one buffer can serve an opening: else it is outside the size, or serves another file.
+fn single_fault(size: u8, owner: [u8; FILES], b: u8) -> Result<(), Fault>
     ensures { result ≡ buffers_fault size owner (b ∷ []) }
 {
     if size <= b {
-        return 5;
+        return Err(Fault::Outside);
     }
     if is_free(owner, b) {
-        return 0;
+        return Ok(());
     }
-    7
+    Err(Fault::Shared)
 }
 
-// Why two buffers cannot serve an opening: 5 outside the size, 6 they are the same, 7 one serves another file; 0 if they can.
-fn pair_fault(size: u8, owner: [u8; FILES], b: u8, c: u8) -> u8
+// Whether two buffers can serve an opening: else one is outside the size, they are the same, or one serves another file.
+fn pair_fault(size: u8, owner: [u8; FILES], b: u8, c: u8) -> Result<(), Fault>
     ensures { result ≡ buffers_fault size owner (c ∷ b ∷ []) }
 {
     if (size <= b) | (size <= c) {
-        return 5;
+        return Err(Fault::Outside);
     }
     if c == b {
-        return 6;
+        return Err(Fault::Twice);
     }
     let one = is_free(owner, b);
     let other = is_free(owner, c);
     if one & other {
-        return 0;
+        return Ok(());
     }
-    7
+    Err(Fault::Shared)
 }
 
-// Why a row cannot serve an opening: 3 it names another file, 4 it has another count of buffers, or what is wrong with its buffers; 0 if it can.
-fn row_fault(size: u8, owner: [u8; FILES], e: u8, row: u32) -> u8
+// Whether a row can serve an opening: else it names another file or another count of buffers, or something is wrong with its buffers.
+fn row_fault(size: u8, owner: [u8; FILES], e: u8, row: u32) -> Result<(), Fault>
     ensures { result ≡ row_fault size owner e row }
 {
     let file = (row / 65536 % 256) as u8;
     if file != file_of(e) {
-        return 3;
+        return Err(Fault::OtherFile);
     }
     let count = row / 16777216;
     if count != (asked(e) as u32) {
-        return 4;
+        return Err(Fault::OtherCount);
     }
     let first = (row % 256) as u8;
     if count == 1 {
@@ -76,7 +76,6 @@ fn with_owner(owner: [u8; FILES], b: u8, v: u8) -> [u8; FILES]
     let mut after = owner;
     if at < FILES {
         after[at] = v;
-        return after;
     }
     after
 }
@@ -113,24 +112,21 @@ fn release(owner: [u8; FILES], v: u8) -> [u8; FILES]
     ensures { result ≡ released v owner }
 {
     let mut after = owner;
-    let mut i: usize = 0;
-    while i < FILES {
-        let x = after[i];
-        after[i] = left_by(v, x);
-        i += 1;
+    for x in after.iter_mut() {
+        *x = left_by(v, *x);
     }
     after
 }
 
-// Why an event cannot be: the next row, row n, cannot serve its opening, or there is none (2); 0 for a closing.
-fn event_fault(size: u8, owner: [u8; FILES], e: u8, rows: &[u32], n: usize) -> u8
+// Whether an event can be: else the next row, row n, cannot serve its opening, or there is none.
+fn event_fault(size: u8, owner: [u8; FILES], e: u8, rows: &[u32], n: usize) -> Result<(), Fault>
     ensures { result ≡ event_fault size owner e (drop n rows.now) }
 {
     if !opens(e) {
-        return 0;
+        return Ok(());
     }
     if rows.len() <= n {
-        return 2;
+        return Err(Fault::Openings);
     }
     row_fault(size, owner, e, rows[n])
 }
@@ -150,39 +146,34 @@ fn owners_next(owner: [u8; FILES], e: u8, rows: &[u32], n: usize) -> [u8; FILES]
 }
 
 // What the events and rows come to, where no file is open at first.
-fn check_from(events: &[u8], size: u8, rows: &[u32]) -> Verdict
+fn check_from(events: &[u8], size: u8, rows: &[u32]) -> Result<(), Rejection>
     ensures { result ≡ check_from size nobody 0 events.now rows.now }
 {
     let mut owner = [0u8; FILES];
-    let mut n: usize = 0;
-    let mut i: usize = 0;
-    while i < events.len() {
-        let e = events[i];
-        let fault = event_fault(size, owner, e, rows, n);
-        if fault != 0 {
-            return Verdict::Fault(fault, n);
+    let mut n = 0;
+    for e in events {
+        if let Err(fault) = event_fault(size, owner, *e, rows, n) {
+            return Err(Rejection::Row(fault, n));
         }
-        let after = owners_next(owner, e, rows, n);
+        let after = owners_next(owner, *e, rows, n);
         owner = after;
-        n = count_after(n, e);
-        i += 1;
+        n = count_after(n, *e);
     }
     if n < rows.len() {
-        return Verdict::Fault(2, n);
+        return Err(Rejection::Row(Fault::Openings, n));
     }
-    Verdict::Accepted
+    Ok(())
 }
 
-// The verdict on a proposal, a size and rows, for a list under a limit.
-pub fn check(limit: u8, events: &[u8], size: u8, rows: &[u32]) -> Verdict
+// Whether a proposal, a size and rows, is accepted for a list under a limit.
+pub fn check(limit: u8, events: &[u8], size: u8, rows: &[u32]) -> Result<(), Rejection>
     ensures { result ≡ check_of limit events.now size rows.now }
 {
-    let good = is_good(judge(limit, events));
-    if !good {
-        return Verdict::Refused;
+    if judge(limit, events).is_err() {
+        return Err(Rejection::BadList);
     }
     if (1 <= size) & (size <= limit) {
         return check_from(events, size, rows);
     }
-    Verdict::Fault(1, 0)
+    Err(Rejection::Size)
 }

@@ -10,6 +10,7 @@ use lib.Dec.{eqb, leb}
 use lib.ListN.{length, get_or, take, drop, set, drop_of_length-le, length-drop}
 use lib.Seq.{drop-cons, drop-drop, take-suc-set, take_all, take-nil}
 use Rattle.area.specs.Lists.{count_of}
+use lib.Pointwise.{pointwise}
 use Rattle.area.proofs.Walks.{by_test}
 use Rattle.session_line.specs.Lines.{feed, onto, lines_of}
 use Rattle.planner_text.specs.Fields.{up_to, first_to, rest_to, same_bytes, digit, capped, digits_from, number_of, blank, size_word}
@@ -17,43 +18,19 @@ use Rattle.planner_text.specs.Texts.{field1, field2, field3, close_event, open_e
 
 -- ---- the way to a byte
 
-module _ (stop : ℕ) (text : List ℕ) (i : ℕ) where
-  pub up_stop : i < length text → get_or text i 0 ≡ stop → up_to stop (drop i text) ≡ 0
-  unfolding up_to
-  up_stop h e = rw (drop-cons text i 0 h, eq-eqb (get_or text i 0) stop e)
-
-  pub up_go : i < length text → (get_or text i 0 ≡ stop → ⊥) → up_to stop (drop i text) ≡ suc (up_to stop (drop (i + 1) text))
-  unfolding up_to
-  up_go h ne = rw (add-one, drop-cons text i 0 h, ne_eqb (get_or text i 0) stop ne)
-
-  pub up_end : length text ≤ i → up_to stop (drop i text) ≡ 0
-  unfolding up_to
-  up_end h = rw (drop_of_length-le text h)
+pub up_within : (stop : ℕ) (text : List ℕ) → up_to stop text ≤ length text
+unfolding up_to
+up_within stop [] = omega arith
+up_within stop (c ∷ cs) = by_test (λ b. cond b 0 (suc (up_to stop cs)) ≤ suc (length cs)) (eqb c stop) (λ _. omega arith) (λ _. omega (arith, up_within stop cs))
 
 -- ---- two texts side by side
 
-pub same_long : (a b : List ℕ) → (length a ≡ length b → ⊥) → same_bytes a b ≡ false
+pub same_is : (a b : List ℕ) → pointwise eqb a b ≡ same_bytes a b
 unfolding same_bytes
-same_long [] [] ne = absurd (ne refl)
-same_long [] (y ∷ ys) ne = refl
-same_long (x ∷ xs) [] ne = refl
-same_long (x ∷ xs) (y ∷ ys) ne =
-    by_test (λ t. (t && same_bytes xs ys) ≡ false) (eqb x y)
-    (λ _. same_long xs ys (λ z. ne (ap suc z)))
-    (λ _. refl)
-
-module _ (a b : List ℕ) (i : ℕ) where
-  pub same_go : i < length a → i < length b → get_or a i 0 ≡ get_or b i 0 → same_bytes (drop i a) (drop i b) ≡ same_bytes (drop (i + 1) a) (drop (i + 1) b)
-  unfolding same_bytes
-  same_go h k e = rw (add-one, drop-cons a i 0 h, drop-cons b i 0 k, eq-eqb (get_or a i 0) (get_or b i 0) e)
-
-  pub same_stop : i < length a → i < length b → (get_or a i 0 ≡ get_or b i 0 → ⊥) → same_bytes (drop i a) (drop i b) ≡ false
-  unfolding same_bytes
-  same_stop h k ne = rw (drop-cons a i 0 h, drop-cons b i 0 k, ne_eqb (get_or a i 0) (get_or b i 0) ne)
-
-  pub same_end : length a ≤ i → length b ≤ i → same_bytes (drop i a) (drop i b) ≡ true
-  unfolding same_bytes
-  same_end h k = rw (drop_of_length-le a h, drop_of_length-le b k)
+same_is [] [] = refl
+same_is [] (y ∷ ys) = refl
+same_is (x ∷ xs) [] = refl
+same_is (x ∷ xs) (y ∷ ys) = ap (λ (t : Bool). eqb x y && t) (same_is xs ys)
 
 -- ---- digits
 

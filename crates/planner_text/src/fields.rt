@@ -1,7 +1,7 @@
 // What one line says: its fields are parted by single blanks.
 ghost use Rattle.std.specs.Prelude.{◌≡◌, ◌≤◌, ◌<◌, min, length};
 ghost use Rattle.area.specs.Lists.{count_of};
-ghost use Rattle.planner_text.specs.Fields.{up_to, first_to, rest_to, same_bytes, blank, digit, capped, digits_from, number_of, open_word, close_word, single_word, double_word, size_word};
+ghost use Rattle.planner_text.specs.Fields.{up_to, first_to, rest_to, same_bytes, blank, digit, capped, digits_from, number_of};
 ghost use Rattle.planner_text.specs.Texts.{field1, field2, field3, close_event, open_event, event_of, byte_or0, limit_of, size_of, packed, row_of};
 
 // The byte between fields.
@@ -14,14 +14,7 @@ const NONE: u16 = 256;
 pub fn up_to(text: &[u8], stop: u8) -> usize
     ensures { (result ≡ up_to stop text.now) × (result ≤ length text.now) }
 {
-    let mut i: usize = 0;
-    while i < text.len() {
-        if text[i] == stop {
-            return i;
-        }
-        i += 1;
-    }
-    i
+    text.iter().position(|c| *c == stop).unwrap_or(text.len())
 }
 
 // The bytes before the first `stop`.
@@ -38,8 +31,7 @@ pub fn rest(text: &[u8], stop: u8) -> &[u8]
 {
     let n = up_to(text, stop);
     if n < text.len() {
-        let at = n + 1;
-        return &text[at..];
+        return &text[n + 1..];
     }
     &text[n..]
 }
@@ -48,13 +40,11 @@ pub fn rest(text: &[u8], stop: u8) -> &[u8]
 fn blanks(line: &[u8]) -> usize
     ensures { result ≡ count_of blank line.now }
 {
-    let mut n: usize = 0;
-    let mut i: usize = 0;
-    while i < line.len() {
-        if line[i] == BLANK {
+    let mut n = 0;
+    for c in line {
+        if *c == BLANK {
             n += 1;
         }
-        i += 1;
     }
     n
 }
@@ -63,17 +53,7 @@ fn blanks(line: &[u8]) -> usize
 fn same(a: &[u8], b: &[u8]) -> bool
     ensures { result ≡ same_bytes a.now b.now }
 {
-    if a.len() != b.len() {
-        return false;
-    }
-    let mut i: usize = 0;
-    while i < a.len() {
-        if a[i] != b[i] {
-            return false;
-        }
-        i += 1;
-    }
-    true
+    a == b
 }
 
 // Whether a byte is a decimal digit.
@@ -99,15 +79,12 @@ fn with_digit(v: u16, c: u8) -> u16
 fn digits_from(field: &[u8]) -> u16
     ensures { (result ≡ digits_from 0 field.now) × (result ≤ 256) }
 {
-    let mut v: u16 = 0;
-    let mut i: usize = 0;
-    while i < field.len() {
-        let c = field[i];
-        if !is_digit(c) {
+    let mut v = 0;
+    for c in field {
+        if !is_digit(*c) {
             return NONE;
         }
-        v = with_digit(v, c);
-        i += 1;
+        v = with_digit(v, *c);
     }
     v
 }
@@ -136,37 +113,6 @@ fn byte_or_0(n: u16) -> u8
         return 0;
     }
     n as u8
-}
-
-// Whether a field is one of the words of a list or a proposal.
-fn is_open(field: &[u8]) -> bool
-    ensures { result ≡ same_bytes field.now open_word }
-{
-    same(field, b"open")
-}
-
-fn is_close(field: &[u8]) -> bool
-    ensures { result ≡ same_bytes field.now close_word }
-{
-    same(field, b"close")
-}
-
-fn is_single(field: &[u8]) -> bool
-    ensures { result ≡ same_bytes field.now single_word }
-{
-    same(field, b"single")
-}
-
-fn is_double(field: &[u8]) -> bool
-    ensures { result ≡ same_bytes field.now double_word }
-{
-    same(field, b"double")
-}
-
-fn is_size(field: &[u8]) -> bool
-    ensures { result ≡ same_bytes field.now size_word }
-{
-    same(field, b"size")
 }
 
 // The second and the third field of a line: nothing, where it has none.
@@ -206,7 +152,7 @@ fn close_event(file: u8, word: &[u8]) -> u8
     requires { file < 64 }
     ensures { result ≡ close_event file word.now }
 {
-    if is_close(word) {
+    if same(word, b"close") {
         return 128 + file;
     }
     255
@@ -217,13 +163,13 @@ fn open_event(file: u8, word: &[u8], kind: &[u8]) -> u8
     requires { file < 64 }
     ensures { result ≡ open_event file word.now kind.now }
 {
-    if !is_open(word) {
+    if !same(word, b"open") {
         return 255;
     }
-    if is_single(kind) {
+    if same(kind, b"single") {
         return file;
     }
-    if is_double(kind) {
+    if same(kind, b"double") {
         return 64 + file;
     }
     255
@@ -258,7 +204,7 @@ pub fn limit_of(line: &[u8]) -> u8
 pub fn size_of(line: &[u8]) -> u8
     ensures { result ≡ size_of line.now }
 {
-    let word = is_size(first(line, BLANK));
+    let word = same(first(line, BLANK), b"size");
     let n = blanks(line);
     if word & (n == 1) {
         return byte_or_0(number2(line));

@@ -30,17 +30,15 @@ fn read_events(text: &[u8], at: usize, events: &mut [u8]) -> usize
     ensures upper_bound { (result ≤ length events.old) × (length events.new ≡ length events.old) }
 {
     let mut i = at;
-    let mut n: usize = 0;
-    while i < text.len() {
-        if events.len() <= n {
+    for n in 0..events.len() {
+        if text.len() <= i {
             return n;
         }
         let left = &text[i..];
         events[n] = event_of(first(left, FEED));
-        n += 1;
         i = after_line(text, i);
     }
-    n
+    events.len()
 }
 
 // The same as rows of a proposal.
@@ -50,17 +48,15 @@ fn read_rows(text: &[u8], at: usize, rows: &mut [u32]) -> usize
     ensures upper_bound { (result ≤ length rows.old) × (length rows.new ≡ length rows.old) }
 {
     let mut i = at;
-    let mut n: usize = 0;
-    while i < text.len() {
-        if rows.len() <= n {
+    for n in 0..rows.len() {
+        if text.len() <= i {
             return n;
         }
         let left = &text[i..];
         rows[n] = row_of(first(left, FEED));
-        n += 1;
         i = after_line(text, i);
     }
-    n
+    rows.len()
 }
 
 // The place after the first line: the end, if there is none.

@@ -26,11 +26,7 @@ fn slot_kind(x: Slot) -> u8
         Slot::Empty => 0,
         Slot::Taken => 1,
         Slot::Part(_) => 2,
-        Slot::Full {
-            words: _,
-            at: _,
-            arrival: _,
-        } => 3,
+        Slot::Full { .. } => 3,
     }
 }
 
@@ -39,14 +35,9 @@ fn slot_words(x: Slot) -> u16
     ensures { result ≡ slot_words x }
 {
     match x {
-        Slot::Empty => 0,
-        Slot::Taken => 0,
-        Slot::Part(n) => n,
-        Slot::Full {
-            words,
-            at: _,
-            arrival: _,
-        } => words,
+        Slot::Empty | Slot::Taken => 0,
+        Slot::Part(words) => words,
+        Slot::Full { words, .. } => words,
     }
 }
 
@@ -187,12 +178,10 @@ pub fn put_file(out: &mut [u8], at: usize, f: File)
     requires { at + file_size ≤ length out.old }
     ensures { out.new ≡ paste at (file_codec.write f) out.old }
 {
-    let low = f.low;
-    let high = f.high;
     let own = file_row(f, f.block);
     put_bytes(out, at, &own);
-    put_buffer(out, at + OWN, low);
-    put_buffer(out, at + OWN + BUFFER, high);
+    put_buffer(out, at + OWN, f.low);
+    put_buffer(out, at + OWN + BUFFER, f.high);
 }
 
 // The file that stands at byte `at`.
@@ -229,12 +218,9 @@ pub fn put_files(out: &mut [u8], at: usize, files: [File; FILES])
     ensures { out.new ≡ paste at (files_codec.write files) out.old }
 {
     let mut to = at;
-    let mut i = 0;
-    while i < FILES {
-        let f = files[i];
-        put_file(out, to, f);
+    for file in files.iter() {
+        put_file(out, to, *file);
         to += FILE;
-        i += 1;
     }
 }
 
@@ -246,12 +232,10 @@ pub fn files_at(b: &[u8], start: usize) -> [File; FILES]
     let closed = closed_file();
     let mut files = [closed; FILES];
     let mut at = start;
-    let mut i = 0;
-    while i < FILES {
+    for file in files.iter_mut() {
         let f = file_at(b, at);
-        files[i] = f;
+        *file = f;
         at += FILE;
-        i += 1;
     }
     files
 }

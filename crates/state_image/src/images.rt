@@ -36,21 +36,18 @@ fn put_state(out: &mut [u8], s: State, n: usize)
     requires { (n ≤ unit_count) × (state_size n ≤ length out.old) }
     ensures { out.new ≡ paste 0 ((state_codec n).write s) out.old }
 {
-    let channels = s.channels;
-    let files = s.files;
-    let routines = s.routines;
     let own = state_row(s);
     put_bytes(out, 0, &own);
-    put_channels(out, OWN, channels, n);
+    put_channels(out, OWN, s.channels, n);
     put_files(
         out,
         OWN + CHANNELS * (crate::units::OWN + n * crate::units::UNIT),
-        files,
+        s.files,
     );
     put_routines(
         out,
         OWN + (CHANNELS * (crate::units::OWN + n * crate::units::UNIT) + FILE_BYTES),
-        routines,
+        s.routines,
         n,
     );
 }

@@ -54,12 +54,9 @@ fn put_pushed(out: &mut [u8], at: usize, pushed: [Program; DEPTH])
     ensures { out.new ≡ paste at (pushed_codec.write pushed) out.old }
 {
     let mut to = at;
-    let mut i = 0;
-    while i < DEPTH {
-        let p = pushed[i];
-        put_program(out, to, p);
+    for program in pushed.iter() {
+        put_program(out, to, *program);
         to += PROGRAM;
-        i += 1;
     }
 }
 
@@ -71,12 +68,10 @@ fn pushed_at(b: &[u8], start: usize) -> [Program; DEPTH]
     let none = main_program();
     let mut pushed = [none; DEPTH];
     let mut at = start;
-    let mut i = 0;
-    while i < DEPTH {
+    for program in pushed.iter_mut() {
         let p = program_at(b, at);
-        pushed[i] = p;
+        *program = p;
         at += PROGRAM;
-        i += 1;
     }
     pushed
 }
@@ -112,9 +107,7 @@ fn programs_at(b: &[u8], at: usize) -> Programs
 fn post_row(x: Post) -> [u8; POST]
     ensures { result ≡ post_row x }
 {
-    let a = x.named;
-    let b = x.due;
-    [a.rank, a.routine, b.rank, b.routine]
+    [x.named.rank, x.named.routine, x.due.rank, x.due.routine]
 }
 
 // Puts the bytes of what stands with a unit into the area from byte `at` on.
@@ -168,12 +161,9 @@ fn put_unit_posts(out: &mut [u8], at: usize, units: [Post; UNITS], n: usize)
     ensures { out.new ≡ paste at ((unit_posts_codec n).write units) out.old }
 {
     let mut to = at;
-    let mut i = 0;
-    while i < n {
-        let x = units[i];
-        put_post(out, to, x);
+    for i in 0..n {
+        put_post(out, to, units[i]);
         to += POST;
-        i += 1;
     }
 }
 
@@ -185,12 +175,10 @@ fn unit_posts_at(b: &[u8], start: usize, n: usize) -> [Post; UNITS]
     let blank = no_post();
     let mut units = [blank; UNITS];
     let mut at = start;
-    let mut i = 0;
-    while i < n {
+    for i in 0..n {
         let x = post_at(b, at);
         units[i] = x;
         at += POST;
-        i += 1;
     }
     units
 }
@@ -202,13 +190,9 @@ fn put_posts(out: &mut [u8], at: usize, posts: [Posts; CHANNELS], n: usize)
 {
     let size = n * POST;
     let mut to = at;
-    let mut i = 0;
-    while i < CHANNELS {
-        let p = posts[i];
-        let units = p.units;
-        put_unit_posts(out, to, units, n);
+    for channel in posts.iter() {
+        put_unit_posts(out, to, channel.units, n);
         to += size;
-        i += 1;
     }
 }
 
@@ -221,12 +205,10 @@ fn posts_at(b: &[u8], start: usize, n: usize) -> [Posts; CHANNELS]
     let mut posts = [none; CHANNELS];
     let size = n * POST;
     let mut at = start;
-    let mut i = 0;
-    while i < CHANNELS {
+    for channel in posts.iter_mut() {
         let units = unit_posts_at(b, at, n);
-        posts[i] = Posts { units };
+        *channel = Posts { units };
         at += size;
-        i += 1;
     }
     posts
 }
@@ -236,10 +218,8 @@ pub fn put_routines(out: &mut [u8], at: usize, r: Routines, n: usize)
     requires { (n ≤ unit_count) × (at + (routines_codec n).size ≤ length out.old) }
     ensures { out.new ≡ paste at ((routines_codec n).write r) out.old }
 {
-    let p = r.programs;
-    let posts = r.posts;
-    put_programs(out, at, p);
-    put_posts(out, at + PROGRAMS, posts, n);
+    put_programs(out, at, r.programs);
+    put_posts(out, at + PROGRAMS, r.posts, n);
 }
 
 // The routines of a state with n units on each channel, from byte `at` on.

@@ -40,9 +40,7 @@ fn request_in(t: Turn) -> Request
             incomplete: 0,
             noise: 0,
         },
-        Turn::Waiting(q) => q,
-        Turn::Displaced(q) => q,
-        Turn::Working(q) => q,
+        Turn::Waiting(q) | Turn::Displaced(q) | Turn::Working(q) => q,
     }
 }
 
@@ -168,12 +166,9 @@ fn put_units(out: &mut [u8], at: usize, units: [Unit; UNITS], n: usize)
     ensures { out.new ≡ paste at ((units_codec n).write units) out.old }
 {
     let mut to = at;
-    let mut i = 0;
-    while i < n {
-        let u = units[i];
-        put_unit(out, to, u);
+    for i in 0..n {
+        put_unit(out, to, units[i]);
         to += UNIT;
-        i += 1;
     }
 }
 
@@ -194,12 +189,10 @@ fn units_at(b: &[u8], start: usize, n: usize) -> [Unit; UNITS]
     };
     let mut units = [blank; UNITS];
     let mut at = start;
-    let mut i = 0;
-    while i < n {
+    for i in 0..n {
         let u = unit_at(b, at);
         units[i] = u;
         at += UNIT;
-        i += 1;
     }
     units
 }
@@ -216,10 +209,9 @@ pub fn put_channel(out: &mut [u8], at: usize, c: Channel, n: usize)
     requires { (n ≤ unit_count) × (at + (channel_codec n).size ≤ length out.old) }
     ensures { out.new ≡ paste at ((channel_codec n).write c) out.old }
 {
-    let units = c.units;
     let own = channel_row(c);
     put_bytes(out, at, &own);
-    put_units(out, at + OWN, units, n);
+    put_units(out, at + OWN, c.units, n);
 }
 
 // The channel of n units that stands at byte `at`.
@@ -242,12 +234,9 @@ pub fn put_channels(out: &mut [u8], at: usize, channels: [Channel; CHANNELS], n:
 {
     let size = OWN + n * UNIT;
     let mut to = at;
-    let mut i = 0;
-    while i < CHANNELS {
-        let c = channels[i];
-        put_channel(out, to, c, n);
+    for channel in channels.iter() {
+        put_channel(out, to, *channel, n);
         to += size;
-        i += 1;
     }
 }
 
@@ -260,12 +249,10 @@ pub fn channels_at(b: &[u8], start: usize, n: usize) -> [Channel; CHANNELS]
     let mut channels = [none; CHANNELS];
     let size = OWN + n * UNIT;
     let mut at = start;
-    let mut i = 0;
-    while i < CHANNELS {
+    for channel in channels.iter_mut() {
         let c = channel_at(b, at, n);
-        channels[i] = c;
+        *channel = c;
         at += size;
-        i += 1;
     }
     channels
 }

@@ -28,11 +28,9 @@ pub fn put_words(out: &mut [u8], at: usize, area: &[u64])
     ensures { out.new ≡ paste at (words_codec.write area.now) out.old }
 {
     let mut to = at;
-    let mut i = 0;
-    while i < WORDS {
-        put_word(out, to, area[i]);
+    for word in area {
+        put_word(out, to, *word);
         to += WORD;
-        i += 1;
     }
 }
 
@@ -42,11 +40,9 @@ pub fn read_words(b: &[u8], start: usize, area: &mut [u64])
     ensures { area.new ≡ words_codec.read (drop start b.now) }
 {
     let mut at = start;
-    let mut i = 0;
-    while i < WORDS {
+    for word in area.iter_mut() {
         let x = word_at(b, at);
-        area[i] = x;
+        *word = x;
         at += WORD;
-        i += 1;
     }
 }

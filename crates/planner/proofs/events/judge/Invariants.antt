@@ -1,11 +1,8 @@
 use mathlib.Core.Path.{◌≡◌}
-use Prim.Native.Nat.{◌-◌, ◌≤◌}
-use lib.ListN.{length, drop}
+use Prim.Native.Nat.{◌≤◌}
+use lib.ListN.{drop}
 use Rattle.planner.specs.Events.{judge_from, judge_of}
 use Rattle.planner.proofs.events.judge.Given as goal
 
 abbrev pub invariant-loop-i : goal.invariant-loop-i
-invariant-loop-i l = (l.n ≤ l.i) × (l.i ≤ length l.events) × (judge_from l.opened l.n l.i (drop l.i l.events) ≡ judge_of l.limit l.events)
-
-abbrev pub decreases-loop-i : goal.decreases-loop-i
-decreases-loop-i l = length l.events - l.i
+invariant-loop-i l = (l.n ≤ l.i) × (judge_from l.opened l.n l.i (drop l.i l.events) ≡ judge_of l.limit l.events)

@@ -1,6 +1,5 @@
 -- `planner::greedy::owners_after` meets its contract: event by event, by the laws of `Rises`. Assumes nothing.
 use mathlib.Core.Path.{sym, ap, ◌∙◌}
-use borrow.Author.Tests.{not-true, not-false}
 use Rattle.planner.specs.Greedy.{taken}
 use Rattle.planner.proofs.Rises.{after_closing, after_single, after_double}
 use Rattle.planner.proofs.greedy.owners_after.Goals as goal

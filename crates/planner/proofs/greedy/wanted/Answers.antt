@@ -1,6 +1,5 @@
 -- `planner::greedy::wanted` meets its contract: event by event, by the laws of `Rises`. Assumes nothing.
 use mathlib.Core.Path.{sym, ap, ◌∙◌}
-use borrow.Author.Tests.{not-true, not-false}
 use native.Mathlib.Omega.{arith}
 use Rattle.planner.specs.Greedy.{first_free}
 use Rattle.planner.proofs.Rises.{wants_closing, wants_single, wants_double}
@@ -26,6 +25,6 @@ returns c = let at-args = c.args in
     let at-opens = c.opens in
     let at-if1 = c.if-not-opens in
     let at-if2 = c.if-e-lt-DOUBLE in (
-      c.larger.ensures ∙ wants_double at-args.owner at-args.e _ at-file-of.ensures.0 _ _ at-first-free.ensures.0 (at-first-free2.ensures.0 ∙ ap first_free at-taken.ensures) (sym at-opens.ensures ∙ at-if1.false) at-if2.false,
-      omega (arith, at-first-free.ensures.1, at-first-free2.ensures.1, c.larger.ensures),
+      c.max.ensures ∙ wants_double at-args.owner at-args.e _ at-file-of.ensures.0 _ _ at-first-free.ensures.0 (at-first-free2.ensures.0 ∙ ap first_free at-taken.ensures) (sym at-opens.ensures ∙ at-if1.false) at-if2.false,
+      omega (arith, at-first-free.ensures.1, at-first-free2.ensures.1, c.max.ensures),
     )

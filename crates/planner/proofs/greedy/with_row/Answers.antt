@@ -4,5 +4,5 @@ use lib.Seq.{set_out}
 use borrow.Author.Rules.{rules}
 use Rattle.planner.proofs.greedy.with_row.Goals as goal
 
-pub returns : goal.returns
-returns c = sym (set_out _ _ _ (search rules))
+pub returns-else-n-lt-FILES : goal.returns-else-n-lt-FILES
+returns-else-n-lt-FILES c = sym (set_out _ _ _ (search rules))

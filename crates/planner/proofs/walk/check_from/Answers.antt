@@ -1,33 +1,24 @@
 -- `planner::walk::check_from` meets its contract. What is left of the events and rows gives the verdict of the whole, turn by turn. Assumes nothing.
-use mathlib.Core.Path.{refl}
-use Prim.Native.Nat.{◌-◌}
+use mathlib.Core.Path.{refl, sym, ◌∙◌}
 use native.Mathlib.Omega.{arith}
 use Rattle.planner.proofs.Turns.{check_fault, check_turn, check_left, check_done}
 use borrow.Author.Rules.{rules}
 use Rattle.planner.proofs.walk.check_from.Goals as goal
 
-pub loop-i-init : goal.loop-i-init
-loop-i-init c = (search rules, search rules, refl)
+pub loop-e-init : goal.loop-e-init
+loop-e-init c = (search rules, refl)
 
-pub returns-then-fault-ne0 : goal.returns-then-fault-ne0
-returns-then-fault-ne0 c = let at-loop = c.loop-i in
-    let at-loop-test = c.loop-i-test in
-    let at-event-fault = c.event_fault-fault in
-    check_fault _ _ _ _ _ _ _ at-loop.invariant.2 _ at-loop-test.true at-event-fault.ensures c.if-fault-ne0.true
+pub loop-e-preserved : goal.loop-e-preserved
+loop-e-preserved c = (
+  omega (arith, c.count_after-n.ensures.1),
+  check_turn _ _ _ _ _ _ _ c.loop-e.invariant.1 _ _ c.loop-e-test.true (sym c.event_fault.ensures ∙ c.in_default.is) c.owners_next-after.ensures c.count_after-n.ensures.0,
+)
 
-pub loop-i-preserved : goal.loop-i-preserved
-loop-i-preserved c = let at-loop = c.loop-i in
-    let at-loop-test = c.loop-i-test in
-    let at-event-fault = c.event_fault-fault in
-    let at-if1 = c.if-fault-ne0 in
-    let at-owners-next = c.owners_next-after in (
-      omega (arith, c.count_after-n.ensures.1),
-      omega arith,
-      check_turn _ _ _ _ _ _ _ at-loop.invariant.2 _ _ _ at-loop-test.true at-event-fault.ensures at-if1.false at-owners-next.ensures c.count_after-n.ensures.0,
-    )
+pub returns-in-Err : goal.returns-in-Err
+returns-in-Err c = check_fault _ _ _ _ _ _ _ c.loop-e.invariant.1 _ c.loop-e-test.true (sym c.event_fault.ensures ∙ c.in-Err.is)
 
 pub returns-then-n-rows : goal.returns-then-n-rows
-returns-then-n-rows c = check_left _ _ _ _ _ _ _ c.loop-i.invariant.2 c.loop-i-test.false c.if-n-rows.true
+returns-then-n-rows c = check_left _ _ _ _ _ _ _ c.loop-e.invariant.1 c.loop-e-test.false c.if-n-rows.true
 
 pub returns : goal.returns
-returns c = check_done _ _ _ _ _ _ _ c.loop-i.invariant.2 c.loop-i-test.false c.if-n-rows.false
+returns c = check_done _ _ _ _ _ _ _ c.loop-e.invariant.1 c.loop-e-test.false c.if-n-rows.false

@@ -1,6 +1,5 @@
 -- `planner::walk::event_fault` meets its contract: for a closing, a missing row and a row. Assumes nothing.
 use mathlib.Core.Path.{sym, ◌∙◌}
-use borrow.Author.Tests.{not-true, not-false}
 use Rattle.planner.proofs.Turns.{fault_closing, fault_missing, fault_row}
 use borrow.Author.Rules.{rules}
 use Rattle.planner.proofs.walk.event_fault.Goals as goal

@@ -1,7 +1,6 @@
 -- `planner::walk::owners_next` meets its contract: for a closing, a missing row and a row. Assumes nothing.
 use mathlib.Core.Path.{sym, ap, ◌∙◌}
 use Prim.Native.Nat.{◌+◌}
-use borrow.Author.Tests.{not-true, not-false}
 use Rattle.planner.proofs.Turns.{next_closing, next_missing, next_row}
 use Rattle.planner.proofs.walk.owners_next.Goals as goal
 

@@ -4,5 +4,5 @@ use lib.Seq.{set_out}
 use borrow.Author.Rules.{rules}
 use Rattle.planner.proofs.walk.with_owner.Goals as goal
 
-pub returns : goal.returns
-returns c = sym (set_out _ _ _ (search rules))
+pub returns-else-at-lt-FILES : goal.returns-else-at-lt-FILES
+returns-else-at-lt-FILES c = sym (set_out _ _ _ (search rules))

@@ -3,10 +3,10 @@ use mathlib.Core.Path.{sym, ◌∙◌}
 use Rattle.planner_text.specs.Texts.{close_event}
 use Rattle.planner_text.proofs.fields.close_event.Goals as goal
 
-pub returns-then-is_close : goal.returns-then-is_close
+pub returns-then-same : goal.returns-then-same
 unfolding close_event
-returns-then-is_close c = rw (sym c.is_close.ensures ∙ c.if-is_close.true)
+returns-then-same c = rw (sym c.same.ensures ∙ c.if-same.true)
 
 pub returns : goal.returns
 unfolding close_event
-returns c = rw (sym c.is_close.ensures ∙ c.if-is_close.false)
+returns c = rw (sym c.same.ensures ∙ c.if-same.false)

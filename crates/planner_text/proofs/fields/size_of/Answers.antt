@@ -8,7 +8,7 @@ use Rattle.planner_text.proofs.fields.size_of.Goals as goal
 pub returns-then-word-n : goal.returns-then-word-n
 returns-then-word-n c = let at-number2 = c.number2 in
     let at-blanks = c.blanks-n in
-    let at-is-size = c.is_size-word in
+    let at-is-size = c.same-word in
     let at_first = c.first in
     let at-if1 = c.if-word-n in
     c.byte_or_0.ensures
@@ -16,6 +16,6 @@ returns-then-word-n c = let at-number2 = c.number2 in
 
 pub returns : goal.returns
 returns c = let at-blanks = c.blanks-n in
-    let at-is-size = c.is_size-word in
+    let at-is-size = c.same-word in
     let at_first = c.first in
     size_none _ _ at-blanks.ensures _ (at-is-size.ensures ∙ ap (λ l. same_bytes l size_word) at_first.ensures) c.if-word-n.false

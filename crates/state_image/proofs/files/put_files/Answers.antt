@@ -8,20 +8,20 @@ use Rattle.pool.specs.Free.{file_count}
 use Rattle.state_image.specs.Files.{file_codec}
 use Rattle.state_image.proofs.files.put_files.Goals as goal
 
-pub loop-i-init : goal.loop-i-init
-loop-i-init c = written_none file_codec file_keeps.sized file_count c.args.at c.args.files c.args.out.now (omega (arith, c.well_formed)) (omega (arith, c.requires))
+pub loop-file-init : goal.loop-file-init
+loop-file-init c = written_none file_codec file_keeps.sized file_count c.args.at c.args.files c.args.out.now (omega (arith, c.well_formed)) (omega (arith, c.requires))
 
 pub put_file-requires : goal.put_file-requires
-put_file-requires c = written_room file_codec file_keeps.sized file_count c.args.at c.args.files c.args.out.now c.loop-i.i c.loop-i.to c.loop-i.out c.loop-i.invariant (omega arith)
+put_file-requires c = written_room file_codec file_keeps.sized file_count c.args.at c.args.files c.args.out.now c.loop-file.file-index c.loop-file.to c.loop-file.out c.loop-file.invariant (omega arith)
 
 pub overflow_add-to : goal.overflow_add-to
-overflow_add-to c = omega (arith, written_room file_codec file_keeps.sized file_count c.args.at c.args.files c.args.out.now c.loop-i.i c.loop-i.to c.loop-i.out c.loop-i.invariant (omega arith), written_length file_codec file_keeps.sized file_count c.args.at c.args.files c.args.out.now c.loop-i.i c.loop-i.to c.loop-i.out c.loop-i.invariant, c.well_formed)
+overflow_add-to c = omega (arith, written_room file_codec file_keeps.sized file_count c.args.at c.args.files c.args.out.now c.loop-file.file-index c.loop-file.to c.loop-file.out c.loop-file.invariant (omega arith), written_length file_codec file_keeps.sized file_count c.args.at c.args.files c.args.out.now c.loop-file.file-index c.loop-file.to c.loop-file.out c.loop-file.invariant, c.well_formed)
 
-pub loop-i-preserved : goal.loop-i-preserved
-loop-i-preserved c = rw c.put_file.ensures (written_one file_codec file_keeps.sized file_count c.args.at c.args.files c.args.out.now closed_file c.loop-i.i c.loop-i.to c.loop-i.out c.loop-i.invariant (omega arith))
+pub loop-file-preserved : goal.loop-file-preserved
+loop-file-preserved c = rw c.put_file.ensures (written_one file_codec file_keeps.sized file_count c.args.at c.args.files c.args.out.now closed_file c.loop-file.file-index c.loop-file.to c.loop-file.out c.loop-file.invariant (omega arith))
 
 pub shape_of-out : goal.shape_of-out
-shape_of-out c = written_length file_codec file_keeps.sized file_count c.args.at c.args.files c.args.out.now c.loop-i.i c.loop-i.to c.loop-i.out c.loop-i.invariant
+shape_of-out c = written_length file_codec file_keeps.sized file_count c.args.at c.args.files c.args.out.now c.loop-file.file-index c.loop-file.to c.loop-file.out c.loop-file.invariant
 
 pub returns : goal.returns
-returns c = written_all file_codec file_keeps.sized file_count c.args.at c.args.files c.args.out.now closed_file file_count c.loop-i.i c.loop-i.to c.loop-i.out c.loop-i.invariant (omega arith)
+returns c = written_all file_codec file_keeps.sized file_count c.args.at c.args.files c.args.out.now closed_file file_count c.loop-file.file-index c.loop-file.to c.loop-file.out c.loop-file.invariant (omega arith)

@@ -5,8 +5,5 @@ use Rattle.pool.specs.Free.{file_count}
 use Rattle.state_image.specs.Files.{file_codec}
 use Rattle.state_image.proofs.files.put_files.Given as goal
 
-abbrev pub invariant-loop-i : goal.invariant-loop-i
-invariant-loop-i l = HasWritten file_codec file_keeps.sized file_count l.at l.files l.initial.out l.i l.to l.out
-
-abbrev pub decreases-loop-i : goal.decreases-loop-i
-decreases-loop-i l = file_count - l.i
+abbrev pub invariant-loop-file : goal.invariant-loop-file
+invariant-loop-file l = HasWritten file_codec file_keeps.sized file_count l.at l.fn.files l.initial.out l.file-index l.to l.out

@@ -6,8 +6,5 @@ use lib.ListN.{replicate}
 use mathlib.Core.Path.{◌≡◌}
 use Rattle.state_image.proofs.programs.posts_at.Given as goal
 
-abbrev pub invariant-loop-i : goal.invariant-loop-i
-invariant-loop-i l = (l.size ≡ l.n * post_size) × (l.initial.posts ≡ replicate channel_count empty_posts) × HasRead (posts_codec l.n) channel_count channel_count l.start l.b l.initial.posts l.i l.at l.posts
-
-abbrev pub decreases-loop-i : goal.decreases-loop-i
-decreases-loop-i l = channel_count - l.i
+abbrev pub invariant-loop-channel : goal.invariant-loop-channel
+invariant-loop-channel l = (l.size ≡ l.n * post_size) × (l.initial.channel-items ≡ replicate channel_count empty_posts) × HasRead (posts_codec l.n) channel_count channel_count l.start l.b l.initial.channel-items l.channel-index l.at l.channel-items

@@ -6,8 +6,5 @@ use lib.ListN.{replicate}
 use mathlib.Core.Path.{◌≡◌}
 use Rattle.state_image.proofs.programs.pushed_at.Given as goal
 
-abbrev pub invariant-loop-i : goal.invariant-loop-i
-invariant-loop-i l = (l.initial.pushed ≡ replicate depth main_program) × HasRead program_codec depth depth l.start l.b l.initial.pushed l.i l.at l.pushed
-
-abbrev pub decreases-loop-i : goal.decreases-loop-i
-decreases-loop-i l = depth - l.i
+abbrev pub invariant-loop-program : goal.invariant-loop-program
+invariant-loop-program l = (l.initial.program-items ≡ replicate depth main_program) × HasRead program_codec depth depth l.start l.b l.initial.program-items l.program-index l.at l.program-items

@@ -9,20 +9,20 @@ use mathlib.Core.Path.{refl}
 use native.Mathlib.Omega.{arith}
 use Rattle.state_image.proofs.programs.put_posts.Goals as goal
 
-pub loop-i-init : goal.loop-i-init
-loop-i-init c = let a = c.args in (refl, written_none (posts_codec a.n) (posts_sized a.n) channel_count a.at a.posts a.out.now (omega (arith, c.well_formed)) (omega (arith, c.requires.1)))
+pub loop-channel-init : goal.loop-channel-init
+loop-channel-init c = let a = c.args in (refl, written_none (posts_codec a.n) (posts_sized a.n) channel_count a.at a.posts a.out.now (omega (arith, c.well_formed)) (omega (arith, c.requires.1)))
 
 pub put_unit_posts-requires : goal.put_unit_posts-requires
-put_unit_posts-requires c = let a = c.args in (c.requires.0, written_room (posts_codec a.n) (posts_sized a.n) channel_count a.at a.posts a.out.now c.loop-i.i c.loop-i.to c.loop-i.out c.loop-i.invariant.1 (omega arith))
+put_unit_posts-requires c = let a = c.args in (c.requires.0, written_room (posts_codec a.n) (posts_sized a.n) channel_count a.at a.posts a.out.now c.loop-channel.channel-index c.loop-channel.to c.loop-channel.out c.loop-channel.invariant.1 (omega arith))
 
 pub overflow_add-to : goal.overflow_add-to
-overflow_add-to c = let a = c.args in omega (arith, written_room (posts_codec a.n) (posts_sized a.n) channel_count a.at a.posts a.out.now c.loop-i.i c.loop-i.to c.loop-i.out c.loop-i.invariant.1 (omega arith), written_length (posts_codec a.n) (posts_sized a.n) channel_count a.at a.posts a.out.now c.loop-i.i c.loop-i.to c.loop-i.out c.loop-i.invariant.1, c.well_formed)
+overflow_add-to c = let a = c.args in omega (arith, written_room (posts_codec a.n) (posts_sized a.n) channel_count a.at a.posts a.out.now c.loop-channel.channel-index c.loop-channel.to c.loop-channel.out c.loop-channel.invariant.1 (omega arith), written_length (posts_codec a.n) (posts_sized a.n) channel_count a.at a.posts a.out.now c.loop-channel.channel-index c.loop-channel.to c.loop-channel.out c.loop-channel.invariant.1, c.well_formed)
 
-pub loop-i-preserved : goal.loop-i-preserved
-loop-i-preserved c = let a = c.args in (refl, rw c.put_unit_posts.ensures (written_one (posts_codec a.n) (posts_sized a.n) channel_count a.at a.posts a.out.now (record { units = [] }) c.loop-i.i c.loop-i.to c.loop-i.out c.loop-i.invariant.1 (omega arith)))
+pub loop-channel-preserved : goal.loop-channel-preserved
+loop-channel-preserved c = let a = c.args in (refl, rw c.put_unit_posts.ensures (written_one (posts_codec a.n) (posts_sized a.n) channel_count a.at a.posts a.out.now (record { units = [] }) c.loop-channel.channel-index c.loop-channel.to c.loop-channel.out c.loop-channel.invariant.1 (omega arith)))
 
 pub shape_of-out : goal.shape_of-out
-shape_of-out c = let a = c.args in written_length (posts_codec a.n) (posts_sized a.n) channel_count a.at a.posts a.out.now c.loop-i.i c.loop-i.to c.loop-i.out c.loop-i.invariant.1
+shape_of-out c = let a = c.args in written_length (posts_codec a.n) (posts_sized a.n) channel_count a.at a.posts a.out.now c.loop-channel.channel-index c.loop-channel.to c.loop-channel.out c.loop-channel.invariant.1
 
 pub returns : goal.returns
-returns c = let a = c.args in written_all (posts_codec a.n) (posts_sized a.n) channel_count a.at a.posts a.out.now empty_posts channel_count c.loop-i.i c.loop-i.to c.loop-i.out c.loop-i.invariant.1 (omega arith)
+returns c = let a = c.args in written_all (posts_codec a.n) (posts_sized a.n) channel_count a.at a.posts a.out.now empty_posts channel_count c.loop-channel.channel-index c.loop-channel.to c.loop-channel.out c.loop-channel.invariant.1 (omega arith)

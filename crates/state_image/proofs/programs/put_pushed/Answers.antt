@@ -7,23 +7,20 @@ use Rattle.state_image.specs.Routines.{program_codec}
 use native.Mathlib.Omega.{arith}
 use Rattle.state_image.proofs.programs.put_pushed.Goals as goal
 
-pub loop-i-init : goal.loop-i-init
-loop-i-init c = let a = c.args in written_none program_codec program_keeps.sized depth a.at a.pushed a.out.now (omega (arith, c.well_formed, c.requires)) (omega (arith, c.requires))
-
-pub bounds-pushed-i : goal.bounds-pushed-i
-bounds-pushed-i c = omega (arith, c.loop-i.invariant.within, c.requires)
+pub loop-program-init : goal.loop-program-init
+loop-program-init c = let a = c.args in written_none program_codec program_keeps.sized depth a.at a.pushed a.out.now (omega (arith, c.well_formed, c.requires)) (omega (arith, c.requires))
 
 pub put_program-requires : goal.put_program-requires
-put_program-requires c = let a = c.args in written_room program_codec program_keeps.sized depth a.at a.pushed a.out.now c.loop-i.i c.loop-i.to c.loop-i.out c.loop-i.invariant (omega arith)
+put_program-requires c = let a = c.args in written_room program_codec program_keeps.sized depth a.at a.pushed a.out.now c.loop-program.program-index c.loop-program.to c.loop-program.out c.loop-program.invariant (omega arith)
 
 pub overflow_add-to : goal.overflow_add-to
-overflow_add-to c = let a = c.args in omega (arith, written_room program_codec program_keeps.sized depth a.at a.pushed a.out.now c.loop-i.i c.loop-i.to c.loop-i.out c.loop-i.invariant (omega arith), written_length program_codec program_keeps.sized depth a.at a.pushed a.out.now c.loop-i.i c.loop-i.to c.loop-i.out c.loop-i.invariant, c.well_formed)
+overflow_add-to c = let a = c.args in omega (arith, written_room program_codec program_keeps.sized depth a.at a.pushed a.out.now c.loop-program.program-index c.loop-program.to c.loop-program.out c.loop-program.invariant (omega arith), written_length program_codec program_keeps.sized depth a.at a.pushed a.out.now c.loop-program.program-index c.loop-program.to c.loop-program.out c.loop-program.invariant, c.well_formed)
 
-pub loop-i-preserved : goal.loop-i-preserved
-loop-i-preserved c = let a = c.args in rw c.put_program.ensures (written_one program_codec program_keeps.sized depth a.at a.pushed a.out.now main_program c.loop-i.i c.loop-i.to c.loop-i.out c.loop-i.invariant (omega arith))
+pub loop-program-preserved : goal.loop-program-preserved
+loop-program-preserved c = let a = c.args in rw c.put_program.ensures (written_one program_codec program_keeps.sized depth a.at a.pushed a.out.now main_program c.loop-program.program-index c.loop-program.to c.loop-program.out c.loop-program.invariant (omega arith))
 
 pub shape_of-out : goal.shape_of-out
-shape_of-out c = let a = c.args in written_length program_codec program_keeps.sized depth a.at a.pushed a.out.now c.loop-i.i c.loop-i.to c.loop-i.out c.loop-i.invariant
+shape_of-out c = let a = c.args in written_length program_codec program_keeps.sized depth a.at a.pushed a.out.now c.loop-program.program-index c.loop-program.to c.loop-program.out c.loop-program.invariant
 
 pub returns : goal.returns
-returns c = let a = c.args in written_all program_codec program_keeps.sized depth a.at a.pushed a.out.now main_program depth c.loop-i.i c.loop-i.to c.loop-i.out c.loop-i.invariant (omega arith)
+returns c = let a = c.args in written_all program_codec program_keeps.sized depth a.at a.pushed a.out.now main_program depth c.loop-program.program-index c.loop-program.to c.loop-program.out c.loop-program.invariant (omega arith)

@@ -9,6 +9,3 @@ use Rattle.state_image.proofs.programs.unit_posts_at.Given as goal
 
 abbrev pub invariant-loop-i : goal.invariant-loop-i
 invariant-loop-i l = (l.initial.units ≡ replicate unit_count empty_post) × HasRead post_codec unit_count l.n l.start l.b l.initial.units l.i l.at l.units
-
-abbrev pub decreases-loop-i : goal.decreases-loop-i
-decreases-loop-i l = l.n - l.i

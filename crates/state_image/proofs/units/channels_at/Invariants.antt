@@ -6,8 +6,5 @@ use Rattle.state.specs.Places.{channel_count, no_channel}
 use Rattle.state_image.specs.Units.{channel_codec, channel_head, unit_size}
 use Rattle.state_image.proofs.units.channels_at.Given as goal
 
-abbrev pub invariant-loop-i : goal.invariant-loop-i
-invariant-loop-i l = (l.size ≡ channel_head + l.n * unit_size) × (l.initial.channels ≡ replicate channel_count no_channel) × HasRead (channel_codec l.n) channel_count channel_count l.start l.b l.initial.channels l.i l.at l.channels
-
-abbrev pub decreases-loop-i : goal.decreases-loop-i
-decreases-loop-i l = channel_count - l.i
+abbrev pub invariant-loop-channel : goal.invariant-loop-channel
+invariant-loop-channel l = (l.size ≡ channel_head + l.n * unit_size) × (l.initial.channel-items ≡ replicate channel_count no_channel) × HasRead (channel_codec l.n) channel_count channel_count l.start l.b l.initial.channel-items l.channel-index l.at l.channel-items

@@ -6,6 +6,3 @@ use Rattle.state_image.proofs.units.put_units.Given as goal
 
 abbrev pub invariant-loop-i : goal.invariant-loop-i
 invariant-loop-i l = HasWritten unit_codec unit_keeps.sized l.n l.at l.units l.initial.out l.i l.to l.out
-
-abbrev pub decreases-loop-i : goal.decreases-loop-i
-decreases-loop-i l = l.n - l.i

@@ -9,6 +9,3 @@ use Rattle.state_image.proofs.units.units_at.Given as goal
 
 abbrev pub invariant-loop-i : goal.invariant-loop-i
 invariant-loop-i l = (l.initial.units ≡ replicate unit_count (idle_unit false)) × HasRead unit_codec unit_count l.n l.start l.b l.initial.units l.i l.at l.units
-
-abbrev pub decreases-loop-i : goal.decreases-loop-i
-decreases-loop-i l = l.n - l.i

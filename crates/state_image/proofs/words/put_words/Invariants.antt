@@ -5,8 +5,5 @@ use Rattle.codec.proofs.Numbers.{word_keeps}
 use Rattle.state_image.specs.Images.{image_words}
 use Rattle.state_image.proofs.words.put_words.Given as goal
 
-abbrev pub invariant-loop-i : goal.invariant-loop-i
-invariant-loop-i l = HasWritten word_codec word_keeps.sized image_words l.at l.area l.initial.out l.i l.to l.out
-
-abbrev pub decreases-loop-i : goal.decreases-loop-i
-decreases-loop-i l = image_words - l.i
+abbrev pub invariant-loop-word : goal.invariant-loop-word
+invariant-loop-word l = HasWritten word_codec word_keeps.sized image_words l.at l.area l.initial.out l.word-index l.to l.out

@@ -9,23 +9,20 @@ use Rattle.codec.specs.Rows.{word_codec}
 use Rattle.state_image.specs.Images.{image_words}
 use Rattle.state_image.proofs.words.read_words.Goals as goal
 
-pub loop-i-init : goal.loop-i-init
-loop-i-init c = read_none word_codec image_words image_words c.args.start c.args.b.now _ (omega arith) (omega (arith, c.requires)) c.requires.1
+pub loop-word-init : goal.loop-word-init
+loop-word-init c = read_none word_codec image_words image_words c.args.start c.args.b.now _ (omega (arith, c.requires)) (omega (arith, c.requires)) c.requires.1
 
 pub word_at-x-requires : goal.word_at-x-requires
-word_at-x-requires c = omega (arith, read_room word_codec image_words image_words c.args.start c.args.b.now _ c.loop-i.i c.loop-i.at c.loop-i.area c.loop-i.invariant (omega arith))
-
-pub bounds-area-i : goal.bounds-area-i
-bounds-area-i c = omega (arith, c.loop-i.invariant.long)
+word_at-x-requires c = omega (arith, read_room word_codec image_words image_words c.args.start c.args.b.now _ c.loop-word.word-index c.loop-word.at c.loop-word.area c.loop-word.invariant (omega (arith, c.requires)))
 
 pub overflow_add-at : goal.overflow_add-at
-overflow_add-at c = omega (arith, read_room word_codec image_words image_words c.args.start c.args.b.now _ c.loop-i.i c.loop-i.at c.loop-i.area c.loop-i.invariant (omega arith), c.well_formed)
+overflow_add-at c = omega (arith, read_room word_codec image_words image_words c.args.start c.args.b.now _ c.loop-word.word-index c.loop-word.at c.loop-word.area c.loop-word.invariant (omega (arith, c.requires)), c.well_formed)
 
-pub loop-i-preserved : goal.loop-i-preserved
-loop-i-preserved c = rw c.word_at-x.ensures (read_one word_codec image_words image_words c.args.start c.args.b.now _ c.loop-i.i c.loop-i.at c.loop-i.area c.loop-i.invariant (omega arith))
+pub loop-word-preserved : goal.loop-word-preserved
+loop-word-preserved c = rw c.word_at-x.ensures (read_one word_codec image_words image_words c.args.start c.args.b.now _ c.loop-word.word-index c.loop-word.at c.loop-word.area c.loop-word.invariant (omega (arith, c.requires)))
 
 pub shape_of-area : goal.shape_of-area
-shape_of-area c = c.loop-i.invariant.long ∙ sym c.requires.1
+shape_of-area c = c.loop-word.invariant.long ∙ sym c.requires.1
 
 pub returns : goal.returns
-returns c = read_all word_codec image_words image_words c.args.start c.args.b.now _ 0 c.loop-i.i c.loop-i.at c.loop-i.area c.loop-i.invariant (omega arith) (let far : length c.args.area.now ≤ image_words = omega (arith, c.requires) in drop_of_length-le c.args.area.now far)
+returns c = read_all word_codec image_words image_words c.args.start c.args.b.now _ 0 c.loop-word.word-index c.loop-word.at c.loop-word.area c.loop-word.invariant (omega (arith, c.requires)) (let far : length c.args.area.now ≤ image_words = omega (arith, c.requires) in drop_of_length-le c.args.area.now far)

@@ -4,8 +4,5 @@ use Rattle.codec.specs.Rows.{word_codec}
 use Rattle.state_image.specs.Images.{image_words}
 use Rattle.state_image.proofs.words.read_words.Given as goal
 
-abbrev pub invariant-loop-i : goal.invariant-loop-i
-invariant-loop-i l = HasRead word_codec image_words image_words l.start l.b l.initial.area l.i l.at l.area
-
-abbrev pub decreases-loop-i : goal.decreases-loop-i
-decreases-loop-i l = image_words - l.i
+abbrev pub invariant-loop-word : goal.invariant-loop-word
+invariant-loop-word l = HasRead word_codec image_words image_words l.start l.b l.initial.area l.word-index l.at l.area
