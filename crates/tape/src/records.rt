@@ -16,10 +16,7 @@ const LARGEST: usize = 6152;
 fn left_of(len: usize, at: usize) -> usize
     ensures { result ≡ len - at }
 {
-    if len < at {
-        return 0;
-    }
-    len - at
+    len.saturating_sub(at)
 }
 
 // The number that four bytes are, the lowest first.
@@ -27,10 +24,8 @@ fn length_at(image: &[u8], at: usize) -> usize
     requires { at + 4 ≤ length image.now }
     ensures { (result ≡ length_at (drop at image.now) 0) × (result < 2 ^ 32) }
 {
-    let b = at + 1;
-    let c = at + 2;
-    let d = at + 3;
-    wide(image[at]) + 256 * (wide(image[b]) + 256 * (wide(image[c]) + 256 * wide(image[d])))
+    wide(image[at])
+        + 256 * (wide(image[at + 1]) + 256 * (wide(image[at + 2]) + 256 * wide(image[at + 3])))
 }
 
 // A byte as a number.
@@ -57,8 +52,7 @@ fn differ_at(image: &[u8], at: usize, n: usize) -> bool
     if image.len() - at < size {
         return false;
     }
-    let second = length_at(image, at + (size - 4));
-    second != n
+    length_at(image, at + (size - 4)) != n
 }
 
 // The highest fault of a record of which `left` bytes stand: its first length is n, and whether its second one differs. 0 for none.
