@@ -1,5 +1,5 @@
 // A block or a mark written into lent bytes: lengths, and six bytes for a word, each with its parity.
-ghost use Rattle.std.specs.Prelude.{◌≡◌, ◌+◌, ◌*◌, ◌%◌, ◌/◌, ◌^◌, ◌≤◌, ◌<◌, leb, length};
+ghost use Rattle.std.specs.Prelude.{◌≡◌, cond, eqb, None, Some, ◌+◌, ◌*◌, ◌%◌, ◌/◌, ◌^◌, ◌≤◌, ◌<◌, leb, length};
 ghost use Rattle.area.specs.Parts.{paste};
 ghost use Rattle.tape.specs.Lengths.{length_bytes};
 ghost use Rattle.tape.specs.Characters.{ones, parity_of, with_parity, word_bytes, data_bytes};
@@ -79,18 +79,18 @@ fn has_room(len: usize, at: usize, n: usize) -> bool
     at <= len && n <= len - at
 }
 
-// Why a block cannot be written into `len` bytes from a place on, 0 if it can.
-fn block_refusal(len: usize, at: usize, words: &[u64]) -> u8
-    ensures { result ≡ block_refusal len at words.now }
+// Why a block cannot be written into `len` bytes from a place on, if it cannot.
+fn block_refusal(len: usize, at: usize, words: &[u64]) -> Option<u8>
+    ensures { result ≡ cond (eqb (block_refusal len at words.now) 0) None (Some (block_refusal len at words.now)) }
 {
     if !area::are_words(words) {
-        return 2;
+        return Some(2);
     }
     let n = words.len();
     if n == 0 || WORDS < n || !has_room(len, at, 6 * n + 8) {
-        return 13;
+        return Some(13);
     }
-    0
+    None
 }
 
 // Writes the record of a block into the bytes from a place on, with parity odd, or even for BCD. Refused 2 if a word is 2^36 or more, and
@@ -99,8 +99,7 @@ pub fn write_block(area: &mut [u8], at: usize, bcd: bool, words: &[u64]) -> u8
     ensures value { result ≡ block_refusal (length area.old) at words.now }
     ensures area_after { area.new ≡ block_written at bcd words.now area.old }
 {
-    let refusal = block_refusal(area.len(), at, words);
-    if refusal != 0 {
+    if let Some(refusal) = block_refusal(area.len(), at, words) {
         return refusal;
     }
     let n = 6 * words.len();
