@@ -28,13 +28,10 @@ fn word_at(image: &[u8], at: usize) -> u64
 fn words_fit(bytes: usize, place: usize, n: usize, room: usize, at: usize) -> bool
     ensures { result ≡ words_fit bytes place n room at }
 {
-    if bytes < place {
+    if bytes < place || room < at {
         return false;
     }
-    if room < at {
-        return false;
-    }
-    (n <= (bytes - place) / 6) & (n <= room - at)
+    n <= (bytes - place) / 6 && n <= room - at
 }
 
 // Puts the n words that stand in the image from byte `place` on into the area from word `at` on, and says whether they are there and fit.
@@ -43,18 +40,11 @@ pub fn block_words(image: &[u8], place: usize, n: usize, area: &mut [u64], at: u
     ensures value { result ≡ words_fit (length image.now) place n (length area.old) at }
     ensures area_after { area.new ≡ words_read image.now place n area.old at }
 {
-    let fits = words_fit(image.len(), place, n, area.len(), at);
-    if !fits {
+    if !words_fit(image.len(), place, n, area.len(), at) {
         return false;
     }
-    let mut from = place;
-    let mut to = at;
-    let mut left = n;
-    while 0 < left {
-        area[to] = word_at(image, from);
-        from += 6;
-        to += 1;
-        left -= 1;
+    for i in 0..n {
+        area[at + i] = word_at(image, place + 6 * i);
     }
     true
 }

@@ -1,5 +1,5 @@
 // The next record of an image: how long it is, and whether it has a fault.
-ghost use Rattle.std.specs.Prelude.{◌≡◌, ◌+◌, ◌-◌, ◌<◌, ◌≤◌, ◌^◌, length, drop};
+ghost use Rattle.std.specs.Prelude.{◌≡◌, cond, eqb, None, Some, ◌+◌, ◌-◌, ◌<◌, ◌≤◌, ◌^◌, length, drop};
 ghost use Rattle.tape.specs.Lengths.{length_at, record_size};
 ghost use Rattle.tape.specs.Faults.{differ_at, fault_of};
 ghost use Rattle.tape.specs.Records.{next_in};
@@ -16,10 +16,7 @@ const LARGEST: usize = 6152;
 fn left_of(len: usize, at: usize) -> usize
     ensures { result ≡ len - at }
 {
-    if len < at {
-        return 0;
-    }
-    len - at
+    len.saturating_sub(at)
 }
 
 // The number that four bytes are, the lowest first.
@@ -27,10 +24,8 @@ fn length_at(image: &[u8], at: usize) -> usize
     requires { at + 4 ≤ length image.now }
     ensures { (result ≡ length_at (drop at image.now) 0) × (result < 2 ^ 32) }
 {
-    let b = at + 1;
-    let c = at + 2;
-    let d = at + 3;
-    wide(image[at]) + 256 * (wide(image[b]) + 256 * (wide(image[c]) + 256 * wide(image[d])))
+    wide(image[at])
+        + 256 * (wide(image[at + 1]) + 256 * (wide(image[at + 2]) + 256 * wide(image[at + 3])))
 }
 
 // A byte as a number.
@@ -57,31 +52,30 @@ fn differ_at(image: &[u8], at: usize, n: usize) -> bool
     if image.len() - at < size {
         return false;
     }
-    let second = length_at(image, at + (size - 4));
-    second != n
+    length_at(image, at + (size - 4)) != n
 }
 
-// The highest fault of a record of which `left` bytes stand: its first length is n, and whether its second one differs. 0 for none.
-fn fault_of(left: usize, n: usize, differ: bool) -> u8
+// The highest fault of a record of which `left` bytes stand, if it has one: its first length is n, and whether its second one differs.
+fn fault_of(left: usize, n: usize, differ: bool) -> Option<u8>
     requires { n < 2 ^ 32 }
-    ensures { result ≡ fault_of left n differ }
+    ensures { result ≡ cond (eqb (fault_of left n differ) 0) None (Some (fault_of left n differ)) }
 {
     if left < 4 {
-        return 21;
+        return Some(21);
     }
     if MOST < n {
-        return 23;
+        return Some(23);
     }
     if n % 6 != 0 {
-        return 22;
+        return Some(22);
     }
     if left < record_size(n) {
-        return 21;
+        return Some(21);
     }
     if differ {
-        return 20;
+        return Some(20);
     }
-    0
+    None
 }
 
 // What stands at a place of the bytes that have come of an image. `ended` says that no more come: until then fewer bytes than the
@@ -107,8 +101,7 @@ pub fn next_record(image: &[u8], at: usize, ended: bool) -> Next
         return Next::Mark { next: at + 4 };
     }
     let differ = differ_at(image, at, n);
-    let number = fault_of(left, n, differ);
-    if number != 0 {
+    if let Some(number) = fault_of(left, n, differ) {
         return Next::Fault { number, place: at };
     }
     let size = record_size(n);

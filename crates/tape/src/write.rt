@@ -1,5 +1,5 @@
 // A block or a mark written into lent bytes: lengths, and six bytes for a word, each with its parity.
-ghost use Rattle.std.specs.Prelude.{◌≡◌, ◌+◌, ◌*◌, ◌%◌, ◌/◌, ◌^◌, ◌≤◌, ◌<◌, leb, length};
+ghost use Rattle.std.specs.Prelude.{◌≡◌, cond, eqb, None, Some, ◌+◌, ◌*◌, ◌%◌, ◌/◌, ◌^◌, ◌≤◌, ◌<◌, leb, length};
 ghost use Rattle.area.specs.Parts.{paste};
 ghost use Rattle.tape.specs.Lengths.{length_bytes};
 ghost use Rattle.tape.specs.Characters.{ones, parity_of, with_parity, word_bytes, data_bytes};
@@ -27,10 +27,7 @@ fn parity_of(bcd: bool, c: u8) -> u8
     ensures { (result ≡ parity_of bcd c) × (result < 2) }
 {
     let n = ones_of(c);
-    if bcd {
-        return n % 2;
-    }
-    (n + 1) % 2
+    if bcd { n % 2 } else { (n + 1) % 2 }
 }
 
 // The low six bits of a number as a byte, with parity in the next bit.
@@ -38,8 +35,7 @@ fn with_parity(bcd: bool, x: u64) -> u8
     ensures { result ≡ with_parity bcd (x % 64) }
 {
     let c = (x % 64) as u8;
-    let parity = parity_of(bcd, c);
-    c + 64 * parity
+    c + 64 * parity_of(bcd, c)
 }
 
 // The four bytes of a length, the lowest first.
@@ -71,12 +67,8 @@ fn write_words(area: &mut [u8], at: usize, bcd: bool, words: &[u64])
     requires { at + 6 * length words.now ≤ length area.old }
     ensures { area.new ≡ paste at (data_bytes bcd words.now) area.old }
 {
-    let mut to = at;
-    let mut i = 0;
-    while i < words.len() {
-        write_word(area, to, bcd, words[i]);
-        to += 6;
-        i += 1;
+    for (i, word) in words.iter().enumerate() {
+        write_word(area, at + 6 * i, bcd, *word);
     }
 }
 
@@ -84,32 +76,21 @@ fn write_words(area: &mut [u8], at: usize, bcd: bool, words: &[u64])
 fn has_room(len: usize, at: usize, n: usize) -> bool
     ensures { result ≡ leb (at + n) len }
 {
-    if len < at {
-        return false;
-    }
-    n <= len - at
+    at <= len && n <= len - at
 }
 
-// Why a block cannot be written into `len` bytes from a place on, 0 if it can.
-fn block_refusal(len: usize, at: usize, words: &[u64]) -> u8
-    ensures { result ≡ block_refusal len at words.now }
+// Why a block cannot be written into `len` bytes from a place on, if it cannot.
+fn block_refusal(len: usize, at: usize, words: &[u64]) -> Option<u8>
+    ensures { result ≡ cond (eqb (block_refusal len at words.now) 0) None (Some (block_refusal len at words.now)) }
 {
-    let good = area::are_words(words);
-    if !good {
-        return 2;
+    if !area::are_words(words) {
+        return Some(2);
     }
     let n = words.len();
-    if n == 0 {
-        return 13;
+    if n == 0 || WORDS < n || !has_room(len, at, 6 * n + 8) {
+        return Some(13);
     }
-    if WORDS < n {
-        return 13;
-    }
-    let room = has_room(len, at, 6 * n + 8);
-    if !room {
-        return 13;
-    }
-    0
+    None
 }
 
 // Writes the record of a block into the bytes from a place on, with parity odd, or even for BCD. Refused 2 if a word is 2^36 or more, and
@@ -118,8 +99,7 @@ pub fn write_block(area: &mut [u8], at: usize, bcd: bool, words: &[u64]) -> u8
     ensures value { result ≡ block_refusal (length area.old) at words.now }
     ensures area_after { area.new ≡ block_written at bcd words.now area.old }
 {
-    let refusal = block_refusal(area.len(), at, words);
-    if refusal != 0 {
+    if let Some(refusal) = block_refusal(area.len(), at, words) {
         return refusal;
     }
     let n = 6 * words.len();
@@ -134,8 +114,7 @@ pub fn write_mark(area: &mut [u8], at: usize) -> u8
     ensures value { result ≡ mark_refusal (length area.old) at }
     ensures area_after { area.new ≡ mark_written at area.old }
 {
-    let room = has_room(area.len(), at, 4);
-    if !room {
+    if !has_room(area.len(), at, 4) {
         return 13;
     }
     write_length(area, at, 0);

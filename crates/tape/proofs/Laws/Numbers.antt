@@ -1,14 +1,36 @@
 -- Laws of the numbers that a record is judged by. Assumes nothing.
-use mathlib.Core.Path.{◌≡◌, refl, ap, ◌∙◌}
+use mathlib.Core.Path.{◌≡◌, refl, sym, ap, ◌∙◌}
 use mathlib.Core.Bool.{Bool, true, false, cond}
 use mathlib.Core.List.{[], ◌∷◌}
 use Prim.Native.Nat.{ℕ, ◌%◌, ◌≤◌, ◌<◌}
+use lib.Dec.{eqb}
 use native.Mathlib.Decide.{dec_lt}
 use native.Mathlib.Omega.{arith}
-use borrow.Author.Tests.{eq-eqb, ne_eqb, lt-ltb, le-ltb, lt-leb, le-leb}
-use Rattle.area.proofs.Walks.{by_test}
+use borrow.Author.Tests.{eqb-true, eq-eqb, ne_eqb, lt-ltb, le-ltb, lt-leb, le-leb}
+use Rattle.std.specs.Prelude.{Option, None, Some}
+use Rattle.std.proofs.lemmas.Option.{none-some, same_Some}
+use Rattle.area.proofs.Walks.{by_test, true_not_false}
 use Rattle.tape.specs.Lengths.{record_size}
 use Rattle.tape.specs.Faults.{most_bytes, highest, fault_of}
+
+-- ---- a number that 0 stands for none of
+
+abbrev pub given : ℕ → Option ℕ
+given k = cond (eqb k 0) None (Some k)
+
+pub given_some : (f k : ℕ) → Some k ≡ given f → (k ≡ f) × (f ≡ 0 → ⊥)
+given_some f k e = go (eqb f 0) refl e
+  where
+    go : (b : Bool) → eqb f 0 ≡ b → Some k ≡ cond b None (Some f) → (k ≡ f) × (f ≡ 0 → ⊥)
+    go true p q = absurd (none-some k (sym q))
+    go false p q = (same_Some k f q, λ z. true_not_false (eq-eqb f 0 z) p)
+
+pub given_none : (f : ℕ) → None ≡ given f → f ≡ 0
+given_none f e = go (eqb f 0) refl e
+  where
+    go : (b : Bool) → eqb f 0 ≡ b → None ≡ cond b None (Some f) → f ≡ 0
+    go true p q = eqb-true f 0 p
+    go false p q = absurd (none-some f q)
 
 -- ---- the highest of the four rows
 

@@ -14,9 +14,7 @@ use Rattle.area.specs.Parts.{is_word}
 use Rattle.area.proofs.Walks.{and_left, and_right}
 use Rattle.tape.specs.Lengths.{length_of, length_at, length_bytes}
 use Rattle.tape.specs.Characters.{character, word_of, word_at, words_from, with_parity, word_bytes, data_bytes}
-use Rattle.tape.specs.Images.{Holds, none, six, nothing}
-use Rattle.tape.specs.Images as images
-use Rattle.tape.proofs.Laws.Seen.{end, fault}
+use Rattle.tape.specs.Images.{Holds, none, six}
 
 -- ---- lengths
 

@@ -53,14 +53,12 @@ unfolding words_from
 length_words bs k zero = refl
 length_words bs k (suc n) = ap suc (length_words bs (k + 6) n)
 
--- `left` words are still to come, from byte `from` to word `to`: with them the area is what it is to be
-pub record Brought (image start : List ℕ) (place n at : ℕ) (area : List ℕ) (from to left : ℕ) : Type 0 where
-  pub words : to + left ≡ at + n
-  pub bytes : from + 6 * left ≡ place + 6 * n
+-- i words came: with those that are still to come the area is what it is to be
+pub record Brought (image start : List ℕ) (place n at : ℕ) (area : List ℕ) (i : ℕ) : Type 0 where
   pub there : place + 6 * n ≤ length image
   pub room : at + n ≤ length start
   pub long : length area ≡ length start
-  pub rest : paste to (words_from image from left) area ≡ paste at (words_from image place n) start
+  pub rest : paste (at + i) (words_from image (place + 6 * i) (n - i)) area ≡ paste at (words_from image place n) start
 
 module _ (image start : List ℕ) (place n at : ℕ) where
   -- the two facts of a test of room
@@ -70,34 +68,49 @@ module _ (image start : List ℕ) (place n at : ℕ) where
       let k : (leb (place + 6 * n) (length image) && leb (at + n) (length start)) ≡ true = sym e ∙ h in
       (leb-true _ _ (and_left _ _ k), leb-true _ _ (and_right (leb (place + 6 * n) (length image)) _ k))
 
-  pub brought_none : (place + 6 * n ≤ length image) × (at + n ≤ length start) → Brought image start place n at start place at n
-  brought_none h = record { words = refl; bytes = refl; there = h.0; room = h.1; long = refl; rest = refl }
-
-  pub brought_one : (area : List ℕ) (from to left w : ℕ) → 0 < left → w ≡ word_at image from → Brought image start place n at area from to left
-      → Brought image start place n at (set area to w) (from + 6) (to + 1) (left - 1)
-  brought_one area from to left w some e b =
-      let inside : to < length area = omega (arith, b.words, b.room, b.long) in
-      let more = words_from image (from + 6) (left - 1) in
+  pub brought_none : (place + 6 * n ≤ length image) × (at + n ≤ length start) → Brought image start place n at start 0
+  brought_none h =
+      let t : at + 0 ≡ at = omega arith in
+      let f : place + 6 * 0 ≡ place = omega arith in
+      let l : n - 0 ≡ n = omega arith in
       record {
-        words = omega (arith, b.words);
-        bytes = omega (arith, b.bytes);
+        there = h.0;
+        room = h.1;
+        long = refl;
+        rest = ap₂ (λ (x y : ℕ). paste x (words_from image y (n - 0)) start) t f ∙ ap (λ (x : ℕ). paste at (words_from image place x) start) l;
+      }
+
+  pub brought_one : (area : List ℕ) (i w : ℕ) → i < n → w ≡ word_at image (place + 6 * i) → Brought image start place n at area i
+      → Brought image start place n at (set area (at + i) w) (i + 1)
+  brought_one area i w some e b =
+      let to = at + i in
+      let from = place + 6 * i in
+      let inside : to < length area = omega (arith, b.room, b.long) in
+      let more = words_from image (from + 6) (n - i - 1) in
+      let left : 0 < n - i = omega arith in
+      let f : place + 6 * (i + 1) ≡ from + 6 = omega arith in
+      let l : n - (i + 1) ≡ n - i - 1 = omega arith in
+      let t : at + (i + 1) ≡ to + 1 = omega arith in
+      record {
         there = b.there;
         room = b.room;
         long = length-set area to w ∙ b.long;
         rest =
-            ap (paste (to + 1) more) (set_paste to w area inside) ∙ paste_paste to 1 (w ∷ []) more area refl (omega arith)
+            ap₂ (λ (x y : ℕ). paste x (words_from image y (n - (i + 1))) (set area to w)) t f
+            ∙ ap (λ (x : ℕ). paste (to + 1) (words_from image (from + 6) x) (set area to w)) l
+            ∙ ap (paste (to + 1) more) (set_paste to w area inside) ∙ paste_paste to 1 (w ∷ []) more area refl (omega arith)
             ∙ ap (λ (x : ℕ). paste to (x ∷ more) area) e
-            ∙ ap (λ (l : List ℕ). paste to l area) (sym (words_step image from left some)) ∙ b.rest;
+            ∙ ap (λ (l : List ℕ). paste to l area) (sym (words_step image from (n - i) left)) ∙ b.rest;
       }
 
-  pub brought_all : (area : List ℕ) (from to left : ℕ) → left ≤ 0 → Brought image start place n at area from to left
+  pub brought_all : (area : List ℕ) (i : ℕ) → n ≤ i → Brought image start place n at area i
       → (t : Bool) → t ≡ words_fit (length image) place n (length start) at → t ≡ true
       → (true ≡ words_fit (length image) place n (length start) at) × (area ≡ words_read image place n start at)
   unfolding words_from words_read
-  brought_all area from to left none b t e h =
-      let z : left ≡ 0 = omega arith in
+  brought_all area i none b t e h =
+      let z : n - i ≡ 0 = omega arith in
       let done : area ≡ paste at (words_from image place n) start =
-      sym (paste_nothing to area) ∙ ap (λ (k : ℕ). paste to (words_from image from k) area) (sym z) ∙ b.rest in
+      sym (paste_nothing (at + i) area) ∙ ap (λ (k : ℕ). paste (at + i) (words_from image (place + 6 * i) k) area) (sym z) ∙ b.rest in
       (sym h ∙ e, done ∙ sym (cond_true _ _ (sym e ∙ h)))
 
   pub brought_not : (t : Bool) → t ≡ words_fit (length image) place n (length start) at → t ≡ false

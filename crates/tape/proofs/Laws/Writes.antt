@@ -5,6 +5,7 @@ use mathlib.Core.List.{List, [], ◌∷◌, ◌++◌, append_assoc}
 use Prim.Native.Nat.{ℕ, ◌+◌, ◌*◌, ◌≤◌, ◌<◌}
 use native.Mathlib.Numerals.{add-one}
 use native.Mathlib.Omega.{arith}
+use native.Mathlib.Nat.{add-zero}
 use borrow.Author.Tests.{leb-true, lt-leb, le-leb, eq-eqb, ne_eqb}
 use lib.Dec.{leb}
 use lib.ListN.{length, get_or, take, drop, length-append, drop_of_length-le}
@@ -38,44 +39,44 @@ length_data bcd (w ∷ ws) = length-append (word_bytes bcd w) (data_bytes bcd ws
 
 -- ---- words, one after the other: i are written, and with the others the bytes are what they are to be
 
-pub record Put (start : List ℕ) (at : ℕ) (bcd : Bool) (ws area : List ℕ) (to i : ℕ) : Type 0 where
-  pub within : i ≤ length ws
-  pub place : to ≡ at + 6 * i
+pub record Put (start : List ℕ) (at : ℕ) (bcd : Bool) (ws area : List ℕ) (i : ℕ) : Type 0 where
   pub room : at + 6 * length ws ≤ length start
   pub long : length area ≡ length start
-  pub rest : paste to (data_bytes bcd (drop i ws)) area ≡ paste at (data_bytes bcd ws) start
+  pub rest : paste (at + 6 * i) (data_bytes bcd (drop i ws)) area ≡ paste at (data_bytes bcd ws) start
 
 module _ (start : List ℕ) (at : ℕ) (bcd : Bool) (ws : List ℕ) where
-  pub put_none : at + 6 * length ws ≤ length start → Put start at bcd ws start at 0
-  put_none h = record { within = omega arith; place = omega arith; room = h; long = refl; rest = refl }
+  pub put_none : at + 6 * length ws ≤ length start → Put start at bcd ws start 0
+  put_none h = record { room = h; long = refl; rest = ap (λ (k : ℕ). paste k (data_bytes bcd ws) start) (add-zero at) }
 
   data_step : (i : ℕ) → i < length ws → data_bytes bcd (drop i ws) ≡ word_bytes bcd (get_or ws i 0) ++ data_bytes bcd (drop (i + 1) ws)
   unfolding data_bytes
   data_step i h = rw (add-one, drop-cons ws i 0)
 
-  pub put_room : (area : List ℕ) (to i : ℕ) → i < length ws → Put start at bcd ws area to i → to + 6 ≤ length area
-  put_room area to i h p = omega (arith, p.place, p.room, p.long)
+  pub put_room : (area : List ℕ) (i : ℕ) → i < length ws → Put start at bcd ws area i → at + 6 * i + 6 ≤ length area
+  put_room area i h p = omega (arith, p.room, p.long)
 
-  pub put_one : (area : List ℕ) (to i : ℕ) → i < length ws → Put start at bcd ws area to i
-      → (new : List ℕ) → new ≡ paste to (word_bytes bcd (get_or ws i 0)) area → Put start at bcd ws new (to + 6) (i + 1)
-  put_one area to i h p new e =
+  pub put_one : (area : List ℕ) (i : ℕ) → i < length ws → Put start at bcd ws area i
+      → (new : List ℕ) → new ≡ paste (at + 6 * i) (word_bytes bcd (get_or ws i 0)) area → Put start at bcd ws new (i + 1)
+  put_one area i h p new e =
+      let to = at + 6 * i in
       let w = word_bytes bcd (get_or ws i 0) in
       let more = data_bytes bcd (drop (i + 1) ws) in
-      let fits : to + 6 ≤ length area = put_room area to i h p in
+      let fits : to + 6 ≤ length area = put_room area i h p in
       let fit : to + length w ≤ length area = omega (arith, length_word bcd (get_or ws i 0)) in
+      let next : at + 6 * (i + 1) ≡ to + 6 = omega arith in
       record {
-        within = omega arith;
-        place = omega (arith, p.place);
         room = p.room;
         long = ap length e ∙ length_paste to w area fit ∙ p.long;
         rest =
-            ap (paste (to + 6) more) e ∙ paste_paste to 6 w more area (length_word bcd (get_or ws i 0)) fits
+            ap (λ (k : ℕ). paste k more new) next
+            ∙ ap (paste (to + 6) more) e ∙ paste_paste to 6 w more area (length_word bcd (get_or ws i 0)) fits
             ∙ ap (λ (l : List ℕ). paste to l area) (sym (data_step i h)) ∙ p.rest;
       }
 
-  pub put_all : (area : List ℕ) (to i : ℕ) → length ws ≤ i → Put start at bcd ws area to i → area ≡ paste at (data_bytes bcd ws) start
+  pub put_all : (area : List ℕ) (i : ℕ) → length ws ≤ i → Put start at bcd ws area i → area ≡ paste at (data_bytes bcd ws) start
   unfolding data_bytes
-  put_all area to i h p =
+  put_all area i h p =
+      let to = at + 6 * i in
       sym (paste_nothing to area) ∙ ap (λ (l : List ℕ). paste to (data_bytes bcd l) area) (sym (drop_of_length-le ws h)) ∙ p.rest
 
 -- ---- a block

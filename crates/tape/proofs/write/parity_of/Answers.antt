@@ -7,6 +7,6 @@ pub returns-then-bcd : goal.returns-then-bcd
 unfolding parity_of
 returns-then-bcd c = (rw (c.if-bcd.true, c.ones_of-n.ensures.0), search rules)
 
-pub returns : goal.returns
+pub returns-else-bcd : goal.returns-else-bcd
 unfolding parity_of
-returns c = (rw (c.if-bcd.false, c.ones_of-n.ensures.0), search rules)
+returns-else-bcd c = (rw (c.if-bcd.false, c.ones_of-n.ensures.0), search rules)

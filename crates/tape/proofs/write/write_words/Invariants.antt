@@ -1,10 +1,5 @@
 use Rattle.tape.proofs.Laws.Writes.{Put}
-use Prim.Native.Nat.{◌-◌}
-use lib.ListN.{length}
 use Rattle.tape.proofs.write.write_words.Given as goal
 
 abbrev pub invariant-loop-i : goal.invariant-loop-i
-invariant-loop-i l = Put l.initial.area l.at l.bcd l.words l.area l.to l.i
-
-abbrev pub decreases-loop-i : goal.decreases-loop-i
-decreases-loop-i l = length l.words - l.i
+invariant-loop-i l = Put l.initial.area l.at l.bcd l.words l.area l.i
