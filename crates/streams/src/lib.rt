@@ -2,7 +2,7 @@
 // each program says what it does then.
 #![tactic(auto)]
 
-ghost use Rattle.std.specs.Prelude.{◌≡◌, ◌≤◌, length, IfSome};
+ghost use Rattle.std.specs.Prelude.{◌≡◌, ◌≤◌, length, take, IfSome};
 
 use std::env::FillError;
 use std::fs;
@@ -55,6 +55,50 @@ pub fn decimal(n: u64, text: &mut [u8; 20]) -> usize
     20usize.saturating_sub(left)
 }
 
+// A line of numbers on standard output, with one blank between them.
+#[derive(Clone, Copy)]
+pub struct Line {
+    to: Stdout,
+    begun: bool,
+}
+
+impl Line {
+    // A line of which nothing is written yet.
+    pub fn new(to: Stdout) -> Line {
+        Line { to, begun: false }
+    }
+
+    // Writes the next number of the line.
+    pub fn number<N: Into<u64>>(&mut self, n: N) {
+        let n: u64 = n.into();
+        let _ = if self.begun {
+            self.to.print(format_args!(" {n}"))
+        } else {
+            self.to.print(n)
+        };
+        self.begun = true;
+    }
+
+    // Writes several numbers.
+    pub fn numbers(&mut self, all: &[u64]) {
+        for n in all {
+            self.number(*n);
+        }
+    }
+
+    // Ends the line.
+    pub fn end(self) {
+        write_all(self.to, b"\n");
+    }
+}
+
+// The first n bytes, or all if there are fewer.
+pub fn front(bytes: &[u8], n: usize) -> &[u8]
+    ensures { result.now ≡ take n bytes.now }
+{
+    bytes.get(..n).unwrap_or(bytes)
+}
+
 // Reads until the room is full, the input ends or a read fails, and says how many bytes stand at the front of the room.
 pub fn read_full<R: Read>(input: &mut R, room: &mut [u8]) -> usize
     ensures { result ≤ length room.new }
@@ -62,29 +106,20 @@ pub fn read_full<R: Read>(input: &mut R, room: &mut [u8]) -> usize
     let mut done = 0;
     while done < room.len() {
         match input.read(&mut room[done..]) {
-            Ok(0) => return done,
+            Ok(0) | Err(_) => return done,
             Ok(n) => done += n,
-            Err(_) => return done,
         }
     }
     done
 }
 
-// The place of the blank before a parenthesis, or of the first zero, or the length.
-fn words_of(text: &[u8]) -> usize
-    ensures { result ≤ length text.now }
-{
-    let mut i = 0;
-    while i < text.len() {
-        if text[i] == 0 {
-            return i;
-        }
-        if text[i..].starts_with(b" (os error ") {
-            return i;
-        }
-        i += 1;
+// The words of an error's text, without the number that stands after them in parentheses.
+fn words_of(text: &[u8]) -> &[u8] {
+    let number = b" (os error ".as_slice();
+    match text.windows(number.len()).position(|w| w == number) {
+        Some(at) => &text[..at],
+        None => text,
     }
-    i
 }
 
 // Says a line on standard error: what failed, a colon, and the system's words for the error, without its number.
@@ -92,10 +127,11 @@ pub fn fail(to: Stderr, what: &[u8], e: Error) {
     let mut text = [0u8; 256];
     let mut rest = &mut text[..];
     let _ = write!(rest, "{e}");
-    let n = words_of(&text);
+    let left = rest.len();
+    let length = text.len().saturating_sub(left);
     write_all(to, what);
     write_all(to, b": ");
-    write_all(to, &text[..n]);
+    write_all(to, words_of(&text[..length]));
     write_all(to, b"\n");
 }
 
@@ -103,30 +139,20 @@ pub fn fail(to: Stderr, what: &[u8], e: Error) {
 pub fn argument<V: Env>(rt: &V, to: Stderr, i: usize, room: &mut [u8], what: &[u8]) -> Option<usize>
     ensures { IfSome result (λ n. n ≤ length room.new) }
 {
-    match rt.arg(i, room) {
-        Ok(n) => Some(n),
-        Err(FillError::NotPresent) => {
-            fail(to, what, Error::from_raw_os_error(INVALID));
-            None
-        }
-        Err(FillError::TooLong) => {
-            fail(to, what, Error::from_raw_os_error(TOO_LONG));
-            None
-        }
-    }
+    let number = match rt.arg(i, room) {
+        Ok(n) => return Some(n),
+        Err(FillError::NotPresent) => INVALID,
+        Err(FillError::TooLong) => TOO_LONG,
+    };
+    fail(to, what, Error::from_raw_os_error(number));
+    None
 }
 
 // Opens the file of that name for reading, or says on standard error that it cannot. A name is text.
 pub fn opened<F: Files>(rt: &F, to: Stderr, name: &[u8]) -> Option<F::File> {
-    let Ok(path) = str::from_utf8(name) else {
-        fail(to, name, Error::from_raw_os_error(INVALID));
-        return None;
-    };
-    match fs::open(rt, path) {
-        Ok(file) => Some(file),
-        Err(e) => {
-            fail(to, name, e);
-            None
-        }
-    }
+    str::from_utf8(name)
+        .map_err(|_| Error::from_raw_os_error(INVALID))
+        .and_then(|path| fs::open(rt, path))
+        .map_err(|e| fail(to, name, e))
+        .ok()
 }

@@ -5,178 +5,188 @@
 ghost use Rattle.std.specs.Prelude.{◌≤◌, ◌<◌, length};
 
 use std::io::Stdout;
-use streams::{print_decimal, read_full, write_all};
+use streams::{Line, read_full};
+use word::Checked;
 
-// The most words that a case has.
+// The most words that a case has, and the most numbers before them.
 const ROOM: usize = 1200;
 
-// Reads n numbers from `at` on into the room, as far as it goes. Gives the place after them.
-fn read_numbers(text: &[u8], at: usize, room: &mut [u64], n: usize) -> usize
-    requires { at ≤ length text.now }
-    ensures { (at ≤ result) × (result ≤ length text.now) }
-{
-    let mut i = 0;
-    let mut next = at;
-    while i < n {
-        if room.len() <= i {
-            return next;
+const HEAD: usize = 5;
+
+// What is left of the text.
+#[derive(Drop)]
+struct Numbers<'a> {
+    rest: &'a [u8],
+}
+
+impl Numbers<'_> {
+    // The next number, 0 where there is none.
+    fn next(&mut self) -> u64
+        ensures left { length self.new.rest.now ≤ length self.old.rest.now }
+        ensures moves { 0 < length self.old.rest.now → length self.new.rest.now < length self.old.rest.now }
+    {
+        let number = numbers::next(self.rest, 0);
+        self.rest = &self.rest[number.at..];
+        number.value
+    }
+
+    // As many numbers as the room has places.
+    fn fill(&mut self, room: &mut [u64])
+        ensures { length self.new.rest.now ≤ length self.old.rest.now }
+    {
+        for place in room {
+            *place = self.next();
         }
-        let x = numbers::next(text, next);
-        room[i] = x.value;
-        next = x.at;
-        i += 1;
-    }
-    next
-}
-
-// The i-th number of a case after its kind, 0 where it has none.
-fn number(head: &[u64], i: usize) -> u64 {
-    if i < head.len() { head[i] } else { 0 }
-}
-
-// The same as a yes or no, as a count of words, and as a block number.
-fn chosen(head: &[u64], i: usize) -> bool {
-    number(head, i) != 0
-}
-
-fn count(head: &[u64], i: usize) -> usize {
-    let x = number(head, i);
-    if x < 1200 { x as usize } else { ROOM }
-}
-
-fn block_number(head: &[u64], i: usize) -> u16 {
-    (number(head, i) % 65536) as u16
-}
-
-// How many numbers a case of this kind has before its words, and how many words.
-fn head_count(kind: u64) -> usize {
-    match kind {
-        1 => 1,
-        2 => 4,
-        3 => 5,
-        4 => 4,
-        _ => 0,
     }
 }
 
-fn word_count(kind: u64, head: &[u64]) -> usize {
-    match kind {
-        1 => count(head, 0),
-        3 => count(head, 0),
-        4 => count(head, 3),
-        _ => 0,
+// What a case tries.
+#[derive(Clone, Copy)]
+enum Kind {
+    Sum,
+    CheckWord,
+    Seal,
+    Judge,
+    // Judges no words, by the numbers that the cases before it left.
+    Again,
+}
+
+impl Kind {
+    // The kind of that number; 0 is no case.
+    fn of(number: u64) -> Option<Kind> {
+        match number {
+            0 => None,
+            1 => Some(Kind::Sum),
+            2 => Some(Kind::CheckWord),
+            3 => Some(Kind::Seal),
+            4 => Some(Kind::Judge),
+            _ => Some(Kind::Again),
+        }
+    }
+
+    // How many numbers such a case has before its words.
+    fn head_count(self) -> usize
+        ensures { result ≤ 5 }
+    {
+        match self {
+            Kind::Sum => 1,
+            Kind::CheckWord | Kind::Judge => 4,
+            Kind::Seal => 5,
+            Kind::Again => 0,
+        }
+    }
+
+    // How many words it has: one of its numbers.
+    fn word_count(self, head: [u64; HEAD]) -> usize
+        ensures { result ≤ 1200 }
+    {
+        match self {
+            Kind::Sum | Kind::Seal => count(head[0]),
+            Kind::Judge => count(head[3]),
+            Kind::CheckWord | Kind::Again => 0,
+        }
     }
 }
 
-// Writes a number, and one that is not the first of its line.
-fn say(to: Stdout, x: u64) {
-    print_decimal(to, x);
+// A number as a count of words, and as a block number.
+fn count(n: u64) -> usize
+    ensures { result ≤ 1200 }
+{
+    n.min(ROOM as u64) as usize
 }
 
-fn also(to: Stdout, x: u64) {
-    write_all(to, b" ");
-    print_decimal(to, x);
+fn block_number(n: u64) -> u16 {
+    (n % 65536) as u16
 }
 
 // `1 n words`: whether each is below 2^36, their logical sum, and its fold.
-fn play_sum(to: Stdout, words: &[u64]) {
+fn play_sum(line: &mut Line, words: &[u64]) {
     let s = word::logical_sum(words);
-    say(to, s.fits as u64);
-    also(to, s.sum);
-    also(to, word::folded(s.sum));
+    line.number(s.fits);
+    line.number(s.sum);
+    line.number(word::folded(s.sum));
 }
 
 // `2 sequence check number sum`: the check word, its two fields, and the next block number.
-fn play_check_word(to: Stdout, head: &[u64]) {
-    let n = block_number(head, 2);
-    let w = word::check_word(chosen(head, 0), chosen(head, 1), number(head, 3), n);
-    say(to, w);
-    also(to, word::sum_field(w));
-    also(to, word::number_field(w));
-    also(to, word::next_number(n) as u64);
+fn play_check_word(line: &mut Line, [sequence, check, number, sum, _]: [u64; HEAD]) {
+    let n = block_number(number);
+    let w = word::check_word(sequence != 0, check != 0, sum, n);
+    line.number(w);
+    line.number(word::sum_field(w));
+    line.number(word::number_field(w));
+    line.number(word::next_number(n));
 }
 
 // `3 len n sequence check number words`: sealing, the refusal and every word of the slice afterwards.
-fn play_seal(to: Stdout, head: &[u64], block: &mut [u64]) {
-    let n = count(head, 1);
+fn play_seal(line: &mut Line, [_, n, sequence, check, number]: [u64; HEAD], block: &mut [u64]) {
     let refusal = block::seal(
         block,
-        n,
-        chosen(head, 2),
-        chosen(head, 3),
-        block_number(head, 4),
+        count(n),
+        sequence != 0,
+        check != 0,
+        block_number(number),
     );
-    say(to, refusal as u64);
-    let mut i = 0;
-    while i < block.len() {
-        also(to, block[i]);
-        i += 1;
-    }
+    line.number(refusal);
+    line.numbers(block);
 }
 
 // `4 sequence check number len words`: judging a block as delivered, the refusal, the error, the sum and the number worked out, and those read.
-fn play_judge(to: Stdout, head: &[u64], block: &[u64]) {
-    let j = block::judge(
-        block,
-        chosen(head, 0),
-        chosen(head, 1),
-        block_number(head, 2),
-    );
-    say(to, j.refusal as u64);
-    let found = j.found;
-    also(to, found.error as u64);
-    also(to, found.sum as u64);
-    also(to, found.number as u64);
-    also(to, found.sumread as u64);
-    also(to, found.numberread as u64);
+fn play_judge(line: &mut Line, [sequence, check, number, _, _]: [u64; HEAD], block: &[u64]) {
+    let judged = block::judge(block, sequence != 0, check != 0, block_number(number));
+    let Checked {
+        error,
+        sum,
+        number,
+        sumread,
+        numberread,
+    } = judged.found;
+    line.number(judged.refusal);
+    line.number(error);
+    line.number(sum);
+    line.number(number);
+    line.number(sumread);
+    line.number(numberread);
 }
 
-// The answer to a case with its words in the first n places of the room.
-fn answer(to: Stdout, kind: u64, head: &[u64], room: &mut [u64], n: usize) {
-    if room.len() < n {
-        return;
-    }
-    if kind == 1 {
-        return play_sum(to, &room[..n]);
-    }
-    if kind == 2 {
-        return play_check_word(to, head);
-    }
-    if kind == 3 {
-        return play_seal(to, head, &mut room[..n]);
-    }
-    play_judge(to, head, &room[..n])
+// The numbers of a case and its words, where those of the next take their place.
+#[derive(Drop)]
+struct Desk {
+    head: [u64; HEAD],
+    room: [u64; ROOM],
 }
 
-// One case; the place after it. At the end of the text there is none.
-fn play_case(to: Stdout, text: &[u8], at: usize, head: &mut [u64], room: &mut [u64]) -> usize
-    requires { at < length text.now }
-    ensures { (at < result) × (result ≤ length text.now) }
-{
-    let kind = numbers::next(text, at);
-    if kind.value == 0 {
-        return kind.at;
-    }
-    let start = read_numbers(text, kind.at, head, head_count(kind.value));
-    let n = word_count(kind.value, &head[..]);
-    let end = read_numbers(text, start, room, n);
-    answer(to, kind.value, &head[..], room, n);
-    write_all(to, b"\n");
-    end
-}
-
-// Every case of the text.
-fn play(to: Stdout, text: &[u8], head: &mut [u64], room: &mut [u64]) {
-    let mut at = 0;
-    while at < text.len() {
-        at = play_case(to, text, at, head, room);
+impl Desk {
+    // Plays the next case, which answers with a line.
+    fn play_case(&mut self, to: Stdout, numbers: &mut Numbers<'_>)
+        ensures { (0 < length numbers.old.rest.now) → length numbers.new.rest.now < length numbers.old.rest.now }
+    {
+        let Some(kind) = Kind::of(numbers.next()) else {
+            return;
+        };
+        numbers.fill(&mut self.head[..kind.head_count()]);
+        let head = self.head;
+        let words = &mut self.room[..kind.word_count(head)];
+        numbers.fill(words);
+        let mut line = Line::new(to);
+        match kind {
+            Kind::Sum => play_sum(&mut line, words),
+            Kind::CheckWord => play_check_word(&mut line, head),
+            Kind::Seal => play_seal(&mut line, head, words),
+            Kind::Judge | Kind::Again => play_judge(&mut line, head, words),
+        }
+        line.end();
     }
 }
 
 fn main(rt: HostRuntime) {
     let mut text = [0u8; 131072];
     let n = read_full(&mut rt.stdin(), &mut text);
-    let mut head = [0u64; 8];
-    let mut room = [0u64; ROOM];
-    play(rt.stdout(), &text[..n], &mut head, &mut room);
+    let mut numbers = Numbers { rest: &text[..n] };
+    let mut desk = Desk {
+        head: [0; HEAD],
+        room: [0; ROOM],
+    };
+    while !numbers.rest.is_empty() {
+        desk.play_case(rt.stdout(), &mut numbers);
+    }
 }

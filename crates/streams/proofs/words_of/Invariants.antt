@@ -1,9 +1,0 @@
--- It ends: the place is counted up.
-use Rattle.std.specs.Prelude.{◌-◌, ◌≤◌, length}
-use Rattle.streams.proofs.words_of.Given as goal
-
-abbrev pub invariant-loop-i : goal.invariant-loop-i
-invariant-loop-i l = l.i ≤ length l.text
-
-abbrev pub decreases-loop-i : goal.decreases-loop-i
-decreases-loop-i l = length l.text - l.i
