@@ -5,14 +5,14 @@ use Prim.Native.Nat.{ℕ, zero, suc, ◌+◌, ◌-◌, ◌<◌}
 use native.Mathlib.Nat.{le_of_suc-le-suc}
 use native.Mathlib.Decide.{dec_lt}
 use native.Mathlib.Omega.{arith}
-use Rattle.area.specs.declared.Found.TheVariants.{At, Nothing}
 use Rattle.area.specs.Lists.{first_along, count_along, along}
 use Rattle.area.proofs.Walks.{by_test, true_not_false}
+use Rattle.core.specs.declared.option.Option.TheVariants.{Some, None}
 
 module _ (next : ℕ → ℕ) (test : ℕ → Bool) where
   -- ---- one turn of a loop that has n numbers left, and its end
 
-  pub first_stop : (n u : ℕ) → 0 < n → test u ≡ true → first_along next test n u ≡ At u
+  pub first_stop : (n u : ℕ) → 0 < n → test u ≡ true → first_along next test n u ≡ Some u
   unfolding first_along
   first_stop zero u h e = absurd (omega arith)
   first_stop (suc n) u h e = rw e
@@ -24,7 +24,7 @@ module _ (next : ℕ → ℕ) (test : ℕ → Bool) where
       let p : n ≡ suc n - 1 = omega arith in
       rw e (ap (λ (k : ℕ). first_along next test k (next u)) p)
 
-  pub first_none : (u : ℕ) → first_along next test 0 u ≡ Nothing
+  pub first_none : (u : ℕ) → first_along next test 0 u ≡ None
   unfolding first_along
   first_none u = refl
 
@@ -74,25 +74,25 @@ module _ (next : ℕ → ℕ) (test : ℕ → Bool) where
       passed (suc i) h = f.before i (le_of_suc-le-suc h)
 
   -- what is found is the first
-  pub first_finds : (n u p : ℕ) → first_along next test n u ≡ At p → First next test n u p
+  pub first_finds : (n u p : ℕ) → first_along next test n u ≡ Some p → First next test n u p
   unfolding first_along along
   first_finds zero u p e = absurd (let z : ◌≡◌ {A = ℕ} 0 1 = cc in omega arith)
   first_finds (suc n) u p e =
-      by_test (λ b. cond b (At u) (first_along next test n (next u)) ≡ At p → test u ≡ b → First next test (suc n) u p) (test u)
+      by_test (λ b. cond b (Some u) (first_along next test n (next u)) ≡ Some p → test u ≡ b → First next test (suc n) u p) (test u)
       (λ t q w.
       let same : u ≡ p = cc in
       record { steps = 0; among = omega arith; reached = same; passes = ap test (sym same) ∙ w; before = λ i h. absurd (omega arith) })
       (λ t q w. first_later w (first_finds n (next u) p q)) e refl
 
   -- where nothing is found, none of them passes
-  pub first_misses : (n u : ℕ) → first_along next test n u ≡ Nothing → (i : ℕ) → i < n → test (along next i u) ≡ false
+  pub first_misses : (n u : ℕ) → first_along next test n u ≡ None → (i : ℕ) → i < n → test (along next i u) ≡ false
   unfolding first_along along
   first_misses zero u e i h = absurd (omega arith)
   first_misses (suc n) u e zero h =
-      by_test (λ b. cond b (At u) (first_along next test n (next u)) ≡ Nothing → b ≡ false) (test u)
+      by_test (λ b. cond b (Some u) (first_along next test n (next u)) ≡ None → b ≡ false) (test u)
       (λ t q. absurd (let z : ◌≡◌ {A = ℕ} 0 1 = cc in omega arith)) (λ t q. refl) e
   first_misses (suc n) u e (suc i) h =
-      by_test (λ b. cond b (At u) (first_along next test n (next u)) ≡ Nothing → test (along next i (next u)) ≡ false) (test u)
+      by_test (λ b. cond b (Some u) (first_along next test n (next u)) ≡ None → test (along next i (next u)) ≡ false) (test u)
       (λ t q. absurd (let z : ◌≡◌ {A = ℕ} 0 1 = cc in omega arith)) (λ t q. first_misses n (next u) q i (le_of_suc-le-suc h)) e
 
   -- two numbers that are each the first are one number

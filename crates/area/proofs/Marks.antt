@@ -9,11 +9,12 @@ use native.Mathlib.Omega.{arith}
 use borrow.Author.Tests.{eq-eqb, ne_eqb, lt-ltb, le-ltb}
 use lib.Dec.{eqb, ltb}
 use lib.ListN.{get_or, set}
-use Rattle.area.specs.declared.Found.{Found}
-use Rattle.area.specs.declared.Found.TheVariants.{At, Nothing}
-use Rattle.area.specs.Lists.{any_of, all_of, all_pairs, count_of, first_along, count_along, along, is_found, number_or}
+use Rattle.area.specs.Lists.{any_of, all_of, all_pairs, count_of, first_along, count_along, along}
 use Rattle.area.proofs.Walks.{true_not_false, and_left, and_right, and_both}
 use Rattle.area.proofs.Firsts.{First, first_finds, first_stop, first_go, first_none, count_stop, count_go, count_none}
+use Rattle.core.specs.declared.option.Option.{Option}
+use Rattle.core.specs.declared.option.Option.TheVariants.{Some, None}
+use Rattle.core.specs.Option.{is_some, unwrap_or}
 
 -- ---- Bool
 
@@ -35,15 +36,15 @@ unless_so false b h = refl
 -- ---- numbers one after the other: the answer e₀ of the whole is that of the numbers from k on up to m
 
 module _ (test : ℕ → Bool) (m k : ℕ) where
-  pub first_hit : (e₀ : Found) → k < m → e₀ ≡ first_along suc test (m - k) k → test k ≡ true → At k ≡ e₀
+  pub first_hit : (e₀ : Option ℕ) → k < m → e₀ ≡ first_along suc test (m - k) k → test k ≡ true → Some k ≡ e₀
   first_hit e₀ h inv e = sym (inv ∙ first_stop suc test (m - k) k (omega arith) e)
 
-  pub first_miss : (e₀ : Found) → k < m → e₀ ≡ first_along suc test (m - k) k → test k ≡ false → e₀ ≡ first_along suc test (m - (k + 1)) (k + 1)
+  pub first_miss : (e₀ : Option ℕ) → k < m → e₀ ≡ first_along suc test (m - k) k → test k ≡ false → e₀ ≡ first_along suc test (m - (k + 1)) (k + 1)
   first_miss e₀ h inv e =
       let p : m - k - 1 ≡ m - (k + 1) = omega arith in
       inv ∙ first_go suc test (m - k) k (omega arith) e ∙ ap₂ (first_along suc test) p (sym (add-one k))
 
-  pub first_done : (e₀ : Found) → m ≤ k → e₀ ≡ first_along suc test (m - k) k → Nothing ≡ e₀
+  pub first_done : (e₀ : Option ℕ) → m ≤ k → e₀ ≡ first_along suc test (m - k) k → None ≡ e₀
   first_done e₀ h inv =
       let p : m - k ≡ 0 = omega arith in
       sym (inv ∙ ap (λ (n : ℕ). first_along suc test n k) p ∙ first_none suc test k)
@@ -196,7 +197,7 @@ module _ {A : Type 0} where
 -- the first of n numbers from u on stands at a place, and c pass after it
 pub record Counted (test : ℕ → Bool) (n u c : ℕ) : Type 0 where
   pub place : ℕ
-  pub found : first_along suc test n u ≡ At place
+  pub found : first_along suc test n u ≡ Some place
   pub from : u ≤ place
   pub below : place < u + n
   pub passes : test place ≡ true
@@ -212,7 +213,7 @@ first_counted test (suc n) u c e = go (test u) refl e (first_counted test n (suc
         let left : u + suc n - suc u ≡ n = omega arith in
         record {
           place = u;
-          found = cond_true (At u) (first_along suc test n (suc u)) q;
+          found = cond_true (Some u) (first_along suc test n (suc u)) q;
           from = omega arith;
           below = omega arith;
           passes = q;
@@ -223,7 +224,7 @@ first_counted test (suc n) u c e = go (test u) refl e (first_counted test n (suc
         let left : u + suc n - suc C.place ≡ suc u + n - suc C.place = omega arith in
         record {
           place = C.place;
-          found = cond_false (At u) (first_along suc test n (suc u)) q ∙ C.found;
+          found = cond_false (Some u) (first_along suc test n (suc u)) q ∙ C.found;
           from = omega (arith, C.from);
           below = omega (arith, C.below);
           passes = C.passes;
@@ -231,7 +232,7 @@ first_counted test (suc n) u c e = go (test u) refl e (first_counted test n (suc
         }
 
 -- what a walk up the numbers finds is the lowest that passes
-pub first_lowest : (test : ℕ → Bool) (n u p : ℕ) → first_along suc test n u ≡ At p → (u ≤ p) × (p < u + n) × (test p ≡ true) × ((j : ℕ) → u ≤ j → j < p → test j ≡ false)
+pub first_lowest : (test : ℕ → Bool) (n u p : ℕ) → first_along suc test n u ≡ Some p → (u ≤ p) × (p < u + n) × (test p ≡ true) × ((j : ℕ) → u ≤ j → j < p → test j ≡ false)
 first_lowest test n u p e =
     let F = first_finds suc test n u p e in
     let at : p ≡ u + F.steps = sym F.reached ∙ along_suc F.steps u in
@@ -248,7 +249,7 @@ pub first_ext : (s t : ℕ → Bool) (n u : ℕ) → ((b : ℕ) → u ≤ b → 
 unfolding first_along
 first_ext s t zero u h = refl
 first_ext s t (suc n) u h =
-    ap₂ (λ (b : Bool) (x : Found). cond b (At u) x) (h u (omega arith) (omega arith)) (first_ext s t n (suc u) (λ b l k. h b (omega arith) (omega arith)))
+    ap₂ (λ (b : Bool) (x : Option ℕ). cond b (Some u) x) (h u (omega arith) (omega arith)) (first_ext s t n (suc u) (λ b l k. h b (omega arith) (omega arith)))
 
 pub count_ext : (s t : ℕ → Bool) (n u : ℕ) → ((b : ℕ) → u ≤ b → b < u + n → s b ≡ t b) → count_along suc s n u ≡ count_along suc t n u
 unfolding count_along
@@ -257,17 +258,17 @@ count_ext s t (suc n) u h =
     ap₂ (λ (b : Bool) (x : ℕ). cond b 1 0 + x) (h u (omega arith) (omega arith)) (count_ext s t n (suc u) (λ b l k. h b (omega arith) (omega arith)))
 
 -- past the first that passes, the first of the others is the next
-pub first_next : (test : ℕ → Bool) (n u p : ℕ) → first_along suc test n u ≡ At p
+pub first_next : (test : ℕ → Bool) (n u p : ℕ) → first_along suc test n u ≡ Some p
     → first_along suc (λ b. test b && not (eqb p b)) n u ≡ first_along suc test (u + n - suc p) (suc p)
 unfolding first_along
-first_next test zero u p e = true_not_false refl (sym (ap is_found e))
+first_next test zero u p e = true_not_false refl (sym (ap is_some e))
 first_next test (suc n) u p e = go (test u) refl e (first_next test n (suc u) p)
   where
-    go : (t : Bool) → test u ≡ t → cond t (At u) (first_along suc test n (suc u)) ≡ At p
-        → (first_along suc test n (suc u) ≡ At p → first_along suc (λ b. test b && not (eqb p b)) n (suc u) ≡ first_along suc test (suc u + n - suc p) (suc p))
-        → cond (t && not (eqb p u)) (At u) (first_along suc (λ b. test b && not (eqb p b)) n (suc u)) ≡ first_along suc test (u + suc n - suc p) (suc p)
+    go : (t : Bool) → test u ≡ t → cond t (Some u) (first_along suc test n (suc u)) ≡ Some p
+        → (first_along suc test n (suc u) ≡ Some p → first_along suc (λ b. test b && not (eqb p b)) n (suc u) ≡ first_along suc test (suc u + n - suc p) (suc p))
+        → cond (t && not (eqb p u)) (Some u) (first_along suc (λ b. test b && not (eqb p b)) n (suc u)) ≡ first_along suc test (u + suc n - suc p) (suc p)
     go true q k later =
-        let here : u ≡ p = ap (λ (x : Found). number_or x u) k in
+        let here : u ≡ p = ap (λ (x : Option ℕ). unwrap_or x u) k in
         let left : n ≡ u + suc n - suc p = omega arith in
         let start : suc u ≡ suc p = omega arith in
         cond_false _ _ (ap not (eq-eqb p u (sym here)))
@@ -282,7 +283,7 @@ first_next test (suc n) u p e = go (test u) refl e (first_next test n (suc u) p)
         later k ∙ ap (λ (j : ℕ). first_along suc test j (suc p)) left
 
 -- none of them passes
-first_nothing : (test : ℕ → Bool) (n u : ℕ) → ((b : ℕ) → u ≤ b → test b ≡ false) → first_along suc test n u ≡ Nothing
+first_nothing : (test : ℕ → Bool) (n u : ℕ) → ((b : ℕ) → u ≤ b → test b ≡ false) → first_along suc test n u ≡ None
 unfolding first_along
 first_nothing test zero u h = refl
 first_nothing test (suc n) u h = cond_false _ _ (h u (omega arith)) ∙ first_nothing test n (suc u) (λ b l. h b (omega arith))
@@ -303,7 +304,7 @@ first_below test m n k h = go (m - k) k refl
     go (suc d) u e =
         let left : n - u ≡ suc (n - suc u) = omega arith in
         ap (λ (j : ℕ). first_along suc (λ b. ltb b m && test b) j u) left
-        ∙ ap₂ (λ (b : Bool) (x : Found). cond b (At u) x) (before_end test m u (omega arith)) (go d (suc u) (omega arith))
+        ∙ ap₂ (λ (b : Bool) (x : Option ℕ). cond b (Some u) x) (before_end test m u (omega arith)) (go d (suc u) (omega arith))
 
 pub count_below : (test : ℕ → Bool) (m n k : ℕ) → m ≤ n → count_along suc (λ b. ltb b m && test b) (n - k) k ≡ count_along suc test (m - k) k
 unfolding count_along

@@ -11,9 +11,10 @@ use lib.Pow.{shr-shr, shr_lt, pow-lt, pow_mono}
 use lib.Bits.{bit_and, bit_or, and_le_l, and_shr, and_mod, or_lt, or_shr, or_mod}
 use lib.Count.{ones, ones_step, count_trailing_zeros, under}
 use borrow.Author.Tests.{eq-eqb, ne_eqb, lt-ltb}
-use Rattle.area.specs.declared.Found.TheVariants.{At}
-use Rattle.area.specs.Lists.{one_if, first_along, count_along, number_or}
+use Rattle.area.specs.Lists.{one_if, first_along, count_along}
 use Rattle.area.specs.Masks.{bit_at, mask_along, mask_of}
+use Rattle.core.specs.declared.option.Option.TheVariants.{Some}
+use Rattle.core.specs.Option.{unwrap_or}
 
 -- ---- one bit
 
@@ -207,22 +208,22 @@ mask_without test x n h =
 -- ---- the lowest of the set, and how many it has
 
 -- the trailing zeros: the first that passes, past the last if none does
-trailing_along : (test : ℕ → Bool) (n u : ℕ) → count_trailing_zeros n (mask_along test n u) + u ≡ number_or (first_along suc test n u) (n + u)
+trailing_along : (test : ℕ → Bool) (n u : ℕ) → count_trailing_zeros n (mask_along test n u) + u ≡ unwrap_or (first_along suc test n u) (n + u)
 unfolding mask_along first_along count_trailing_zeros
 trailing_along test zero u = refl
 trailing_along test (suc n) u =
     ap₂ (λ (d y : ℕ). under d (count_trailing_zeros n y) + u) (digits_mod (mask_along test n (suc u)) (one_lt (test u))) (digits_div (mask_along test n (suc u)) (one_lt (test u)))
     ∙ go (test u) (trailing_along test n (suc u))
   where
-    go : (t : Bool) → count_trailing_zeros n (mask_along test n (suc u)) + suc u ≡ number_or (first_along suc test n (suc u)) (n + suc u)
-        → under (one_if t) (count_trailing_zeros n (mask_along test n (suc u))) + u ≡ number_or (cond t (At u) (first_along suc test n (suc u))) (suc n + u)
+    go : (t : Bool) → count_trailing_zeros n (mask_along test n (suc u)) + suc u ≡ unwrap_or (first_along suc test n (suc u)) (n + suc u)
+        → under (one_if t) (count_trailing_zeros n (mask_along test n (suc u))) + u ≡ unwrap_or (cond t (Some u) (first_along suc test n (suc u))) (suc n + u)
     go true e = omega arith
-    go false e = omega arith ∙ e ∙ ap (number_or (first_along suc test n (suc u))) (omega arith)
+    go false e = omega arith ∙ e ∙ ap (unwrap_or (first_along suc test n (suc u))) (omega arith)
 
-pub trailing_first : (x n : ℕ) → x < 2 ^ n → count_trailing_zeros n x ≡ number_or (first_along suc (bit_at x) n 0) n
+pub trailing_first : (x n : ℕ) → x < 2 ^ n → count_trailing_zeros n x ≡ unwrap_or (first_along suc (bit_at x) n 0) n
 trailing_first x n h =
-    let along : count_trailing_zeros n (mask_of (bit_at x) n) + 0 ≡ number_or (first_along suc (bit_at x) n 0) (n + 0) = trailing_along (bit_at x) n 0 in
-    ap (count_trailing_zeros n) (sym (mask_own x n h)) ∙ omega arith ∙ along ∙ ap (number_or (first_along suc (bit_at x) n 0)) (omega arith)
+    let along : count_trailing_zeros n (mask_of (bit_at x) n) + 0 ≡ unwrap_or (first_along suc (bit_at x) n 0) (n + 0) = trailing_along (bit_at x) n 0 in
+    ap (count_trailing_zeros n) (sym (mask_own x n h)) ∙ omega arith ∙ along ∙ ap (unwrap_or (first_along suc (bit_at x) n 0)) (omega arith)
 
 -- the ones: how many pass
 ones_along : (test : ℕ → Bool) (n u : ℕ) → ones (mask_along test n u) ≡ count_along suc test n u

@@ -1,7 +1,5 @@
 -- What can be asked of a list or of a run of numbers, one after the other. Assumes nothing.
-use Rattle.std.specs.Prelude.{Bool, true, false, cond, ◌&&◌, ◌||◌, List, [], ◌∷◌, ℕ, zero, suc, ◌+◌}
-use Rattle.area.specs.declared.Found.{Found}
-use Rattle.area.specs.declared.Found.TheVariants.{At, Nothing}
+use Rattle.std.specs.Prelude.{Bool, true, false, cond, ◌&&◌, ◌||◌, List, [], ◌∷◌, ℕ, zero, suc, ◌+◌, Option, Some, None, is_some, unwrap_or}
 
 -- some element passes the test
 unfoldable pub any_of : {A : Type 0} → (A → Bool) → List A → Bool
@@ -24,19 +22,9 @@ count_of test [] = 0
 count_of test (x ∷ xs) = cond (test x) 1 0 + count_of test xs
 
 -- the first that passes the test, of n numbers: u, the one that `next` gives after u, and so on
-unfoldable pub first_along : (ℕ → ℕ) → (ℕ → Bool) → ℕ → ℕ → Found
-first_along next test zero u = Nothing
-first_along next test (suc n) u = cond (test u) (At u) (first_along next test n (next u))
-
--- whether a search found anything
-abbrev pub is_found : Found → Bool
-is_found (At u) = true
-is_found Nothing = false
-
--- the number that it found, another if none
-abbrev pub number_or : Found → ℕ → ℕ
-number_or (At u) none = u
-number_or Nothing none = none
+unfoldable pub first_along : (ℕ → ℕ) → (ℕ → Bool) → ℕ → ℕ → Option ℕ
+first_along next test zero u = None
+first_along next test (suc n) u = cond (test u) (Some u) (first_along next test n (next u))
 
 -- how many of those numbers pass the test
 unfoldable pub count_along : (ℕ → ℕ) → (ℕ → Bool) → ℕ → ℕ → ℕ

@@ -5,25 +5,11 @@
 
 mod refusals;
 
-ghost use Rattle.area.specs.Lists.{all_of, is_found};
+ghost use Rattle.area.specs.Lists.{all_of};
 ghost use Rattle.area.specs.Parts.{is_word, part_of, paste_fits, pasted_in};
 ghost use Rattle.std.specs.Prelude.{◌≡◌};
 
 pub use refusals::row;
-
-// What a search for a number finds.
-#[derive(Clone, Copy)]
-pub enum Found {
-    At(usize),
-    Nothing,
-}
-
-// Whether it found anything.
-pub fn is_found(x: Found) -> bool
-    ensures { result ≡ is_found x }
-{
-    matches!(x, Found::At(_))
-}
 
 // Whether every word of a slice is below 2^36. All are or'ed, and the bits above are looked at once.
 pub fn are_words(words: &[u64]) -> bool

@@ -21,7 +21,6 @@ use Rattle.channel.specs.declared.Turn.TheVariants.{Idle, Waiting, Displaced, Wo
 use Rattle.channel.specs.declared.Unit.{Unit}
 use Rattle.channel.specs.declared.Channel.{Channel}
 use Rattle.channel_outcomes.specs.declared.Ending.{Ending}
-use Rattle.channel.specs.declared.Work.{Work}
 use Rattle.channel_outcomes.specs.declared.Verdict.{Verdict}
 use Rattle.channel_outcomes.specs.declared.Verdict.TheVariants.{Refused, Repeats, Ends}
 use Rattle.channel_outcomes.specs.Rules.{is_allowed, is_failure, is_permanent, is_noise, past_noise, next_attempt, ending_of, table_verdict, verdict_of, result_number, refusal_number}
@@ -38,12 +37,13 @@ use Rattle.block.specs.declared.blocks.Judged.{Judged}
 use Rattle.block.specs.Blocks.{is_number, judge_refusal, judged_block}
 use Rattle.word.specs.declared.Checked.{Checked}
 use Rattle.word.specs.Checks.{unchecked}
-use Rattle.call_request.specs.declared.Delivery.{Delivery}
 use Rattle.call_request.specs.declared.Effect.{Effect}
 use Rattle.call_request.specs.declared.ReportMove.{ReportMove}
 use Rattle.call_request.specs.Effects.{effect_of, is_delivery}
 use Rattle.call_request.specs.Report.{is_idle_for, is_forbidden, shown_start, shown_count, rows_by, delivery_check, delivery_of, reported_area}
 use Rattle.call_request.specs.Moves.{effect_by, report_number, refused_move, report_moved, report_moved_area}
+use Rattle.core.specs.declared.option.Option.{Option}
+use Rattle.channel.specs.declared.Op.{Op}
 
 -- ---- report: what the channel refuses
 
@@ -93,7 +93,7 @@ forbidden_number c u outcome len = go (turn_at c u)
 -- ---- report: its rows
 
 -- a report that is not refused and delivers a block has as many words as it may have
-pub rows_room : (wrong : Bool) (u outcome len : ℕ) (x : Work) (v : Verdict) (e : Effect) (fits clean room : Bool) (n : ℕ)
+pub rows_room : (wrong : Bool) (u outcome len : ℕ) (x : Option Op) (v : Verdict) (e : Effect) (fits clean room : Bool) (n : ℕ)
     → lowest (rows_by wrong u outcome len x v e fits clean room n) ≡ 0 → is_delivery e ≡ true → room ≡ true
 rows_room wrong u outcome len x v e fits clean room n z brings =
     let a = lowest_none 1 _ _ (λ q. omega arith) z in
@@ -109,7 +109,7 @@ rows_room wrong u outcome len x v e fits clean room n z brings =
     so false false w t q = true_not_false t refl
 
 -- a report that is not refused gives words below 2^36
-pub rows_fit : (wrong : Bool) (u outcome len : ℕ) (x : Work) (v : Verdict) (e : Effect) (fits clean room : Bool) (n : ℕ)
+pub rows_fit : (wrong : Bool) (u outcome len : ℕ) (x : Option Op) (v : Verdict) (e : Effect) (fits clean room : Bool) (n : ℕ)
     → lowest (rows_by wrong u outcome len x v e fits clean room n) ≡ 0 → fits ≡ true
 rows_fit wrong u outcome len x v e fits clean room n z =
     let a = lowest_none 1 _ _ (λ q. omega arith) z in
@@ -121,7 +121,7 @@ rows_fit wrong u outcome len x v e fits clean room n z =
     so false q = sym q
 
 -- what the code has looked at before it judges a report of a unit whose turn is t, by the names of `rows_by`
-pub record Seen (f : File) (t : Turn) (outcome len w : ℕ) (area words : List ℕ) (x : Work) (v : Verdict) (e : Effect) (fits clean room : Bool) (start count : ℕ) : Type 0 where
+pub record Seen (f : File) (t : Turn) (outcome len w : ℕ) (area words : List ℕ) (x : Option Op) (v : Verdict) (e : Effect) (fits clean room : Bool) (start count : ℕ) : Type 0 where
   pub work : x ≡ work_of t
   pub verdict : v ≡ judge_turn t outcome len
   pub effect : e ≡ effect_of (ltb 0 (length words)) x v
@@ -131,10 +131,10 @@ pub record Seen (f : File) (t : Turn) (outcome len w : ℕ) (area words : List �
   pub handed : clean ≡ all_of is_word (part_of start count area)
   pub space : room ≡ block_fits f (length words)
 
-module _ (wrong frozen : Bool) (y : Unit) (d : Desk) (u : ℕ) {f : File} {outcome len w : ℕ} {area words : List ℕ} {x : Work} {v : Verdict} {e : Effect} {fits clean room : Bool}
+module _ (wrong frozen : Bool) (y : Unit) (d : Desk) (u : ℕ) {f : File} {outcome len w : ℕ} {area words : List ℕ} {x : Option Op} {v : Verdict} {e : Effect} {fits clean room : Bool}
     {start count : ℕ} (S : Seen f y.turn outcome len w area words x v e fits clean room start count) where
   same : e ≡ effect_by y.turn outcome len (length words)
-  same = S.effect ∙ ap (λ (z : Work). effect_of (ltb 0 (length words)) z v) S.work ∙ ap (effect_of (ltb 0 (length words)) (work_of y.turn)) S.verdict
+  same = S.effect ∙ ap (λ (z : Option Op). effect_of (ltb 0 (length words)) z v) S.work ∙ ap (effect_of (ltb 0 (length words)) (work_of y.turn)) S.verdict
 
   pub number_found : lowest (rows_by wrong u outcome len x v e fits clean room (length words)) ≡ report_number wrong f y.turn u outcome len w area words
   unfolding report_number
@@ -146,7 +146,7 @@ module _ (wrong frozen : Bool) (y : Unit) (d : Desk) (u : ℕ) {f : File} {outco
     unfolding report_moved report_moved_area
     move_refused h = (rw (← found, ne_eqb k 0 h), rw (← found, ne_eqb k 0 h))
 
-    pub move_booked : k ≡ 0 → (er : Checked) (dl : Delivery) (r : ℕ) (m : Move) → er ≡ delivery_check e f words → dl ≡ delivery_of e er → r ≡ result_number y.position v
+    pub move_booked : k ≡ 0 → (er : Checked) (dl : Option Checked) (r : ℕ) (m : Move) → er ≡ delivery_check e f words → dl ≡ delivery_of e er → r ≡ result_number y.position v
         → m ≡ book_move unit_count y u d v frozen
         → ◌≡◌ {A = ReportMove} (record { refusal = 0; result = r; delivery = dl; start = start; count = count; effect = e; found = er; change = m })
         (report_moved wrong f y d u outcome len w frozen area words)

@@ -1,9 +1,7 @@
 -- What a report that is booked means for the file of its unit (document 01, "Files and buffers", "Outcomes and attempts"). Assumes nothing.
-use Rattle.std.specs.Prelude.{ℕ, Bool, true, false, cond}
+use Rattle.std.specs.Prelude.{ℕ, Bool, true, false, cond, Option, Some, None}
 use Rattle.channel.specs.declared.Op.{Op}
 use Rattle.channel.specs.declared.Op.TheVariants.{Read, Write, Mark}
-use Rattle.channel.specs.declared.Work.{Work}
-use Rattle.channel.specs.declared.Work.TheVariants.{At, Nothing}
 use Rattle.channel_outcomes.specs.declared.Ending.{Ending}
 use Rattle.channel_outcomes.specs.declared.Ending.TheVariants.{Good, Opposite, MarkRead, MediumEnd, LostRedundancy, LostIncomplete}
 use Rattle.channel_outcomes.specs.declared.Verdict.{Verdict}
@@ -41,12 +39,12 @@ op_effect some Read e = read_effect some e
 op_effect some Write e = write_effect e
 op_effect some Mark e = Keeps
 
-abbrev pub work_effect : Bool → Work → Ending → Effect
-work_effect some (At op) e = op_effect some op e
-work_effect some Nothing e = Keeps
+abbrev pub work_effect : Bool → Option Op → Ending → Effect
+work_effect some (Some op) e = op_effect some op e
+work_effect some None e = Keeps
 
 -- an operation that is repeated touches no file: "Words on a repeated attempt are dropped."
-abbrev pub effect_of : Bool → Work → Verdict → Effect
+abbrev pub effect_of : Bool → Option Op → Verdict → Effect
 effect_of some x (Refused n) = Keeps
 effect_of some x (Repeats q) = Keeps
 effect_of some x (Ends e) = work_effect some x e

@@ -1,6 +1,5 @@
 -- Ask and report by one unit x and the desk d of its channel: `Ask` and `Report` put for these. Assumes nothing.
-use Rattle.std.specs.Prelude.{ℕ, Bool, not, cond, List, ltb, eqb, length}
-use Rattle.area.specs.declared.Found.TheVariants.{Nothing}
+use Rattle.std.specs.Prelude.{ℕ, Bool, not, cond, List, ltb, eqb, length, None}
 use Rattle.area.specs.Lists.{all_of}
 use Rattle.area.specs.Parts.{is_word}
 use Rattle.area.specs.Refusals.{lowest}
@@ -17,7 +16,6 @@ use Rattle.file_input.specs.Delivers.{block_fits}
 use Rattle.routines.specs.declared.Naming.{Naming}
 use Rattle.word.specs.Checks.{unchecked}
 use Rattle.call_request.specs.declared.AskMove.{AskMove}
-use Rattle.call_request.specs.declared.Delivery.TheVariants.{Without}
 use Rattle.call_request.specs.declared.Effect.{Effect}
 use Rattle.call_request.specs.declared.Effect.TheVariants.{Keeps}
 use Rattle.call_request.specs.declared.ReportMove.{ReportMove}
@@ -27,7 +25,7 @@ use Rattle.call_request.specs.Report.{shown_start, shown_count, shown_block, row
 
 -- a refusal changes nothing
 abbrev pub rest_move : Unit → Desk → Move
-rest_move x d = record { turn = x.turn; position = x.position; mark = d.mark; urgent = d.urgent; starts = Nothing; working = 0 }
+rest_move x d = record { turn = x.turn; position = x.position; mark = d.mark; urgent = d.urgent; starts = None; working = 0 }
 
 -- ---- ask
 
@@ -53,7 +51,7 @@ report_number wrong f t u outcome len w area words =
     lowest (rows_by wrong u outcome len (work_of t) (judge_turn t outcome len) e (all_of is_word words) (all_of is_word (shown_block e w f area)) (block_fits f (length words)) (length words))
 
 abbrev pub refused_move : ℕ → Unit → Desk → ReportMove
-refused_move k x d = record { refusal = k; result = 0; delivery = Without; start = 0; count = 0; effect = Keeps; found = unchecked; change = rest_move x d }
+refused_move k x d = record { refusal = k; result = 0; delivery = None; start = 0; count = 0; effect = Keeps; found = unchecked; change = rest_move x d }
 
 unfoldable pub report_moved : Bool → File → Unit → Desk → ℕ → ℕ → ℕ → ℕ → Bool → List ℕ → List ℕ → ReportMove
 report_moved wrong f x d u outcome len w frozen area words =

@@ -1,12 +1,10 @@
 -- Report (document 01, "Refusal numbers", "Files and buffers", "Outcomes and attempts"). Assumes nothing.
-use Rattle.std.specs.Prelude.{ℕ, ◌-◌, Bool, true, false, not, cond, ◌&&◌, ◌||◌, List, [], ◌∷◌, leb, ltb, eqb, length}
+use Rattle.std.specs.Prelude.{ℕ, ◌-◌, Bool, true, false, not, cond, ◌&&◌, ◌||◌, List, [], ◌∷◌, leb, ltb, eqb, length, Option, Some, None}
 use Rattle.area.specs.Lists.{all_of}
 use Rattle.area.specs.Parts.{is_word, part_of, pasted_in}
 use Rattle.area.specs.Refusals.{Rows, lowest}
 use Rattle.channel.specs.declared.Op.{Op}
 use Rattle.channel.specs.declared.Op.TheVariants.{Read, Write, Mark}
-use Rattle.channel.specs.declared.Work.{Work}
-use Rattle.channel.specs.declared.Work.TheVariants as work
 use Rattle.channel.specs.declared.Channel.{Channel}
 use Rattle.channel_outcomes.specs.declared.Verdict.{Verdict}
 use Rattle.channel_outcomes.specs.Rules.{redundancy, incomplete_word, outcome_count, no_length, is_allowed, result_number, refusal_number}
@@ -21,8 +19,6 @@ use Rattle.file_output.specs.Sends.{send_start, send_words, after_write}
 use Rattle.block.specs.Blocks.{judged_block}
 use Rattle.word.specs.declared.Checked.{Checked}
 use Rattle.word.specs.Checks.{unchecked}
-use Rattle.call_request.specs.declared.Delivery.{Delivery}
-use Rattle.call_request.specs.declared.Delivery.TheVariants.{Without, With}
 use Rattle.call_request.specs.declared.Effect.{Effect}
 use Rattle.call_request.specs.declared.Effect.TheVariants.{Delivers, MeetsMark, GivesBack, Sends, Keeps}
 use Rattle.call_request.specs.declared.ReportChange.{ReportChange}
@@ -35,25 +31,25 @@ abbrev pub effect_at : Channel → ℕ → ℕ → ℕ → ℕ → Effect
 effect_at c u outcome len n = effect_of (ltb 0 n) (operation_at c u) (judge_of c u outcome len)
 
 -- "11 | report: the channel is not working for that unit"
-abbrev pub is_idle_for : Work → Bool
-is_idle_for (work.At op) = false
-is_idle_for work.Nothing = true
+abbrev pub is_idle_for : Option Op → Bool
+is_idle_for (Some op) = false
+is_idle_for None = true
 
 -- "Words given .. to a write or mark"
-abbrev pub takes_no_words : Work → Bool
-takes_no_words (work.At Read) = false
-takes_no_words (work.At Write) = true
-takes_no_words (work.At Mark) = true
-takes_no_words work.Nothing = false
+abbrev pub takes_no_words : Option Op → Bool
+takes_no_words (Some Read) = false
+takes_no_words (Some Write) = true
+takes_no_words (Some Mark) = true
+takes_no_words None = false
 
 -- "12 | report: outcome not allowed for the operation"
-abbrev pub is_forbidden : Work → ℕ → Bool
-is_forbidden (work.At op) outcome = not (is_allowed op outcome)
-is_forbidden work.Nothing outcome = false
+abbrev pub is_forbidden : Option Op → ℕ → Bool
+is_forbidden (Some op) outcome = not (is_allowed op outcome)
+is_forbidden None outcome = false
 
 -- "A read's redundancy report may carry a length in words, two bytes ..; if words follow it must be their number, else 1" (document 02, M-106): of
 -- a report that carries a length, n words after it
-unfoldable pub length_wrong : ℕ → ℕ → Work → ℕ → Bool
+unfoldable pub length_wrong : ℕ → ℕ → Option Op → ℕ → Bool
 length_wrong outcome len x n =
     not (eqb len no_length) && ((ltb no_length len || not (eqb outcome redundancy)) || ((ltb 0 n && not (eqb len n)) || takes_no_words x))
 
@@ -93,7 +89,7 @@ report_rows wrong f c u outcome len w area words =
 
 -- the same rows by what the code has found: what is worked for, what the report comes to and means, whether the words given and those handed
 -- out are below 2^36, and whether n words are as many as a delivered block may have
-abbrev pub rows_by : Bool → ℕ → ℕ → ℕ → Work → Verdict → Effect → Bool → Bool → Bool → ℕ → Rows
+abbrev pub rows_by : Bool → ℕ → ℕ → ℕ → Option Op → Verdict → Effect → Bool → Bool → Bool → ℕ → Rows
 rows_by wrong u outcome len x v e fits clean room n =
     (1, (wrong || length_wrong outcome len x n) || ((leb unit_count u || leb outcome_count outcome) || (ltb 0 n && (ltb incomplete_word outcome || takes_no_words x)))) ∷
     (2, not fits || not clean) ∷
@@ -112,13 +108,13 @@ abbrev pub delivery_check : Effect → File → List ℕ → Checked
 delivery_check x f words = cond (is_delivery x) (judged_block words f.sequence f.check f.block).found unchecked
 
 -- "A report that delivers a block .. carr[ies] them as found at delivery"
-abbrev pub delivery_of : Effect → Checked → Delivery
-delivery_of x found = cond (is_delivery x) (With found) Without
+abbrev pub delivery_of : Effect → Checked → Option Checked
+delivery_of x found = cond (is_delivery x) (Some found) None
 
 -- what the answer tells of a delivery; a report that delivers nothing has check error 0
-abbrev pub told_by : Delivery → Checked
-told_by (With found) = found
-told_by Without = unchecked
+abbrev pub told_by : Option Checked → Checked
+told_by (Some found) = found
+told_by None = unchecked
 
 -- the file: the taken buffer is full with the data words, how they were read and what was found, or is empty again; the block that was sent is gone
 unfoldable pub reported_file : Effect → File → ℕ → Checked → File
@@ -134,7 +130,7 @@ reported_area x f w words area = cond (is_delivery x) (pasted_in (start_at f w (
 
 -- "A refusal returns the number alone and changes nothing."
 abbrev pub refused_report : ℕ → File → Channel → ReportChange
-refused_report refusal f c = record { refusal = refusal; result = 0; delivery = Without; working = 0; start = 0; count = 0; file = f; channel = c }
+refused_report refusal f c = record { refusal = refusal; result = 0; delivery = None; working = 0; start = 0; count = 0; file = f; channel = c }
 
 -- "Report adds result, check error, working unit and, if it ends a write with 01 or 04, the block's words"
 unfoldable pub report_on : Bool → File → Channel → ℕ → ℕ → ℕ → ℕ → Bool → List ℕ → List ℕ → ReportChange

@@ -5,7 +5,7 @@ ghost use Rattle.area.specs.Refusals.{lowest};
 ghost use Rattle.call_request.specs.Moves.{rest_move, ask_moved};
 
 use crate::{AskChange, AskMove};
-use area::{Found, row};
+use area::row;
 use channel::{Channel, Op, Unit, is_idle, unit_of};
 use channel_turns::{Desk, Move, ask_move, desk_of, moved_to};
 use file::File;
@@ -86,7 +86,7 @@ pub fn rest(x: Unit, d: Desk) -> Move
         position: x.position,
         mark: d.mark,
         urgent: d.urgent,
-        starts: Found::Nothing,
+        starts: None,
         working: 0,
     }
 }

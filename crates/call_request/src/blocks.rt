@@ -8,7 +8,7 @@ ghost use Rattle.call_request.specs.Effects.{is_delivery};
 ghost use Rattle.call_request.specs.Report.{shown_start, shown_count, delivery_check, delivery_of, reported_file, reported_area};
 
 use crate::effects::is_delivery;
-use crate::{Delivery, Effect};
+use crate::Effect;
 use area::{are_words, copy_in};
 use file::{Arrival, File};
 use file_input::{delivered, gave_back, met_mark, taken_start};
@@ -28,13 +28,13 @@ pub fn look(x: Effect, f: File, words: &[u64]) -> Option<Checked>
 }
 
 // What the report delivers, by what was found of the words.
-pub fn delivery_of(x: Effect, found: Checked) -> Delivery
+pub fn delivery_of(x: Effect, found: Checked) -> Option<Checked>
     ensures { result ≡ delivery_of x found }
 {
     if is_delivery(x) {
-        Delivery::With(found)
+        Some(found)
     } else {
-        Delivery::Without
+        None
     }
 }
 

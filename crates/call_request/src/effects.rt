@@ -4,7 +4,7 @@ ghost use Rattle.call_request.specs.Effects.{kept_if, read_effect, write_effect,
 ghost use Rattle.call_request.specs.Report.{takes_no_words};
 
 use crate::Effect;
-use channel::{Op, Work};
+use channel::Op;
 use channel_outcomes::{Ending, Verdict};
 use file::{INCOMPLETE_ERROR, REDUNDANCY_ERROR};
 
@@ -43,18 +43,18 @@ fn write_effect(e: Ending) -> Effect
     }
 }
 
-fn work_effect(some: bool, x: Work, e: Ending) -> Effect
+fn work_effect(some: bool, x: Option<Op>, e: Ending) -> Effect
     ensures { result ≡ work_effect some x e }
 {
     match x {
-        Work::At(Op::Read) => read_effect(some, e),
-        Work::At(Op::Write) => write_effect(e),
-        Work::At(Op::Mark) | Work::Nothing => Effect::Keeps,
+        Some(Op::Read) => read_effect(some, e),
+        Some(Op::Write) => write_effect(e),
+        Some(Op::Mark) | None => Effect::Keeps,
     }
 }
 
 // What a report of the operation that is worked for means, by whether it carries words and what it came to.
-pub fn effect_of(some: bool, x: Work, v: Verdict) -> Effect
+pub fn effect_of(some: bool, x: Option<Op>, v: Verdict) -> Effect
     ensures { result ≡ effect_of some x v }
 {
     match v {
@@ -70,8 +70,8 @@ pub fn is_delivery(x: Effect) -> bool
 }
 
 // Whether a write or a mark is worked for, to which no words may be given.
-pub fn takes_no_words(x: Work) -> bool
+pub fn takes_no_words(x: Option<Op>) -> bool
     ensures { result ≡ takes_no_words x }
 {
-    matches!(x, Work::At(Op::Write | Op::Mark))
+    matches!(x, Some(Op::Write | Op::Mark))
 }

@@ -44,20 +44,13 @@ pub enum Effect {
     Keeps,
 }
 
-// What a report delivers: no block, or one with what its check found.
-#[derive(Clone, Copy)]
-pub enum Delivery {
-    Without,
-    With(Checked),
-}
-
 // The answer to a report: the refusal, 0 for none; the result, 0 repeated, 7 repeated after the cleaner pass, 1 to 6 how the operation ended; the delivered block's check, if
 // it delivers one; the working unit after it, 255 for none; the part of the area that holds the block of a write; the file and the channel after it.
 #[derive(Clone, Copy)]
 pub struct ReportChange {
     pub refusal: u8,
     pub result: u8,
-    pub delivery: Delivery,
+    pub delivery: Option<Checked>,
     pub working: u8,
     pub start: usize,
     pub count: usize,
@@ -71,7 +64,7 @@ pub struct ReportChange {
 pub struct ReportMove {
     pub refusal: u8,
     pub result: u8,
-    pub delivery: Delivery,
+    pub delivery: Option<Checked>,
     pub start: usize,
     pub count: usize,
     pub effect: Effect,

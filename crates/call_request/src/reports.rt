@@ -7,9 +7,9 @@ ghost use Rattle.call_request.specs.Moves.{refused_move, report_moved, report_mo
 use crate::asks::rest;
 use crate::blocks::{delivery_of, look, put_words, reported_file, shown_count, shown_start};
 use crate::effects::{effect_of, is_delivery, takes_no_words};
-use crate::{Delivery, Effect, ReportChange, ReportMove};
+use crate::{Effect, ReportChange, ReportMove};
 use area::{part_are_words, row};
-use channel::{Channel, UNITS, Unit, Work, unit_of, worked_for};
+use channel::{Channel, Op, UNITS, Unit, unit_of, worked_for};
 use channel_outcomes::{NO_LENGTH, OUTCOMES, Verdict, refusal_number, result_number};
 use channel_turns::{Desk, book_move, desk_of, judge_turn, moved_to};
 use file::File;
@@ -21,7 +21,7 @@ const REDUNDANCY: u8 = 1;
 
 // Whether the report carries a length that it may not carry: it is out of range, no redundancy is reported, n words follow and are not so many, or a
 // write or a mark is worked for.
-fn length_wrong(outcome: u8, length: u32, x: Work, n: usize) -> bool
+fn length_wrong(outcome: u8, length: u32, x: Option<Op>, n: usize) -> bool
     ensures { result ≡ length_wrong outcome length x n }
 {
     let silent = takes_no_words(x);
@@ -41,7 +41,7 @@ fn report_refusal(
     unit: u8,
     outcome: u8,
     length: u32,
-    x: Work,
+    x: Option<Op>,
     v: Verdict,
     e: Effect,
     fits: bool,
@@ -133,7 +133,7 @@ fn refused(refusal: u8, y: Unit, d: Desk) -> ReportMove
     ReportMove {
         refusal,
         result: 0,
-        delivery: Delivery::Without,
+        delivery: None,
         start: 0,
         count: 0,
         effect: Effect::Keeps,

@@ -1,13 +1,12 @@
 -- A channel's units and what can be seen of them (document 01, "Sizes" and "Requests, reports, turns"). Assumes nothing.
 -- A definition here and in `Turns` goes by the list of the channel's units, however many they are.
-use Rattle.std.specs.Prelude.{ℕ, zero, suc, ◌+◌, ◌/◌, ◌%◌, ◌^◌, Bool, true, false, not, ◌&&◌, List, [], ◌∷◌, map, eqb, length, get_or, set}
+use Rattle.std.specs.Prelude.{ℕ, zero, suc, ◌+◌, ◌/◌, ◌%◌, ◌^◌, Bool, true, false, not, ◌&&◌, List, [], ◌∷◌, map, eqb, length, get_or, set, Option, Some, None}
 use Rattle.channel.specs.declared.Turn.{Turn}
 use Rattle.channel.specs.declared.Turn.TheVariants.{Idle, Waiting, Displaced, Working}
 use Rattle.channel.specs.declared.Position.{Position}
 use Rattle.channel.specs.declared.Unit.{Unit}
 use Rattle.channel.specs.declared.Channel.{Channel}
-use Rattle.channel.specs.declared.Work.{Work}
-use Rattle.channel.specs.declared.Work.TheVariants.{At, Nothing}
+use Rattle.channel.specs.declared.Op.{Op}
 
 -- "Units 0 to 9 on each"
 abbrev pub unit_count : ℕ
@@ -82,14 +81,14 @@ has_request c u = not (is_idle (turn_at c u))
 unfoldable pub accepts_at : Channel → ℕ → Bool
 accepts_at c u = declared_at c u && is_idle (turn_at c u)
 
-abbrev pub work_of : Turn → Work
-work_of Idle = Nothing
-work_of (Waiting q) = Nothing
-work_of (Displaced q) = Nothing
-work_of (Working q) = At q.op
+abbrev pub work_of : Turn → Option Op
+work_of Idle = None
+work_of (Waiting q) = None
+work_of (Displaced q) = None
+work_of (Working q) = Some q.op
 
 -- the operation that unit u is worked for, if it is
-unfoldable pub operation_at : Channel → ℕ → Work
+unfoldable pub operation_at : Channel → ℕ → Option Op
 operation_at c u = work_of (turn_at c u)
 
 -- a unit that is worked for

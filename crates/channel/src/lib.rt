@@ -88,10 +88,3 @@ pub struct Channel {
     pub mark: u8,
     pub urgent: u8,
 }
-
-// The operation that a unit is worked for, if it is.
-#[derive(Clone, Copy)]
-pub enum Work {
-    At(Op),
-    Nothing,
-}

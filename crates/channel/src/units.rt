@@ -2,7 +2,7 @@
 ghost use Rattle.std.specs.Prelude.{◌≡◌};
 ghost use Rattle.channel.specs.Units.{at_start, idle_unit, fresh_of, is_idle, unit_at, declared_at, turn_at, position_at, with_unit, with_turn, has_request, accepts_at, work_of, operation_at};
 
-use crate::{Channel, Position, Turn, UNITS, Unit, Work};
+use crate::{Channel, Op, Position, Turn, UNITS, Unit};
 
 // The position at a fresh start: nothing was passed or met.
 fn at_start() -> Position
@@ -99,18 +99,18 @@ pub fn accepts(c: Channel, unit: usize) -> bool
 }
 
 // The operation that is worked for, if one is.
-pub fn worked_for(t: Turn) -> Work
+pub fn worked_for(t: Turn) -> Option<Op>
     ensures { result ≡ work_of t }
 {
     match t {
-        Turn::Working(q) => Work::At(q.op),
-        _ => Work::Nothing,
+        Turn::Working(q) => Some(q.op),
+        _ => None,
     }
 }
 
 // The operation that the unit is worked for, if it is.
 #[tactic(auto, unfolding(crate::specs::Units::operation_at))]
-pub fn operation_of(c: Channel, unit: usize) -> Work
+pub fn operation_of(c: Channel, unit: usize) -> Option<Op>
     ensures { result ≡ operation_at c unit }
 {
     worked_for(turn_of(c, unit))

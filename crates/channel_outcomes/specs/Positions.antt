@@ -1,11 +1,9 @@
 -- "Where the reel stands" (document 02, M-106): a unit's position after a report, and when the cleaner pass is due. Assumes nothing.
-use Rattle.std.specs.Prelude.{ℕ, ◌+◌, ◌%◌, Bool, true, false, not, cond, ◌&&◌, ◌||◌, leb, ltb, eqb}
+use Rattle.std.specs.Prelude.{ℕ, ◌+◌, ◌%◌, Bool, true, false, not, cond, ◌&&◌, ◌||◌, leb, ltb, eqb, Option, Some, None}
 use Rattle.channel.specs.declared.Op.{Op}
 use Rattle.channel.specs.declared.Op.TheVariants.{Read, Write, Mark}
 use Rattle.channel.specs.declared.Position.{Position}
 use Rattle.channel.specs.declared.Request.{Request}
-use Rattle.channel.specs.declared.Work.{Work}
-use Rattle.channel.specs.declared.Work.TheVariants.{At, Nothing}
 use Rattle.channel_outcomes.specs.declared.Ending.{Ending}
 use Rattle.channel_outcomes.specs.declared.Ending.TheVariants.{Good, Opposite, MarkRead, MediumEnd, LostRedundancy, LostIncomplete}
 
@@ -57,9 +55,9 @@ op_moves Write e p = write_moves e p
 op_moves Mark e p = mark_moves e p
 
 -- where the reel stands after the end of what was worked for
-abbrev pub position_after : Work → Ending → Position → Position
-position_after (At op) e p = op_moves op e p
-position_after Nothing e p = p
+abbrev pub position_after : Option Op → Ending → Position → Position
+position_after (Some op) e p = op_moves op e p
+position_after None e p = p
 
 -- ---- noise
 

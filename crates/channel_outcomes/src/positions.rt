@@ -3,7 +3,7 @@ ghost use Rattle.std.specs.Prelude.{◌≡◌};
 ghost use Rattle.channel_outcomes.specs.Positions.{one_more, record_passed, mark_passed, read_moves, write_moves, mark_moves, op_moves, position_after, noise_met, noted_by, reads as readsTape, is_pass, cleaner_due};
 
 use crate::{Ending, MOST_PASSED};
-use channel::{Op, Position, Request, Work};
+use channel::{Op, Position, Request};
 
 // The first and the last attempt of a read before which the reel is cleaned, and how far apart they are.
 const FIRST_PASS: u8 = 12;
@@ -87,12 +87,12 @@ fn op_moves(op: Op, e: Ending, p: Position) -> Position
 }
 
 // Where the reel stands after the end of what was worked for.
-pub fn position_after(x: Work, e: Ending, p: Position) -> Position
+pub fn position_after(x: Option<Op>, e: Ending, p: Position) -> Position
     ensures { result ≡ position_after x e p }
 {
     match x {
-        Work::At(op) => op_moves(op, e, p),
-        Work::Nothing => p,
+        Some(op) => op_moves(op, e, p),
+        None => p,
     }
 }
 

@@ -1,6 +1,6 @@
 -- Histories of one channel, and what demand 3 promises of them. Assumes nothing.
-use Rattle.std.specs.Prelude.{◌≡◌, Bool, true, false, ◌&&◌, ◌||◌, List, [], ◌∷◌, ℕ, ◌+◌, ◌*◌, ◌≤◌, ◌<◌, eqb}
-use Rattle.area.specs.Lists.{one_if, count_of, is_found}
+use Rattle.std.specs.Prelude.{◌≡◌, Bool, true, false, ◌&&◌, ◌||◌, List, [], ◌∷◌, ℕ, ◌+◌, ◌*◌, ◌≤◌, ◌<◌, eqb, is_some}
+use Rattle.area.specs.Lists.{one_if, count_of}
 use Rattle.channel.specs.declared.Op.{Op}
 use Rattle.channel.specs.declared.Unit.{Unit}
 use Rattle.channel.specs.declared.Channel.{Channel}
@@ -131,7 +131,7 @@ an_answer_to u thaw a = false
 
 -- the channel is working or frozen
 abbrev pub is_alive : Station → Bool
-is_alive s = s.frozen || is_found (working_in s.channel)
+is_alive s = s.frozen || is_some (working_in s.channel)
 
 -- the priority requests without an answer
 unfoldable pub urgent_in : Channel → ℕ

@@ -1,9 +1,7 @@
 -- What turns go by, and what a call makes of one unit (document 01, "Requests, reports, turns"): a channel's desk, and the small changes of a channel that
 -- an ask and a report come to. Each is the channel's own definition, of `Starts` and `Turns`, put for one unit and the desk. Assumes nothing.
-use Rattle.std.specs.Prelude.{ℕ, Bool, not, cond, ◌&&◌, ◌||◌, eqb, ltb}
-use Rattle.area.specs.declared.Found.{Found}
-use Rattle.area.specs.declared.Found.TheVariants.{Nothing}
-use Rattle.area.specs.Lists.{first_along, is_found}
+use Rattle.std.specs.Prelude.{ℕ, Bool, not, cond, ◌&&◌, ◌||◌, eqb, ltb, Option, None, is_some}
+use Rattle.area.specs.Lists.{first_along}
 use Rattle.area.specs.Masks.{bit_at, mask_of}
 use Rattle.channel.specs.declared.Op.{Op}
 use Rattle.channel.specs.declared.Request.{Request}
@@ -38,22 +36,22 @@ unfoldable pub desk_of : Channel → Desk
 desk_of c = record { mark = c.mark; urgent = c.urgent; working = stand_mask c working; priority = stand_mask c priority; ordinary = stand_mask c ordinary }
 
 -- "The scan .. begins .., wraps after 9": the first of n units whose bit is set, from a mark on and round
-unfoldable pub scan_of : ℕ → ℕ → ℕ → Found
+unfoldable pub scan_of : ℕ → ℕ → ℕ → Option ℕ
 scan_of n mask mark = first_along (next_unit n) (bit_at mask) n (begin_of n mark)
 
 -- the unit that is worked for, the next with a priority request, and whose turn it is on an idle channel
-unfoldable pub work_on : ℕ → Desk → Found
+unfoldable pub work_on : ℕ → Desk → Option ℕ
 work_on n d = scan_of n d.working 0
 
-unfoldable pub urged_on : ℕ → Desk → Found
+unfoldable pub urged_on : ℕ → Desk → Option ℕ
 urged_on n d = scan_of n d.priority d.urgent
 
-unfoldable pub next_on : ℕ → Desk → Found
+unfoldable pub next_on : ℕ → Desk → Option ℕ
 next_on n d = or_else (urged_on n d) (scan_of n d.ordinary d.mark)
 
 -- "a channel that is idle and not frozen starts an activity .. if any request waits"
-unfoldable pub starts_on : ℕ → Desk → Bool → Found
-starts_on n d frozen = cond (frozen || is_found (work_on n d)) Nothing (next_on n d)
+unfoldable pub starts_on : ℕ → Desk → Bool → Option ℕ
+starts_on n d frozen = cond (frozen || is_some (work_on n d)) None (next_on n d)
 
 -- the number of the unit that is worked for then, "FF for none"
 unfoldable pub works_after : ℕ → Desk → Bool → ℕ
@@ -97,7 +95,7 @@ moved_on n t p d frozen =
 -- nothing changes, and nothing starts
 unfoldable pub still_on : ℕ → Unit → Desk → Move
 still_on n x d =
-    record { turn = x.turn; position = x.position; mark = d.mark; urgent = d.urgent; starts = Nothing; working = unit_number (work_on n d) }
+    record { turn = x.turn; position = x.position; mark = d.mark; urgent = d.urgent; starts = None; working = unit_number (work_on n d) }
 
 -- an ask: "accepted if the unit is declared and has none"
 unfoldable pub ask_move : ℕ → Unit → ℕ → Desk → Op → Bool → Bool → Move
@@ -109,7 +107,7 @@ ask_move n x u d op urgent frozen =
 -- a report after which the operation is to go on: "a waiting priority request starts, displacing an incomplete ordinary one; else the incomplete operation
 -- continues"
 abbrev pub goes_on_at : ℕ → Desk → Bool → Bool → Bool
-goes_on_at n d urgent frozen = not frozen && (urgent || not (is_found (urged_on n d)))
+goes_on_at n d urgent frozen = not frozen && (urgent || not (is_some (urged_on n d)))
 
 unfoldable pub repeat_move : ℕ → Unit → ℕ → Desk → Request → Bool → Move
 repeat_move n x u d q frozen =

@@ -1,7 +1,5 @@
 -- "Requests, reports, turns" (document 01): a start, a thaw and an ask on one channel. Assumes nothing.
-use Rattle.std.specs.Prelude.{ℕ, Bool, true, false, cond, ◌||◌}
-use Rattle.area.specs.declared.Found.{Found}
-use Rattle.area.specs.declared.Found.TheVariants.{At, Nothing}
+use Rattle.std.specs.Prelude.{ℕ, Bool, true, false, cond, ◌||◌, Option, Some, None, is_some}
 use Rattle.channel.specs.declared.Op.{Op}
 use Rattle.channel.specs.declared.Request.{Request}
 use Rattle.channel.specs.declared.Turn.{Turn}
@@ -9,7 +7,6 @@ use Rattle.channel.specs.declared.Turn.TheVariants.{Idle, Waiting, Displaced, Wo
 use Rattle.channel.specs.declared.Channel.{Channel}
 use Rattle.channel_turns.specs.declared.Asked.{Asked}
 use Rattle.channel_turns.specs.Scans.{working_in, next_turn}
-use Rattle.area.specs.Lists.{is_found}
 use Rattle.channel.specs.Units.{turn_at, with_turn, accepts_at}
 
 -- ---- a start
@@ -21,13 +18,13 @@ begun_turn (Displaced q) = Working q
 begun_turn (Working q) = Working q
 
 -- the request of the unit that was found is worked for, with the counts that it has
-abbrev pub begun_at : Channel → Found → Channel
-begun_at c (At u) = with_turn c u (begun_turn (turn_at c u))
-begun_at c Nothing = c
+abbrev pub begun_at : Channel → Option ℕ → Channel
+begun_at c (Some u) = with_turn c u (begun_turn (turn_at c u))
+begun_at c None = c
 
 -- "After every accepted call, a channel that is idle and not frozen starts an activity, by the order below, if any request waits."
 unfoldable pub start_of : Channel → Bool → Channel
-start_of c frozen = cond (frozen || is_found (working_in c)) c (begun_at c (next_turn c))
+start_of c frozen = cond (frozen || is_some (working_in c)) c (begun_at c (next_turn c))
 
 -- "Thaw lets starts happen."
 unfoldable pub thaw_of : Channel → Channel

@@ -1,5 +1,5 @@
 -- "Requests, reports, turns" (document 01): a report on one channel. Assumes nothing.
-use Rattle.std.specs.Prelude.{ℕ, Bool, true, false, not, cond, ◌&&◌, ◌||◌}
+use Rattle.std.specs.Prelude.{ℕ, Bool, true, false, not, cond, ◌&&◌, ◌||◌, is_some}
 use Rattle.channel.specs.declared.Request.{Request}
 use Rattle.channel.specs.declared.Turn.{Turn}
 use Rattle.channel.specs.declared.Turn.TheVariants.{Idle, Waiting, Displaced, Working}
@@ -11,7 +11,6 @@ use Rattle.channel_turns.specs.declared.Reported.{Reported}
 use Rattle.channel_outcomes.specs.Positions.{position_after, noted_by}
 use Rattle.channel_outcomes.specs.Rules.{verdict_of}
 use Rattle.channel_turns.specs.Scans.{next_unit, priority_in}
-use Rattle.area.specs.Lists.{is_found}
 use Rattle.channel.specs.Units.{size, turn_at, position_at, operation_at, with_unit, with_marks}
 use Rattle.channel_turns.specs.Starts.{start_of}
 
@@ -29,7 +28,7 @@ judge_of c u outcome length = judge_turn (turn_at c u) outcome length
 -- "a waiting priority request starts, displacing an incomplete ordinary one; else the incomplete operation continues";
 -- "a priority operation is not displaced"; under a freeze "an incomplete operation then waits like a displaced one"
 unfoldable pub goes_on : Channel → Bool → Bool → Bool
-goes_on c priority frozen = not frozen && (priority || not (is_found (priority_in c)))
+goes_on c priority frozen = not frozen && (priority || not (is_some (priority_in c)))
 
 -- "A displaced operation keeps its attempt and incomplete-word counts."
 abbrev pub incomplete_turn : Bool → Request → Turn

@@ -9,7 +9,6 @@ mod scans;
 mod starts;
 mod turns;
 
-use area::Found;
 use channel::{Channel, Position, Turn, UNITS};
 use channel_outcomes::Verdict;
 pub use desks::desk_of;
@@ -39,7 +38,7 @@ pub struct Move {
     pub position: Position,
     pub mark: u8,
     pub urgent: u8,
-    pub starts: Found,
+    pub starts: Option<usize>,
     pub working: u8,
 }
 

@@ -10,14 +10,13 @@ use crate::scans::{
     Standing, next_on, next_unit, number_of, standing_of, urged_on, waiting_as, work_on,
 };
 use crate::{Desk, Move};
-use area::{Found, is_found};
 use channel::{Op, Position, Request, Turn, Unit, is_idle, worked_for};
 use channel_outcomes::{Ending, Verdict, noted, position_after, verdict_of};
 
 // The unit that starts, and the number of the one that is worked for then, 255 for none.
 #[derive(Clone, Copy)]
 pub struct Starting {
-    pub unit: Found,
+    pub unit: Option<usize>,
     pub working: u8,
 }
 
@@ -27,9 +26,9 @@ pub fn start_on(d: Desk, frozen: bool) -> Starting
     ensures { (result.unit ≡ starts_on unit_count d frozen) × (result.working ≡ works_after unit_count d frozen) }
 {
     let works = work_on(d);
-    if frozen || is_found(works) {
+    if frozen || works.is_some() {
         return Starting {
-            unit: Found::Nothing,
+            unit: None,
             working: number_of(works),
         };
     }
@@ -66,7 +65,7 @@ fn still(x: Unit, d: Desk) -> Move
         position: x.position,
         mark: d.mark,
         urgent: d.urgent,
-        starts: Found::Nothing,
+        starts: None,
         working: number_of(work_on(d)),
     }
 }
@@ -100,7 +99,7 @@ pub fn ask_move(x: Unit, u: usize, d: Desk, op: Op, priority: bool, frozen: bool
 fn goes_on(d: Desk, priority: bool, frozen: bool) -> bool
     ensures { result ≡ goes_on_at unit_count d priority frozen }
 {
-    !frozen && (priority || !is_found(urged_on(d)))
+    !frozen && (priority || !urged_on(d).is_some())
 }
 
 fn incomplete_turn(on: bool, q: Request) -> Turn

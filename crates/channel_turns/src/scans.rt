@@ -1,14 +1,12 @@
 // How a unit stands to the scans, and the scans of a channel's desk: which unit comes first of those that are worked for, that wait with a priority request
 // and that wait with an ordinary one.
-ghost use Rattle.std.specs.Prelude.{◌≡◌, ◌<◌, eqb};
-ghost use Rattle.area.specs.Lists.{number_or};
+ghost use Rattle.std.specs.Prelude.{◌≡◌, ◌<◌, eqb, unwrap_or};
 ghost use Rattle.channel.specs.Units.{unit_count};
 ghost use Rattle.channel_turns.specs.Standings.{standing_number};
 ghost use Rattle.channel_turns.specs.Scans.{waiting_as, standing_of, next_unit, begin_of, unit_number};
 ghost use Rattle.channel_turns.specs.Desks.{scan_of, work_on, urged_on, next_on};
 
 use crate::{Desk, LAST};
-use area::Found;
 use channel::{Turn, UNITS};
 
 // The number stands in public answers, as `Move::working`, which the crates above pass on as a byte: so it is no `Option`.
@@ -68,21 +66,21 @@ fn begin(mark: u8) -> usize
 }
 
 // The first unit whose bit is set, of all of them from a mark on, wrapped after the last.
-fn scan(mask: u16, mark: u8) -> Found
-    ensures { (result ≡ scan_of unit_count mask mark) × (number_or result 0 < unit_count) }
+fn scan(mask: u16, mark: u8) -> Option<usize>
+    ensures { (result ≡ scan_of unit_count mask mark) × (unwrap_or result 0 < unit_count) }
 {
     if mask == 0 {
-        return Found::Nothing;
+        return None;
     }
     let mut at = begin(mark);
     let mut left: usize = UNITS;
     // The scan is to be a loop over wrapped unit numbers that yields the first one that waits by `break`.
     loop {
         if left == 0 {
-            break Found::Nothing;
+            break None;
         }
         if (mask >> at) % 2 == 1 {
-            break Found::At(at);
+            break Some(at);
         }
         at = next_unit(at);
         left -= 1;
@@ -91,38 +89,38 @@ fn scan(mask: u16, mark: u8) -> Found
 
 // The unit that the channel works for.
 #[tactic(auto, unfolding(crate::specs::Desks::work_on))]
-pub fn work_on(d: Desk) -> Found
-    ensures { (result ≡ work_on unit_count d) × (number_or result 0 < unit_count) }
+pub fn work_on(d: Desk) -> Option<usize>
+    ensures { (result ≡ work_on unit_count d) × (unwrap_or result 0 < unit_count) }
 {
     scan(d.working, 0)
 }
 
 // The first unit, from the channel's mark for them on, whose priority request waits.
 #[tactic(auto, unfolding(crate::specs::Desks::urged_on))]
-pub fn urged_on(d: Desk) -> Found
-    ensures { (result ≡ urged_on unit_count d) × (number_or result 0 < unit_count) }
+pub fn urged_on(d: Desk) -> Option<usize>
+    ensures { (result ≡ urged_on unit_count d) × (unwrap_or result 0 < unit_count) }
 {
     scan(d.priority, d.urgent)
 }
 
 // Whose turn it is on an idle channel: the first with a priority request, else the first, from the channel's mark for them on, with an ordinary one.
 #[tactic(auto, unfolding(crate::specs::Desks::next_on))]
-pub fn next_on(d: Desk) -> Found
-    ensures { (result ≡ next_on unit_count d) × (number_or result 0 < unit_count) }
+pub fn next_on(d: Desk) -> Option<usize>
+    ensures { (result ≡ next_on unit_count d) × (unwrap_or result 0 < unit_count) }
 {
     match urged_on(d) {
-        Found::At(u) => Found::At(u),
-        Found::Nothing => scan(d.ordinary, d.mark),
+        Some(u) => Some(u),
+        None => scan(d.ordinary, d.mark),
     }
 }
 
 // The number of the unit that was found, 255 for none.
-pub fn number_of(x: Found) -> u8
-    requires { number_or x 0 < unit_count }
+pub fn number_of(x: Option<usize>) -> u8
+    requires { unwrap_or x 0 < unit_count }
     ensures { result ≡ unit_number x }
 {
     match x {
-        Found::At(u) => u as u8,
-        Found::Nothing => NO_UNIT,
+        Some(u) => u as u8,
+        None => NO_UNIT,
     }
 }

@@ -6,7 +6,6 @@ ghost use Rattle.channel_turns.specs.Desks.{moved_to};
 use crate::desks::desk_of;
 use crate::moves::{ask_move, start_on};
 use crate::{Asked, Move};
-use area::Found;
 use channel::{Channel, Op, Turn, accepts, turn_of, unit_of, with_turn, with_unit};
 
 fn begun_turn(t: Turn) -> Turn
@@ -19,12 +18,12 @@ fn begun_turn(t: Turn) -> Turn
 }
 
 // The request of the unit that was found is worked for.
-fn begun(c: Channel, found: Found) -> Channel
+fn begun(c: Channel, found: Option<usize>) -> Channel
     ensures { result ≡ begun_at c found }
 {
     match found {
-        Found::At(u) => with_turn(c, u, begun_turn(turn_of(c, u))),
-        Found::Nothing => c,
+        Some(u) => with_turn(c, u, begun_turn(turn_of(c, u))),
+        None => c,
     }
 }
 

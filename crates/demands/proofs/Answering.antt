@@ -7,7 +7,7 @@ use mathlib.Core.List.{List}
 use Prim.Native.Nat.{ℕ, ◌+◌, ◌*◌}
 use native.Mathlib.Omega.{arith}
 use borrow.Author.Tests.{eq-eqb}
-use Rattle.area.specs.Lists.{count_of, is_found}
+use Rattle.area.specs.Lists.{count_of}
 use Rattle.area.proofs.Walks.{or_either}
 use Rattle.channel.specs.declared.Op.{Op}
 use Rattle.channel.specs.declared.Turn.{Turn}
@@ -41,6 +41,7 @@ use Rattle.pack.proofs.Counted.{report_matches, answer_matches, priority_matches
 use Rattle.pack.proofs.Turns.{bits_of, fresh_declared, turns_kept, urgent_kept}
 use Rattle.pack.proofs.Booking.{as_held, Shows, shows_start, shows_after}
 use Rattle.demands.specs.Demands.{unanswered, WorkingOrFrozen, AnswersWithin, Answers, AnswersUrgent}
+use Rattle.core.specs.Option.{is_some}
 
 -- ---- the priority requests without an answer, by the history
 
@@ -76,7 +77,7 @@ urgent_counted c b holds long =
 
 works_or : (s : State) (c : ℕ) → is_alive (station_at c s) ≡ true → WorkingOrFrozen s c
 works_or s c e =
-    or_either s.frozen (is_found (working_in (channel_at s c))) e inr
+    or_either s.frozen (is_some (working_in (channel_at s c))) e inr
     (λ f. let k = found_busy (channel_at s c) f in inl (record { unit = k.unit; works = k.works }))
 
 -- ---- in the pack's words

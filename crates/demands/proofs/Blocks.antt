@@ -5,7 +5,6 @@ use mathlib.Core.Bool.{true, false}
 use mathlib.Core.List.{List, []}
 use Prim.Native.Nat.{ℕ, ◌+◌, ◌%◌}
 use lib.ListN.{length}
-use Rattle.call_request.specs.declared.Delivery.TheVariants.{With}
 use Rattle.block.specs.Blocks.{judged_block}
 use Rattle.word.specs.CheckWords.{block_numbers}
 use Rattle.pool.specs.Serving.{serves}
@@ -27,6 +26,7 @@ use Rattle.call_request.proofs.Found.{fits_bounds}
 use Rattle.demands.specs.Records.{Finds}
 use Rattle.demands.proofs.Finding.{judged_finds}
 use Rattle.demands.specs.Demands.{data_in, Writes, Reads}
+use Rattle.core.specs.declared.option.Option.TheVariants.{Some}
 
 module _ (s : State) (area : List ℕ) (ledgers : ℕ → Ledger) (K : Kept s area ledgers) where
   module _ (i : ℕ) (o : (file_at s i).opened ≡ true) where
@@ -51,13 +51,13 @@ module _ (s : State) (area : List ℕ) (ledgers : ℕ → Ledger) (K : Kept s ar
       → is_repeat (told_result (answer_of s area (report channel unit outcome len words)).added) ≡ false
       → (answer_of s area (report channel unit outcome len words)).refusal ≡ 0
       → told_delivery (answer_of s area (report channel unit outcome len words)).added
-      ≡ With (judged_block words (file_at s i).sequence (file_at s i).check ((1 + length (ledgers i).came) % block_numbers)).found
+      ≡ Some (judged_block words (file_at s i).sequence (file_at s i).check ((1 + length (ledgers i).came) % block_numbers)).found
   unfolding answer_of
   ledger_judged i channel unit outcome len words on some ended z =
       let j = file_of s channel unit in
       report_judged s area ledgers K channel unit outcome len words z some ended
-      ∙ ap (λ (n : ℕ). With (judged_block words (file_at s j).sequence (file_at s j).check n).found) (numbers (ledgers j).came)
-      ∙ ap (λ (k : ℕ). With (judged_block words (file_at s k).sequence (file_at s k).check ((1 + length (ledgers k).came) % block_numbers)).found)
+      ∙ ap (λ (n : ℕ). Some (judged_block words (file_at s j).sequence (file_at s j).check n).found) (numbers (ledgers j).came)
+      ∙ ap (λ (k : ℕ). Some (judged_block words (file_at s k).sequence (file_at s k).check ((1 + length (ledgers k).came) % block_numbers)).found)
       (sym ((report_books_own s area channel unit outcome len words K.good.sixteen z).only i on))
 
   -- the same said of the words alone

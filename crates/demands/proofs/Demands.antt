@@ -11,7 +11,6 @@ use Rattle.word.specs.declared.Checked.{Checked}
 use Rattle.block.specs.Blocks.{judged_block}
 use Rattle.call_request.specs.Report.{told_by}
 use Rattle.word.proofs.Laws.CheckWord.{check_word_is, check_word_only}
-use Rattle.call_request.specs.declared.Delivery.TheVariants.{With}
 use Rattle.file.specs.declared.File.{File}
 use Rattle.file_input.specs.declared.Got.{Got}
 use Rattle.file_input.specs.Gets.{got_number, got_found}
@@ -62,6 +61,7 @@ use Rattle.demands.proofs.Orders.{either_order}
 use Rattle.demands.proofs.Answering.{answered, urgent_answered}
 use Rattle.demands.proofs.Records.{gives_one, ledger_got, ledger_skipped}
 use Rattle.demands.proofs.Written.{due_one, ledger_cuts, ledger_sent}
+use Rattle.core.specs.declared.option.Option.TheVariants.{Some}
 
 -- "Any call, with any numbers, words and lengths, gets an answer. A refusal carries one number of document 01's table, is given exactly
 -- when the table says, and changes nothing. No caller need check first.": of every state value, every area and every call
@@ -329,7 +329,7 @@ module _ (s₀ : State) (area₀ : List ℕ) (m w : ℕ) (masks : Masks) (starte
       → is_repeat (told_result (answer_of (state_after start area₀ calls) (area_after start area₀ calls) (report channel unit outcome len words)).added) ≡ false
       → (answer_of (state_after start area₀ calls) (area_after start area₀ calls) (report channel unit outcome len words)).refusal ≡ 0
       → told_delivery (answer_of (state_after start area₀ calls) (area_after start area₀ calls) (report channel unit outcome len words)).added
-      ≡ With (judged_block words (file_then calls i).sequence (file_then calls i).check ((1 + length (account calls i).came) % block_numbers)).found
+      ≡ Some (judged_block words (file_then calls i).sequence (file_then calls i).check ((1 + length (account calls i).came) % block_numbers)).found
   demand2_judged calls = ledger_judged (state_after start area₀ calls) (area_after start area₀ calls) (account calls) (kept calls)
 
   -- and that answer, said of the delivered words alone: the sum, the number, the fields read and the error

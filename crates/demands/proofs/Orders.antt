@@ -11,19 +11,15 @@ use lib.Dec.{leb, ltb, eqb}
 use lib.ListN.{length, get_or, set, take, drop}
 use lib.Seq.{set_comm, ext_get_or, take-take, get_or-take, get_or-drop}
 use borrow.Author.Tests.{eq-eqb, ne_eqb, eqb-true, not-true}
-use Rattle.area.specs.Lists.{first_along, number_or}
+use Rattle.area.specs.Lists.{first_along}
 use Rattle.area.specs.Parts.{part_of, paste, pasted_in}
 use Rattle.area.specs.Refusals.{lowest}
-use Rattle.area.specs.declared.Found.{Found}
-use Rattle.area.specs.declared.Found.TheVariants.{At, Nothing}
 use Rattle.area.proofs.Walks.{true_not_false, and_left, and_right, or_either}
 use Rattle.area.proofs.Firsts.{first_finds}
 use Rattle.area.proofs.Pastes.{paste_fitting, paste_part}
 use Rattle.channel.specs.declared.Channel.{Channel}
 use Rattle.channel.specs.declared.Turn.{Turn}
 use Rattle.channel.specs.declared.Turn.TheVariants.{Idle, Waiting, Displaced, Working}
-use Rattle.channel.specs.declared.Work.{Work}
-use Rattle.channel.specs.declared.Work.TheVariants as work
 use Rattle.channel.specs.Units.{position_at, turn_at, work_of, operation_at}
 use Rattle.channel_turns.specs.Turns.{judge_of}
 use Rattle.word.specs.declared.Checked.{Checked}
@@ -84,6 +80,10 @@ use Rattle.pack.proofs.Refused.{call_alone_lem}
 use Rattle.demands_ledger.proofs.Frames.{others_same}
 use Rattle.demands.specs.Orders.{Requests, asking, reporting, On, asks, reports, AnswersNaming, answers_naming, Says, says, afterwards, EitherOrder}
 use Rattle.demands.proofs.Beside.{asked_other, asks_comm, reported_other, ask_report_comm, reports_comm}
+use Rattle.core.specs.declared.option.Option.{Option}
+use Rattle.core.specs.declared.option.Option.TheVariants.{Some, None}
+use Rattle.core.specs.Option.{unwrap_or}
+use Rattle.channel.specs.declared.Op.{Op}
 
 -- ---- words pasted at two places apart
 
@@ -388,8 +388,8 @@ first_same : (next : ℕ → ℕ) (test other : ℕ → Bool) (n u : ℕ) → ((
 unfolding first_along
 first_same next test other zero u e = refl
 first_same next test other (suc n) u e =
-    ap (λ (b : Bool). cond b (At u) (first_along next test n (next u))) (e u)
-    ∙ ap (λ (f : Found). cond (other u) (At u) f) (first_same next test other n (next u) e)
+    ap (λ (b : Bool). cond b (Some u) (first_along next test n (next u))) (e u)
+    ∙ ap (λ (f : Option ℕ). cond (other u) (Some u) f) (first_same next test other n (next u) e)
 
 -- a report goes by the area only where it shows a block
 shown_alike : (wrong : Bool) (k : ℕ) (f : File) (n : ℕ) (c : Channel) (u outcome len w : ℕ) (frozen : Bool) (xs zs words : List ℕ)
@@ -404,9 +404,9 @@ work_asked (Waiting q) e = true_not_false e refl
 work_asked (Displaced q) e = true_not_false e refl
 work_asked (Working q) e = e
 
-some_asked : (r : Work) → is_write r ≡ true → is_none r ≡ false
-some_asked (work.At op) e = refl
-some_asked work.Nothing e = true_not_false e refl
+some_asked : (r : Option Op) → is_write r ≡ true → is_none r ≡ false
+some_asked (Some op) e = refl
+some_asked None e = true_not_false e refl
 
 module _ (s : State) (area : List ℕ) (g : Good s) (i c : ℕ) (t : State) (zs : List ℕ) (D : Did s area i c t zs) where
   facts : SoundFacts s
@@ -449,17 +449,17 @@ module _ (s : State) (area : List ℕ) (g : Good s) (i c : ℕ) (t : State) (zs 
 
     serving_same : file_of t n u ≡ file_of s n u
     unfolding serving_file
-    serving_same = ap (λ (x : Found). number_or x file_count) (first_same suc (λ k. serves n u (file_at t k)) (λ k. serves n u (file_at s k)) file_count 0 serves_same)
+    serving_same = ap (λ (x : Option ℕ). unwrap_or x file_count) (first_same suc (λ k. serves n u (file_at t k)) (λ k. serves n u (file_at s k)) file_count 0 serves_same)
 
     not_own : file_of s n u ≢ i
     unfolding serving_file
     not_own = go (serving_file s.files n u) refl
       where
-        go : (x : Found) → serving_file s.files n u ≡ x → number_or x file_count ≢ i
-        go (At k) e q =
+        go : (x : Option ℕ) → serving_file s.files n u ≡ x → unwrap_or x file_count ≢ i
+        go (Some k) e q =
             true_not_false (first_finds suc (λ j. serves n u (file_at s j)) file_count 0 k e).passes
             (ap (λ (j : ℕ). serves n u (file_at s j)) q ∙ off (file_at s i) D.bound)
-        go Nothing e q =
+        go None e q =
             true_not_false D.is_open
             (ap (λ (f : File). f.opened) (ap (file_at s) (sym q) ∙ file_beyond s.files file_count (omega (arith, g.sixteen))))
 

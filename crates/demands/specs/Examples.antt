@@ -1,10 +1,6 @@
 -- Document 01's marked examples, P1 to P12, as rows of one table: what is shown, and what the paper says. Law `examples` says that every
 -- row holds. P7 to P12 are played by the pack's own calls. Assumes nothing.
-use Rattle.std.specs.Prelude.{ℕ, zero, suc, ◌+◌, ◌-◌, ◌^◌, true, List, [], ◌∷◌, ◌++◌, map, replicate}
-use Rattle.call_request.specs.declared.Delivery.{Delivery}
-use Rattle.call_request.specs.declared.Delivery.TheVariants.{Without, With}
-use Rattle.area.specs.declared.Found.{Found}
-use Rattle.area.specs.declared.Found.TheVariants.{At, Nothing}
+use Rattle.std.specs.Prelude.{ℕ, zero, suc, ◌+◌, ◌-◌, ◌^◌, true, List, [], ◌∷◌, ◌++◌, map, replicate, Option, Some, None}
 use Rattle.word.specs.Sums.{logical_sum, folded}
 use Rattle.word.specs.CheckWords.{check_word, next_number}
 use Rattle.channel.specs.declared.Turn.{Turn}
@@ -17,6 +13,7 @@ use Rattle.routines.specs.Posts.{no_naming}
 use Rattle.state.specs.declared.State.{State}
 use Rattle.state.specs.Places.{before_start, channel_at}
 use Rattle.pack.specs.Calls.{Call, fresh, opening, ask, report, put, Added, nothing, working, reported, Answer, answer_of}
+use Rattle.word.specs.declared.Checked.{Checked}
 
 -- ---- what a call shows
 
@@ -31,9 +28,9 @@ attempt_of u (Waiting q) = nobody
 attempt_of u (Displaced q) = nobody
 attempt_of u (Working q) = attempt q.attempts u
 
-abbrev pub at_work_in : Channel → Found → AtWork
-at_work_in c (At u) = attempt_of u (turn_at c u)
-at_work_in c Nothing = nobody
+abbrev pub at_work_in : Channel → Option ℕ → AtWork
+at_work_in c (Some u) = attempt_of u (turn_at c u)
+at_work_in c None = nobody
 
 -- its refusal, what its answer adds, and what is at work after it
 pub data Seen : Type 0 where
@@ -73,8 +70,8 @@ abbrev pub reads : ℕ → Call
 reads unit = report 0 unit good no_length (5 ∷ [])
 
 -- what is found of that word as the first block of a file without check words
-abbrev pub five : Delivery
-five = With (record { error = 0; sum = 5; number = 1; sumread = 0; numberread = 0 })
+abbrev pub five : Option Checked
+five = Some (record { error = 0; sum = 5; number = 1; sumread = 0; numberread = 0 })
 
 abbrev pub fails : ℕ → Call
 fails unit = report 0 unit redundancy no_length []
@@ -86,7 +83,7 @@ quiet = seen 0 nothing nobody
 -- the operation of a unit is repeated n times, from attempt a on
 unfoldable pub repeated_from : ℕ → ℕ → ℕ → List Seen
 repeated_from a zero u = []
-repeated_from a (suc n) u = seen 0 (reported 0 Without u) (attempt a u) ∷ repeated_from (a + 1) n u
+repeated_from a (suc n) u = seen 0 (reported 0 None u) (attempt a u) ∷ repeated_from (a + 1) n u
 
 -- ---- the table
 
@@ -124,10 +121,10 @@ table =
     ∷ is (number (next_number 32767)) (number 0)
     -- P7 100 read redundancies repeat, the 101st is permanent
     ∷ is (answers (session (starts 1 ∷ opens 0 0 ∷ asks 0 ∷ replicate 101 (fails 0))))
-    (answers (quiet ∷ quiet ∷ seen 0 (working 0) (attempt 1 0) ∷ (repeated_from 2 100 0 ++ (seen 0 (reported 5 Without 255) nobody ∷ []))))
+    (answers (quiet ∷ quiet ∷ seen 0 (working 0) (attempt 1 0) ∷ (repeated_from 2 100 0 ++ (seen 0 (reported 5 None 255) nobody ∷ []))))
     -- P8 26 write redundancies repeat, the 27th is permanent
     ∷ is (answers (session (starts 1 ∷ opens 0 1 ∷ put 0 (5 ∷ []) ∷ ask 0 1 0 no_naming ∷ replicate 27 (fails 0))))
-    (answers (quiet ∷ quiet ∷ quiet ∷ seen 0 (working 0) (attempt 1 0) ∷ (repeated_from 2 26 0 ++ (seen 0 (reported 5 Without 255) nobody ∷ []))))
+    (answers (quiet ∷ quiet ∷ quiet ∷ seen 0 (working 0) (attempt 1 0) ∷ (repeated_from 2 26 0 ++ (seen 0 (reported 5 None 255) nobody ∷ []))))
     -- P9 ordinary 2, 0, 1 asked in that order on an idle fresh channel: 2, 0, 1 run
     ∷ is (answers (session (starts 3 ∷ opens 0 0 ∷ opens 1 0 ∷ opens 2 0 ∷ asks 2 ∷ asks 0 ∷ asks 1 ∷ reads 2 ∷ reads 0 ∷ reads 1 ∷ [])))
     (answers
@@ -136,7 +133,7 @@ table =
     -- P10 unit 1 running ordinary, unit 0 asks priority: 0 runs after 1's redundancy, then 1 makes attempt 2
     ∷ is (answers (session (starts 2 ∷ opens 0 0 ∷ opens 1 0 ∷ asks 1 ∷ asks_first 0 ∷ fails 1 ∷ reads 0 ∷ [])))
     (answers
-    (quiet ∷ quiet ∷ quiet ∷ seen 0 (working 1) (attempt 1 1) ∷ seen 0 (working 1) (attempt 1 1) ∷ seen 0 (reported 0 Without 0) (attempt 1 0)
+    (quiet ∷ quiet ∷ quiet ∷ seen 0 (working 1) (attempt 1 1) ∷ seen 0 (working 1) (attempt 1 1) ∷ seen 0 (reported 0 None 0) (attempt 1 0)
     ∷ seen 0 (reported 1 five 1) (attempt 2 1) ∷ []))
     -- P11 two free, two asked: opened; one free: 7
     ∷ is (answers (session (starts 2 ∷ opens 0 2 ∷ []))) (answers (quiet ∷ quiet ∷ []))
@@ -144,7 +141,7 @@ table =
     ∷ is (answers (session (starts 3 ∷ opens 0 0 ∷ opens 1 2 ∷ opens 2 0 ∷ []))) (answers (quiet ∷ quiet ∷ quiet ∷ seen 7 nothing nobody ∷ []))
     -- P12 a report repeated after its answer: 11
     ∷ is (answers (session (starts 1 ∷ opens 0 0 ∷ asks 0 ∷ reads 0 ∷ reads 0 ∷ [])))
-    (answers (quiet ∷ quiet ∷ seen 0 (working 0) (attempt 1 0) ∷ seen 0 (reported 1 five 255) nobody ∷ seen 11 (reported 0 Without 0) nobody ∷ []))
+    (answers (quiet ∷ quiet ∷ seen 0 (working 0) (attempt 1 0) ∷ seen 0 (reported 1 five 255) nobody ∷ seen 11 (reported 0 None 0) nobody ∷ []))
     ∷ []
 
 abbrev pub all_shown : List Example → List Shown

@@ -1,8 +1,7 @@
 -- Worked examples of special routines (document 02, M-110), played by the pack's own calls. `nested`: a routine is interrupted by a higher one, the list fills, and a full
 -- list keeps a 4 out. `waited`: one that is not higher waits, its unit refuses an ask with 8, a return enters it and the next one resumes. `held`: a freeze holds a routine
 -- back, a thaw enters it, and programs resume in the reverse order. Assumes nothing.
-use Rattle.std.specs.Prelude.{ℕ, true, false, List, [], ◌∷◌, replicate}
-use Rattle.call_request.specs.declared.Delivery.TheVariants.{Without}
+use Rattle.std.specs.Prelude.{ℕ, true, false, List, [], ◌∷◌, replicate, None}
 use Rattle.channel_outcomes.specs.Rules.{good, no_length}
 use Rattle.routines.specs.declared.Program.{Program}
 use Rattle.routines.specs.Ranks.{rank_of, main_program}
@@ -22,7 +21,7 @@ asks file routine level = so (names file routine level) (told 0 (working file) [
 
 -- and its answer
 abbrev pub answered : ℕ → Step
-answered unit = so (report 0 unit good no_length []) (told 0 (reported 1 Without 255) [])
+answered unit = so (report 0 unit good no_length []) (told 0 (reported 1 None 255) [])
 
 -- the routine of a unit, with its number and priority
 abbrev pub routine : ℕ → ℕ → ℕ → Program

@@ -1,7 +1,6 @@
 -- A longer example, beside P1 to P12: calls in a row in which everything happens that the demands speak of, with what each answers, and the ledgers
 -- that they lead to. So no demand is met by ledgers and histories that have nothing in them. Assumes nothing.
-use Rattle.std.specs.Prelude.{ℕ, List, [], ◌∷◌, ◌++◌, map, replicate}
-use Rattle.call_request.specs.declared.Delivery.TheVariants.{Without, With}
+use Rattle.std.specs.Prelude.{ℕ, List, [], ◌∷◌, ◌++◌, map, replicate, Some, None}
 use Rattle.word.specs.declared.Checked.{Checked}
 use Rattle.channel_outcomes.specs.Rules.{good, redundancy, incomplete_word, file_mark, end_of_medium, no_length}
 use Rattle.file_input.specs.declared.Got.TheVariants.{Record, Leftover, Error, End, Nothing}
@@ -56,9 +55,9 @@ steps1 =
     -- an ordinary write is displaced by a priority read, goes on, and ends well
     ∷ so (ask 1 1 0 no_naming) (told 0 (working 1) [])
     ∷ so (ask 0 0 1 no_naming) (told 0 (working 1) [])
-    ∷ so (report 0 1 redundancy no_length []) (told 0 (reported 0 Without 0) [])
-    ∷ so (report 0 0 good no_length (1 ∷ 2 ∷ 786433 ∷ [])) (told 0 (reported 1 (With (found 0 3 1 3 1)) 1) [])
-    ∷ so (report 0 1 good no_length []) (told 0 (reported 1 Without 255) (5 ∷ 1310721 ∷ []))
+    ∷ so (report 0 1 redundancy no_length []) (told 0 (reported 0 None 0) [])
+    ∷ so (report 0 0 good no_length (1 ∷ 2 ∷ 786433 ∷ [])) (told 0 (reported 1 (Some (found 0 3 1 3 1)) 1) [])
+    ∷ so (report 0 1 good no_length []) (told 0 (reported 1 None 255) (5 ∷ 1310721 ∷ []))
     ∷ []
 
 -- what is read
@@ -68,14 +67,14 @@ steps2 =
     -- a read that a freeze stops, and that ends in the opposite mode with a block in error
     ∷ so (ask 0 0 0 no_naming) (told 0 (working 0) [])
     ∷ so freeze done
-    ∷ so (report 0 0 redundancy no_length []) (told 0 (reported 0 Without 255) [])
+    ∷ so (report 0 0 redundancy no_length []) (told 0 (reported 0 None 255) [])
     ∷ so thaw done
-    ∷ so (report 0 0 redundancy no_length []) (told 0 (reported 0 Without 0) [])
-    ∷ so (report 0 0 redundancy no_length []) (told 0 (reported 0 Without 0) [])
-    ∷ so (report 0 0 good no_length (3 ∷ 0 ∷ [])) (told 0 (reported 2 (With (found 3 3 2 0 0)) 255) [])
+    ∷ so (report 0 0 redundancy no_length []) (told 0 (reported 0 None 0) [])
+    ∷ so (report 0 0 redundancy no_length []) (told 0 (reported 0 None 0) [])
+    ∷ so (report 0 0 good no_length (3 ∷ 0 ∷ [])) (told 0 (reported 2 (Some (found 3 3 2 0 0)) 255) [])
     ∷ so (get 0) (told 0 (got (Error (found 3 3 2 0 0))) [])
     ∷ so (ask 0 0 0 no_naming) (told 0 (working 0) [])
-    ∷ so (report 0 0 good no_length (4 ∷ 5 ∷ 2359299 ∷ [])) (told 0 (reported 1 (With (found 0 9 3 9 3)) 255) [])
+    ∷ so (report 0 0 good no_length (4 ∷ 5 ∷ 2359299 ∷ [])) (told 0 (reported 1 (Some (found 0 9 3 9 3)) 255) [])
     ∷ []
 
 -- what is left, skipped and closed
@@ -86,16 +85,16 @@ steps3 =
     ∷ so (skip 0) done
     ∷ so (get 0) (told 0 (got Nothing) [])
     ∷ so (ask 0 0 0 no_naming) (told 0 (working 0) [])
-    ∷ so (report 0 0 file_mark no_length []) (told 0 (reported 3 Without 255) [])
+    ∷ so (report 0 0 file_mark no_length []) (told 0 (reported 3 None 255) [])
     ∷ so (get 0) (told 0 (got End) [])
     ∷ so (ask 0 0 0 no_naming) (told 10 (working 0) [])
     -- a write that ends permanently; its block is sent again, to the end of the medium; then a mark
     ∷ so (ask 1 1 0 no_naming) (told 0 (working 1) [])
-    ∷ so (report 0 1 incomplete_word no_length []) (told 0 (reported 6 Without 255) [])
+    ∷ so (report 0 1 incomplete_word no_length []) (told 0 (reported 6 None 255) [])
     ∷ so (ask 1 1 0 no_naming) (told 0 (working 1) [])
-    ∷ so (report 0 1 end_of_medium no_length []) (told 0 (reported 4 Without 255) (6 ∷ 7 ∷ 3407874 ∷ []))
+    ∷ so (report 0 1 end_of_medium no_length []) (told 0 (reported 4 None 255) (6 ∷ 7 ∷ 3407874 ∷ []))
     ∷ so (ask 1 2 0 no_naming) (told 0 (working 1) [])
-    ∷ so (report 0 1 good no_length []) (told 0 (reported 1 Without 255) [])
+    ∷ so (report 0 1 good no_length []) (told 0 (reported 1 None 255) [])
     ∷ so (close 1) done
     ∷ so (close 0) done
     ∷ []
@@ -171,8 +170,8 @@ kept_steps =
     so (fresh 4 3 (record { a = 3; b = 0; c = 0; d = 0; e = 0 })) done
     ∷ so (opening 0 0 0 14 2 2) done
     ∷ so (ask 0 0 0 no_naming) (told 0 (working 0) [])
-    ∷ so (report 0 0 incomplete_word no_length (1 ∷ 2 ∷ 786433 ∷ [])) (told 0 (reported 0 Without 0) [])
-    ∷ so (report 0 0 incomplete_word no_length (8 ∷ 0 ∷ [])) (told 0 (reported 6 (With (found 3 8 1 0 0)) 255) [])
+    ∷ so (report 0 0 incomplete_word no_length (1 ∷ 2 ∷ 786433 ∷ [])) (told 0 (reported 0 None 0) [])
+    ∷ so (report 0 0 incomplete_word no_length (8 ∷ 0 ∷ [])) (told 0 (reported 6 (Some (found 3 8 1 0 0)) 255) [])
     ∷ so (get 0) (told 0 (got (Error (found 10 8 1 0 0))) [])
     ∷ so (get 0) (told 0 (got (Error (found 3 8 1 0 0))) [])
     ∷ so (get 0) (told 0 (got (Leftover 0 1)) (8 ∷ []))

@@ -16,7 +16,6 @@ use Rattle.channel.specs.declared.Request.{Request}
 use Rattle.channel.specs.declared.Turn.{Turn}
 use Rattle.channel.specs.declared.Turn.TheVariants.{Idle, Waiting}
 use Rattle.channel.specs.declared.Channel.{Channel}
-use Rattle.channel.specs.declared.Work.TheVariants.{At, Nothing}
 use Rattle.channel.specs.Units.{is_idle, turn_at, with_unit, with_turn}
 use Rattle.channel_turns.specs.Starts.{new_request}
 use Rattle.channel_turns.specs.Turns.{judge_of}
@@ -53,16 +52,17 @@ use Rattle.demands_ledger.proofs.Told.{Chose, Told}
 use Rattle.demands_ledger.proofs.Frames.{Kept}
 use Rattle.demands_ledger.proofs.Starts.{asked_number}
 use Rattle.demands_ledger.proofs.Always.{accepted_kept, noted_kept, started}
+use Rattle.core.specs.declared.option.Option.TheVariants.{Some, None}
 
 -- ---- what is requested of a unit after one event of its channel
 
-no_op : {op : Op} → Nothing ≡ At op → ⊥
+no_op : {op : Op} → None ≡ Some op → ⊥
 no_op e = let z : ◌≡◌ {A = ℕ} 0 1 = cc in omega arith
 
-same_op_lem : {a b : Op} → At a ≡ At b → a ≡ b
+same_op_lem : {a b : Op} → Some a ≡ Some b → a ≡ b
 same_op_lem e = cc
 
-incomplete_op : {c : Channel} {frozen : Bool} (q : Request) (t : Turn) → Incomplete c frozen q t → requested t ≡ At q.op
+incomplete_op : {c : Channel} {frozen : Bool} (q : Request) (t : Turn) → Incomplete c frozen q t → requested t ≡ Some q.op
 incomplete_op q t (onward g) = refl
 incomplete_op q t (aside g) = refl
 
@@ -82,37 +82,37 @@ event_quiet false e a n = refl
 
 module _ (s : Station) (y : ℕ) (op : Op) where
   -- an accepted ask
-  ask_request : (u : ℕ) (o : Op) (p : Bool) (d : Station) → Took s (history.ask u o p) (step_to accepted d) → requested (turn_at d.channel y) ≡ At op
-      → (y ≡ u → op ≡ o) × (y ≢ u → requested (turn_at s.channel y) ≡ At op)
+  ask_request : (u : ℕ) (o : Op) (p : Bool) (d : Station) → Took s (history.ask u o p) (step_to accepted d) → requested (turn_at d.channel y) ≡ Some op
+      → (y ≡ u → op ≡ o) × (y ≢ u → requested (turn_at s.channel y) ≡ Some op)
   ask_request u o p d (asks _ _ _ known idle) h =
       at_set s.channel u (Waiting (new_request o p)) (declared_inside s.channel u known)
-      (λ z k. requested k.turn ≡ At op → (z ≡ u → op ≡ o) × (z ≢ u → requested (turn_at s.channel z) ≡ At op))
+      (λ z k. requested k.turn ≡ Some op → (z ≡ u → op ≡ o) × (z ≢ u → requested (turn_at s.channel z) ≡ Some op))
       (λ e. (λ q. sym (same_op_lem e), λ ne. absurd (ne refl))) (λ z ne e. (λ q. absurd (ne q), λ q. e)) y
       (sym (start_alike (with_turn s.channel u (Waiting (new_request o p))) s.frozen y).0 ∙ h)
 
   -- anything else leaves a request or ends it
-  other_request : (e : Event) (o : Step) → Took s e o → is_ask e ≡ false → requested (turn_at o.after.channel y) ≡ At op
-      → requested (turn_at s.channel y) ≡ At op
+  other_request : (e : Event) (o : Step) → Took s e o → is_ask e ≡ false → requested (turn_at o.after.channel y) ≡ Some op
+      → requested (turn_at s.channel y) ≡ Some op
   other_request e o refuses n h = h
   other_request e o (asks u op' p known idle) n h = true_not_false refl n
   other_request e o (repeats u oc len r q t stood i j k stands) n h =
       at_set s.channel u t (busy_inside s.channel u (ap is_idle i))
-      (λ z v. requested v.turn ≡ At op → requested (turn_at s.channel z) ≡ At op)
-      (λ g. ap requested i ∙ sym (ap At (verdict_again r oc len q j).same_op) ∙ sym (incomplete_op q t k) ∙ g) (λ z ne g. g) y
+      (λ z v. requested v.turn ≡ Some op → requested (turn_at s.channel z) ≡ Some op)
+      (λ g. ap requested i ∙ sym (ap Some (verdict_again r oc len q j).same_op) ∙ sym (incomplete_op q t k) ∙ g) (λ z ne g. g) y
       (sym (start_alike (with_unit s.channel u t stood) s.frozen y).0 ∙ h)
   other_request e o (ends u oc len r how stood i judged stands) n h =
       at_set s.channel u Idle (busy_inside s.channel u (ap is_idle i))
-      (λ z v. requested v.turn ≡ At op → requested (turn_at s.channel z) ≡ At op) (λ g. absurd (no_op g)) (λ z ne g. g) y
+      (λ z v. requested v.turn ≡ Some op → requested (turn_at s.channel z) ≡ Some op) (λ g. absurd (no_op g)) (λ z ne g. g) y
       (sym (start_alike _ s.frozen y).0 ∙ h)
   other_request e o freezes n h = h
   other_request e o thaws n h = sym (start_alike s.channel false y).0 ∙ h
 
-  agreed : (d : Station) (x : Option Shown) → Agrees s x d → no_ask x ≡ true → requested (turn_at d.channel y) ≡ At op
-      → requested (turn_at s.channel y) ≡ At op
+  agreed : (d : Station) (x : Option Shown) → Agrees s x d → no_ask x ≡ true → requested (turn_at d.channel y) ≡ Some op
+      → requested (turn_at s.channel y) ≡ Some op
   agreed d none e n h = sym (ap (λ (z : Station). requested (turn_at z.channel y)) e) ∙ h
   agreed d (some x) e n h = go (is_ask x.event) refl n
     where
-      go : (t : Bool) → is_ask x.event ≡ t → cond t false true ≡ true → requested (turn_at s.channel y) ≡ At op
+      go : (t : Bool) → is_ask x.event ≡ t → cond t false true ≡ true → requested (turn_at s.channel y) ≡ Some op
       go true q k = true_not_false k refl
       go false q k = other_request x.event (step_to x.answer d) (subst (Took s x.event) e (took s x.event)) q h
 
@@ -120,7 +120,7 @@ module _ (s : Station) (y : ℕ) (op : Op) where
 
 abbrev pub Asked : State → (ℕ → Ledger) → Type 0
 Asked s ledgers =
-    (i : ℕ) → (file_at s i).opened ≡ true → (op : Op) → request_of s.channels (file_at s i) ≡ At op → op ≡ op_of (ledgers i).asked
+    (i : ℕ) → (file_at s i).opened ≡ true → (op : Op) → request_of s.channels (file_at s i) ≡ Some op → op ≡ op_of (ledgers i).asked
 
 -- a ledger of the same open file
 record Like (h g : Ledger) : Type 0 where
@@ -152,15 +152,15 @@ module _ (s : State) (area : List ℕ) (ledgers : ℕ → Ledger) (K : Kept s ar
     was_unit : (file_at t i).unit ≡ (file_at s i).unit
     was_unit = sym (T.chose o).on_unit ∙ ap (λ (c : Choice). c.unit) L.chosen ∙ ((K.told i).chose was_open).on_unit
 
-    request_there : (op : Op) → request_of t.channels (file_at t i) ≡ At op
-        → requested (turn_at (channel_at t (file_at s i).channel) (file_at s i).unit) ≡ At op
+    request_there : (op : Op) → request_of t.channels (file_at t i) ≡ Some op
+        → requested (turn_at (channel_at t (file_at s i).channel) (file_at s i).unit) ≡ Some op
     request_there op r =
         sym (ap (λ (c : ℕ). requested (turn_at (channel_at t c) (file_at t i).unit)) was_channel
         ∙ ap (λ (u : ℕ). requested (turn_at (channel_at t (file_at s i).channel) u)) was_unit) ∙ r
 
     -- a call that is no ask to its channel
     stays : (x : Option Shown) → Agrees (station_at (file_at s i).channel s) x (station_at (file_at s i).channel t) → no_ask x ≡ true
-        → h.asked ≡ (ledgers i).asked → (op : Op) → request_of t.channels (file_at t i) ≡ At op → op ≡ op_of h.asked
+        → h.asked ≡ (ledgers i).asked → (op : Op) → request_of t.channels (file_at t i) ≡ Some op → op ≡ op_of h.asked
     stays x e n k op r =
         A i was_open op
         (agreed (station_at (file_at s i).channel s) (file_at s i).unit op (station_at (file_at s i).channel t) x e n (request_there op r))
@@ -178,7 +178,7 @@ module _ (s : State) (area : List ℕ) (ledgers : ℕ → Ledger) (K : Kept s ar
       ((sound_facts s K.good.right).apart i j ne)))
 
   -- nothing is requested of a unit on which no file is open
-  unit_quiet : (channel unit : ℕ) → is_bound s.files channel unit ≡ false → (op : Op) → requested (turn_at (channel_at s channel) unit) ≡ At op → ⊥
+  unit_quiet : (channel unit : ℕ) → is_bound s.files channel unit ≡ false → (op : Op) → requested (turn_at (channel_at s channel) unit) ≡ Some op → ⊥
   unit_quiet channel unit free op r =
       let p = (sound_facts s K.good.right).served channel unit (ap is_none r) in
       let l = place_inside s.files closed_file (serves channel unit) refl p.place p.bound in
@@ -201,8 +201,8 @@ module _ (s : State) (area : List ℕ) (ledgers : ℕ → Ledger) (K : Kept s ar
     like : (i : ℕ) → Like (cond (eqb file i) (with_ask op (ledgers i)) (ledgers i)) (ledgers i)
     like i = like_cond (eqb file i) (with_ask op (ledgers i)) (ledgers i) (record { chosen = refl; opened = λ o. o })
 
-    on_channel_lem : (y : ℕ) (o : Op) → requested (turn_at (channel_at t f.channel) y) ≡ At o
-        → (y ≡ f.unit → o ≡ op_of op) × (y ≢ f.unit → requested (turn_at (channel_at s f.channel) y) ≡ At o)
+    on_channel_lem : (y : ℕ) (o : Op) → requested (turn_at (channel_at t f.channel) y) ≡ Some o
+        → (y ≡ f.unit → o ≡ op_of op) × (y ≢ f.unit → requested (turn_at (channel_at s f.channel) y) ≡ Some o)
     unfolding answer_of
     on_channel_lem y o r =
         let st = station (channel_at s f.channel) s.frozen in
@@ -210,11 +210,11 @@ module _ (s : State) (area : List ℕ) (ledgers : ℕ → Ledger) (K : Kept s ar
         ask_request st y o f.unit (op_of op) (is_priority priority) (station (channel_at t f.channel) t.frozen)
         (subst (Took st e) (ask_event_lem s file op priority naming z) (took st e)) r
 
-    ask_here : (file_at t file).opened ≡ true → (o : Op) → request_of t.channels (file_at t file) ≡ At o → o ≡ op_of op
+    ask_here : (file_at t file).opened ≡ true → (o : Op) → request_of t.channels (file_at t file) ≡ Some o → o ≡ op_of op
     ask_here h o r =
         (on_channel_lem f.unit o (request_there t (answer_of s area (ask file op priority naming)).area file _ (E.told file) (like file) h o r)).0 refl
 
-    ask_there : (i : ℕ) → i ≢ file → (file_at t i).opened ≡ true → (o : Op) → request_of t.channels (file_at t i) ≡ At o → o ≡ op_of (ledgers i).asked
+    ask_there : (i : ℕ) → i ≢ file → (file_at t i).opened ≡ true → (o : Op) → request_of t.channels (file_at t i) ≡ Some o → o ≡ op_of (ledgers i).asked
     unfolding answer_of
     ask_there i ne h o r =
         let zs = (answer_of s area (ask file op priority naming)).area in
@@ -222,8 +222,8 @@ module _ (s : State) (area : List ℕ) (ledgers : ℕ → Ledger) (K : Kept s ar
         let q = request_there t zs i _ (E.told i) (like i) h o r in
         A i p o (go p q (ℕ_discrete (file_at s i).channel f.channel))
       where
-        go : (file_at s i).opened ≡ true → requested (turn_at (channel_at t (file_at s i).channel) (file_at s i).unit) ≡ At o
-            → Dec ((file_at s i).channel ≡ f.channel) → request_of s.channels (file_at s i) ≡ At o
+        go : (file_at s i).opened ≡ true → requested (turn_at (channel_at t (file_at s i).channel) (file_at s i).unit) ≡ Some o
+            → Dec ((file_at s i).channel ≡ f.channel) → request_of s.channels (file_at s i) ≡ Some o
         go p q (yes c) =
             ap (λ (n : ℕ). requested (turn_at (channel_at s n) (file_at s i).unit)) c
             ∙ (on_channel_lem (file_at s i).unit o (sym (ap (λ (n : ℕ). requested (turn_at (channel_at t n) (file_at s i).unit)) c) ∙ q)).1
@@ -237,7 +237,7 @@ module _ (s : State) (area : List ℕ) (ledgers : ℕ → Ledger) (K : Kept s ar
       where
         by : Dec (file ≡ i) → o ≡ op_of (cond (eqb file i) (with_ask op (ledgers i)) (ledgers i)).asked
         by (yes e) =
-            subst (λ (j : ℕ). (file_at t j).opened ≡ true → request_of t.channels (file_at t j) ≡ At o → o ≡ op_of op) e (λ p q. ask_here p o q) h r
+            subst (λ (j : ℕ). (file_at t j).opened ≡ true → request_of t.channels (file_at t j) ≡ Some o → o ≡ op_of op) e (λ p q. ask_here p o q) h r
             ∙ ap (λ (g : Ledger). op_of g.asked) (sym (cond_true (with_ask op (ledgers i)) (ledgers i) (eq-eqb file i e)))
         by (no ne) =
             ask_there i (λ e. ne (sym e)) h o r
@@ -252,7 +252,7 @@ module _ (s : State) (area : List ℕ) (ledgers : ℕ → Ledger) (K : Kept s ar
     abbrev opened_state : State
     opened_state = (answer_of s area (opening file channel unit flags size rlen)).state
 
-    open_quiet : (g : File) → Chose g (choice_of channel unit flags size rlen) → (op : Op) → request_of opened_state.channels g ≡ At op → ⊥
+    open_quiet : (g : File) → Chose g (choice_of channel unit flags size rlen) → (op : Op) → request_of opened_state.channels g ≡ Some op → ⊥
     unfolding answer_of
     open_quiet g C op r =
         unit_quiet channel unit (open_accepted s file channel unit flags size rlen z).unbound op

@@ -17,8 +17,6 @@ use Rattle.channel.specs.declared.Request.{Request}
 use Rattle.channel.specs.declared.Turn.{Turn}
 use Rattle.channel.specs.declared.Turn.TheVariants.{Idle, Waiting, Displaced, Working}
 use Rattle.channel.specs.declared.Channel.{Channel}
-use Rattle.channel.specs.declared.Work.{Work}
-use Rattle.channel.specs.declared.Work.TheVariants as work
 use Rattle.channel_outcomes.specs.declared.Verdict.{Verdict}
 use Rattle.channel_outcomes.specs.declared.Verdict.TheVariants.{Refused, Repeats, Ends}
 use Rattle.channel_outcomes.specs.declared.Ending.{Ending}
@@ -39,14 +37,16 @@ use Rattle.call_request.specs.Report.{is_idle_for, takes_no_words, effect_at}
 use Rattle.demands_ledger.specs.Ledgers.{failed_by}
 use Rattle.pack_request.proofs.Ready.{ready_facts}
 use Rattle.pack_request.proofs.ReportTheorems.{Booked, again, ended}
+use Rattle.core.specs.declared.option.Option.{Option}
+use Rattle.core.specs.declared.option.Option.TheVariants.{Some, None}
 
 -- ---- the words of a report that answers its request are a delivered block
 
-good_read : (a : ℕ) → is_delivery (effect_of true (work.At Read) (Ends (ending_of Read a 0))) ≡ true
+good_read : (a : ℕ) → is_delivery (effect_of true (Some Read) (Ends (ending_of Read a 0))) ≡ true
 unfolding ending_of
 good_read a = go (eqb a 4)
   where
-    go : (t : Bool) → is_delivery (effect_of true (work.At Read) (Ends (cond t Opposite Good))) ≡ true
+    go : (t : Bool) → is_delivery (effect_of true (Some Read) (Ends (cond t Opposite Good))) ≡ true
     go true = refl
     go false = refl
 
@@ -61,9 +61,9 @@ repeats_again p q = go (cleaner_due p q)
 
 -- what a read's report comes to: delivered, or repeated, or refused
 abbrev Brings : Position → Verdict → Type 0
-Brings p v = (is_delivery (effect_of true (work.At Read) v) ≡ false) → is_repeat (result_number p v) ≡ true
+Brings p v = (is_delivery (effect_of true (Some Read) v) ≡ false) → is_repeat (result_number p v) ≡ true
 
-fails : (p : Position) (e : Ending) (b : Bool) → is_delivery (effect_of true (work.At Read) (Ends e)) ≡ true → (n : Request)
+fails : (p : Position) (e : Ending) (b : Bool) → is_delivery (effect_of true (Some Read) (Ends e)) ≡ true → (n : Request)
     → Brings p (cond b (Ends e) (Repeats n))
 fails p e true d n h = true_not_false d h
 fails p e false d n h = repeats_again p n
@@ -98,8 +98,8 @@ turn_brings p (Waiting q) o len n i l d = true_not_false refl i
 turn_brings p (Displaced q) o len n i l d = true_not_false refl i
 turn_brings p (Working q) o len n i l d = go q.op refl n
   where
-    go : (op : Op) → q.op ≡ op → takes_no_words (work.At op) ≡ false → is_repeat (result_number p (verdict_of q o len)) ≡ true
-    go Read e t = read_brings p q o len e l (sym (ap (λ (op : Op). is_delivery (effect_of true (work.At op) (verdict_of q o len))) e) ∙ d)
+    go : (op : Op) → q.op ≡ op → takes_no_words (Some op) ≡ false → is_repeat (result_number p (verdict_of q o len)) ≡ true
+    go Read e t = read_brings p q o len e l (sym (ap (λ (op : Op). is_delivery (effect_of true (Some op) (verdict_of q o len))) e) ∙ d)
     go Write e t = true_not_false refl t
     go Mark e t = true_not_false refl t
 
@@ -135,25 +135,25 @@ pub record Tells (p : Position) (v : Verdict) (failed : ℕ) : Type 0 where
   pub answers : not (is_repeat (result_number p v)) ≡ true
   pub error : failed_by (result_number p v) ≡ failed
 
-told_by_lem : (p : Position) (some : Bool) (x : Work) (v : Verdict) → is_delivery (effect_of some x v) ≡ true → Tells p v (failed_of (effect_of some x v))
+told_by_lem : (p : Position) (some : Bool) (x : Option Op) (v : Verdict) → is_delivery (effect_of some x v) ≡ true → Tells p v (failed_of (effect_of some x v))
 told_by_lem p some x (Refused n) d = true_not_false d refl
 told_by_lem p some x (Repeats q) d = true_not_false d refl
-told_by_lem p some (work.At Read) (Ends Good) d = record { answers = refl; error = refl }
-told_by_lem p some (work.At Read) (Ends Opposite) d = record { answers = refl; error = refl }
-told_by_lem p some (work.At Read) (Ends MarkRead) d = true_not_false d refl
-told_by_lem p some (work.At Read) (Ends MediumEnd) d = true_not_false d refl
-told_by_lem p true (work.At Read) (Ends LostRedundancy) d = record { answers = refl; error = refl }
-told_by_lem p false (work.At Read) (Ends LostRedundancy) d = true_not_false d refl
-told_by_lem p true (work.At Read) (Ends LostIncomplete) d = record { answers = refl; error = refl }
-told_by_lem p false (work.At Read) (Ends LostIncomplete) d = true_not_false d refl
-told_by_lem p some (work.At Write) (Ends Good) d = true_not_false d refl
-told_by_lem p some (work.At Write) (Ends Opposite) d = true_not_false d refl
-told_by_lem p some (work.At Write) (Ends MarkRead) d = true_not_false d refl
-told_by_lem p some (work.At Write) (Ends MediumEnd) d = true_not_false d refl
-told_by_lem p some (work.At Write) (Ends LostRedundancy) d = true_not_false d refl
-told_by_lem p some (work.At Write) (Ends LostIncomplete) d = true_not_false d refl
-told_by_lem p some (work.At Mark) (Ends e) d = true_not_false d refl
-told_by_lem p some work.Nothing (Ends e) d = true_not_false d refl
+told_by_lem p some (Some Read) (Ends Good) d = record { answers = refl; error = refl }
+told_by_lem p some (Some Read) (Ends Opposite) d = record { answers = refl; error = refl }
+told_by_lem p some (Some Read) (Ends MarkRead) d = true_not_false d refl
+told_by_lem p some (Some Read) (Ends MediumEnd) d = true_not_false d refl
+told_by_lem p true (Some Read) (Ends LostRedundancy) d = record { answers = refl; error = refl }
+told_by_lem p false (Some Read) (Ends LostRedundancy) d = true_not_false d refl
+told_by_lem p true (Some Read) (Ends LostIncomplete) d = record { answers = refl; error = refl }
+told_by_lem p false (Some Read) (Ends LostIncomplete) d = true_not_false d refl
+told_by_lem p some (Some Write) (Ends Good) d = true_not_false d refl
+told_by_lem p some (Some Write) (Ends Opposite) d = true_not_false d refl
+told_by_lem p some (Some Write) (Ends MarkRead) d = true_not_false d refl
+told_by_lem p some (Some Write) (Ends MediumEnd) d = true_not_false d refl
+told_by_lem p some (Some Write) (Ends LostRedundancy) d = true_not_false d refl
+told_by_lem p some (Some Write) (Ends LostIncomplete) d = true_not_false d refl
+told_by_lem p some (Some Mark) (Ends e) d = true_not_false d refl
+told_by_lem p some None (Ends e) d = true_not_false d refl
 
 pub delivery_told : (c : Channel) (u outcome len n failed : ℕ) → effect_at c u outcome len n ≡ Delivers failed
     → Tells (position_at c u) (judge_of c u outcome len) failed
@@ -256,7 +256,7 @@ write_ready (Waiting q) f e r = true_not_false e refl
 write_ready (Displaced q) f e r = true_not_false e refl
 write_ready (Working q) f e r = go q.op e r
   where
-    go : (op : Op) → is_write_op op ≡ true → file_ready (work.At op) f ≡ true → (f.output ≡ true) × (has_full f ≡ true)
+    go : (op : Op) → is_write_op op ≡ true → file_ready (Some op) f ≡ true → (f.output ≡ true) × (has_full f ≡ true)
     go Read e r = true_not_false e refl
-    go Write e r = let R = ready_facts (work.At Write) f r in (R.way, R.block)
+    go Write e r = let R = ready_facts (Some Write) f r in (R.way, R.block)
     go Mark e r = true_not_false e refl

@@ -13,7 +13,6 @@ use Rattle.channel.specs.declared.Op.{Op}
 use Rattle.channel.specs.declared.Op.TheVariants.{Read, Write, Mark}
 use Rattle.channel.specs.declared.Turn.{Turn}
 use Rattle.channel.specs.declared.Channel.{Channel}
-use Rattle.channel.specs.declared.Work.TheVariants as work
 use Rattle.channel.specs.Units.{position_at, turn_at, work_of, operation_at}
 use Rattle.channel_turns.specs.Turns.{judge_of}
 use Rattle.file.specs.declared.Side.{Side}
@@ -41,6 +40,7 @@ use Rattle.demands_ledger.specs.Blocks.{block_in, blocks_in}
 use Rattle.demands_ledger.proofs.Frames.{Kept}
 use Rattle.demands_ledger.proofs.Reported.{ready, sending, after_area, change, on_same}
 use Rattle.demands_ledger.proofs.Asks.{Asked}
+use Rattle.core.specs.declared.option.Option.TheVariants.{Some}
 
 -- ---- the block that a write sends is the first in line
 
@@ -113,7 +113,7 @@ module _ (s : State) (area : List ℕ) (ledgers : ℕ → Ledger) (K : Kept s ar
       (report_books_own s area channel unit outcome len words K.good.sixteen z).only j
       (sym (on_same s area ledgers K channel unit outcome len words z j) ∙ e)
 
-  on_request : (op : Op) → requested (turn_at c unit) ≡ work.At op → op ≡ op_of (ledgers i).asked
+  on_request : (op : Op) → requested (turn_at c unit) ≡ Some op → op ≡ op_of (ledgers i).asked
   on_request op r =
       let on_channel_lem = eqb-true f.channel channel (and_left (eqb f.channel channel) _ (and_right f.opened _ bound)) in
       let on_unit_lem = eqb-true f.unit unit (and_right (eqb f.channel channel) _ (and_right f.opened _ bound)) in

@@ -18,7 +18,6 @@ use Rattle.channel_outcomes.specs.Rules.{result_number, outcome_count}
 use Rattle.channel_turns.specs.Scans.{working_in, unit_number}
 use Rattle.channel.specs.Units.{position_at, turn_at, operation_at, unit_count}
 use Rattle.channel_turns.specs.Turns.{judge_of, book_of}
-use Rattle.call_request.specs.declared.Delivery.TheVariants.{Without, With}
 use Rattle.word.specs.Checks.{unchecked}
 use Rattle.word.specs.declared.Checked.{Checked}
 use Rattle.file.specs.declared.Side.{Side}
@@ -58,6 +57,7 @@ use Rattle.demands_ledger.proofs.Told.{Told}
 use Rattle.demands_ledger.proofs.Frames.{marking, Kept, others_same, kept_file}
 use Rattle.demands_ledger.proofs.Booked.{plus, plus_none, told_back, told_mark, told_sent, told_came}
 use Rattle.demands_ledger.proofs.Deliveries.{words_kept, delivery_told, meets, mark_met, write_ready}
+use Rattle.core.specs.declared.option.Option.TheVariants.{Some, None}
 
 module _ (s : State) (area : List ℕ) (ledgers : ℕ → Ledger) (K : Kept s area ledgers) (channel unit outcome len : ℕ) (words : List ℕ)
     (z : (report_by s area channel unit outcome len words).refusal ≡ 0) where
@@ -176,7 +176,7 @@ module _ (s : State) (area : List ℕ) (ledgers : ℕ → Ledger) (K : Kept s ar
   told_delivery_lem : told_by (delivery_of effect (delivery_check effect f words)) ≡ delivery_check effect f words
   told_delivery_lem = go (is_delivery effect)
     where
-      go : (b : Bool) → told_by (cond b (With (cond b (judged_block words f.sequence f.check f.block).found unchecked)) Without)
+      go : (b : Bool) → told_by (cond b (Some (cond b (judged_block words f.sequence f.check f.block).found unchecked)) None)
           ≡ cond b (judged_block words f.sequence f.check f.block).found unchecked
       go true = refl
       go false = refl
@@ -275,12 +275,12 @@ module _ (s : State) (area : List ℕ) (ledgers : ℕ → Ledger) (K : Kept s ar
 
   -- what a report that answers its request tells of the block is the judgement of the words as delivered, with the number that the block is due
   pub report_judged : words ≢ [] → is_repeat (report_by s area channel unit outcome len words).result ≡ false
-      → (report_by s area channel unit outcome len words).delivery ≡ With (judged_block words f.sequence f.check (number_after 1 L.came)).found
+      → (report_by s area channel unit outcome len words).delivery ≡ Some (judged_block words f.sequence f.check (number_after 1 L.came)).found
   unfolding report_by
   report_judged some ended =
       let d = report_brings some ended in
       let D = report_delivers s area channel unit outcome len words K.good.sixteen number d in
-      ap (λ (x : ReportChange). x.delivery) change ∙ cond_true (With (delivery_check effect f words)) Without d
-      ∙ ap With (cond_true (judged_block words f.sequence f.check f.block).found unchecked d)
-      ∙ ap (λ (n : ℕ). With (judged_block words f.sequence f.check n).found)
+      ap (λ (x : ReportChange). x.delivery) change ∙ cond_true (Some (delivery_check effect f words)) None d
+      ∙ ap Some (cond_true (judged_block words f.sequence f.check f.block).found unchecked d)
+      ∙ ap (λ (n : ℕ). Some (judged_block words f.sequence f.check n).found)
       ((K.told i).brought open_file (taken_input s.m s.w f S D.side)).number

@@ -1,11 +1,9 @@
 -- The ledger of a file, noted from calls and their answers alone, and histories in which the pack alone writes the lent area. Assumes nothing.
-use Rattle.std.specs.Prelude.{ℕ, zero, suc, ◌-◌, Bool, true, false, cond, ◌&&◌, ◌||◌, List, [], ◌∷◌, ◌++◌, map, eqb, length, take, drop}
+use Rattle.std.specs.Prelude.{ℕ, zero, suc, ◌-◌, Bool, true, false, cond, ◌&&◌, ◌||◌, List, [], ◌∷◌, ◌++◌, map, eqb, length, take, drop, Option, None}
 use Rattle.word.specs.declared.Checked.{Checked}
 use Rattle.word.specs.CheckWords.{extra}
 use Rattle.word.specs.Checks.{with_error}
 use Rattle.file.specs.Arrivals.{redundancy_error, incomplete_error}
-use Rattle.call_request.specs.declared.Delivery.{Delivery}
-use Rattle.call_request.specs.declared.Delivery.TheVariants.{Without}
 use Rattle.call_request.specs.Report.{told_by}
 use Rattle.file_input.specs.declared.Got.{Got}
 use Rattle.file_input.specs.declared.Got.TheVariants.{Record, Leftover, Error, End, Nothing}
@@ -117,13 +115,13 @@ owed_for sequence check failed found [] = []
 owed_for sequence check failed found (x ∷ xs) = contents_of sequence check failed found (x ∷ xs) ∷ []
 
 -- what a report's answer tells of the block that it delivers: "after the error number, worked-out sum and number first, then those read"
-abbrev pub told_delivery : Added → Delivery
-told_delivery nothing = Without
-told_delivery (working u) = Without
+abbrev pub told_delivery : Added → Option Checked
+told_delivery nothing = None
+told_delivery (working u) = None
 told_delivery (reported result delivery u) = delivery
-told_delivery (got g) = Without
-told_delivery (returned back p) = Without
-told_delivery (runs p) = Without
+told_delivery (got g) = None
+told_delivery (returned back p) = None
+told_delivery (runs p) = None
 
 -- "results are .. 03 mark"
 abbrev pub is_mark : Added → Bool

@@ -6,7 +6,6 @@ use mathlib.Core.Bool.{true, false}
 use mathlib.Core.Option.{Option, none, some}
 use mathlib.Core.List.{List, [], ◌∷◌, ◌++◌}
 use lib.ListN.{length}
-use Rattle.call_request.specs.declared.Delivery.TheVariants.{With}
 use Rattle.word.specs.CheckWords.{block_numbers}
 use Rattle.block.specs.Blocks.{judged_block}
 use Rattle.pool.specs.Serving.{serves}
@@ -39,6 +38,7 @@ use Rattle.session.specs.Session.{Course, with_text, play_lines}
 use Rattle.session.proofs.Counting.{lines_append}
 use Rattle.demands_session.specs.Played.{call_in, calls_in, line_of, line_for, state_for, area_for, zeros, state_in, area_in, lent_from}
 use Rattle.demands_session.proofs.Played.{course_cons, history_is, lent_state}
+use Rattle.core.specs.declared.option.Option.TheVariants.{Some}
 
 -- ---- a line within a session, after the lines ks
 
@@ -321,12 +321,12 @@ module _ (ks : List (List ℕ)) (l : List ℕ) (m w : ℕ) (masks : Masks) (is_f
       → words ≢ [] → is_repeat (told_result (answer_of (state_then later) (area_then later) (report channel unit outcome len words)).added) ≡ false
       → (answer_of (state_then later) (area_then later) (report channel unit outcome len words)).refusal ≡ 0
       → told_delivery (answer_of (state_then later) (area_then later) (report channel unit outcome len words)).added
-      ≡ With (judged_block words (file_at (state_then later) i).sequence (file_at (state_then later) i).check ((1 + length (account_then later i).came) % block_numbers)).found
+      ≡ Some (judged_block words (file_at (state_then later) i).sequence (file_at (state_then later) i).check ((1 + length (account_then later i).came) % block_numbers)).found
   session2_judged later i channel unit outcome len words =
       so (λ s xs. serves channel unit (file_at s i) ≡ true → words ≢ [] → is_repeat (told_result (answer_of s xs (report channel unit outcome len words)).added) ≡ false
       → (answer_of s xs (report channel unit outcome len words)).refusal ≡ 0
       → told_delivery (answer_of s xs (report channel unit outcome len words)).added
-      ≡ With (judged_block words (file_at s i).sequence (file_at s i).check ((1 + length (account_then later i).came) % block_numbers)).found) later
+      ≡ Some (judged_block words (file_at s i).sequence (file_at s i).check ((1 + length (account_then later i).came) % block_numbers)).found) later
       (demand2_judged (state_in ks) (area_in ks) m w masks started (calls_in later) i channel unit outcome len words)
 
   pub session2_found : (later : List (List ℕ)) (i channel unit outcome len : ℕ) (words : List ℕ) → serves channel unit (file_at (state_then later) i) ≡ true

@@ -22,8 +22,6 @@ use Rattle.state.specs.declared.State.{State}
 use Rattle.session_reply.specs.Replies.{Reply, answer_or, report_answer, masks_of, given_words, reply_to, answer_to, text_of}
 use Rattle.area.specs.Parts.{part_of}
 use Rattle.pack_start.specs.Fresh.{fresh_by}
-use Rattle.call_request.specs.declared.Delivery.{Delivery}
-use Rattle.call_request.specs.declared.Delivery.TheVariants.{Without, With}
 use Rattle.pack_request.specs.declared.Reporting.{Reporting}
 use Rattle.pack_request.specs.Calls.{ask_by, report_by, report_by_area}
 use Rattle.pack.specs.Calls.{Call, fresh, opening, close, ask, report, get, put, seal, skip, freeze, thaw, return, running, Answer, answer_of}
@@ -33,6 +31,9 @@ use Rattle.sheet.specs.declared.Event.{Event}
 use Rattle.sheet.specs.Events.{is_pair, is_accepted, is_repeated, no_event, ask_event, report_event, start_event, event_of}
 use Rattle.sheet.specs.Sheet.{events_of}
 use Rattle.demands_sheet.specs.Listed.{call_event, event_for, events_by}
+use Rattle.core.specs.declared.option.Option.{Option as OptionOf}
+use Rattle.core.specs.declared.option.Option.TheVariants.{Some, None}
+use Rattle.word.specs.declared.Checked.{Checked}
 
 -- ---- the digits of a byte are 0 and d exactly if it is d
 
@@ -95,11 +96,11 @@ reported_is n result a ws bs begins =
     ∙ ap₂ (λ (x y : Bool). x && not y) (first_zero 0 _) (result_is result bs))
     (λ q t. ap (λ (x : Bool). x && not (is_repeated (concat_map byte_digits (n ∷ []) ++ (10 ∷ [])))) (first_zero n [] ∙ t)) refl
 
-report_begins : (result : ℕ) (d : Delivery) (working : ℕ) (ws : List ℕ)
+report_begins : (result : ℕ) (d : OptionOf Checked) (working : ℕ) (ws : List ℕ)
     → answer_bytes (report_answer result d working) ws ≡ 0 ∷ result ∷ drop 2 (answer_bytes (report_answer result d working) ws)
 unfolding answer_bytes
-report_begins result Without working ws = refl
-report_begins result (With found) working ws = refl
+report_begins result None working ws = refl
+report_begins result (Some found) working ws = refl
 
 -- ---- a line
 

@@ -18,8 +18,6 @@ use Rattle.channel.specs.declared.Turn.{Turn}
 use Rattle.channel.specs.declared.Turn.TheVariants.{Working}
 use Rattle.channel.specs.declared.Unit as Unit
 use Rattle.channel.specs.declared.Channel.{Channel}
-use Rattle.channel.specs.declared.Work.{Work}
-use Rattle.channel.specs.declared.Work.TheVariants.{At, Nothing}
 use Rattle.channel.specs.Units.{unit_count, channel_count, idle_unit, unit_at, declared_at, turn_at, fresh_of, fresh_with, bits_from}
 use Rattle.file.specs.declared.Slot.{Slot}
 use Rattle.file.specs.declared.File.{File}
@@ -41,6 +39,8 @@ use Rattle.state_image.specs.Images.{state_head, channels_codec}
 use Rattle.state_image.proofs.Joined.{first_there, byte_there}
 use Rattle.image_sound.specs.Judging.{channels_in, unit_place, ready_by, fits_unit, KindsThere}
 use Rattle.image_sound.proofs.FileLaws.{kind_taken, kind_full}
+use Rattle.core.specs.declared.option.Option.{Option}
+use Rattle.core.specs.declared.option.Option.TheVariants.{Some, None}
 
 -- ---- a unit at its place
 
@@ -79,7 +79,7 @@ module _ (bs : List ℕ) where
 
 -- ---- ready for a request
 
-requested_of : (k : ℕ) (q : Request) → requested (turn_of k q) ≡ cond (eqb k 0) Nothing (At q.op)
+requested_of : (k : ℕ) (q : Request) → requested (turn_of k q) ≡ cond (eqb k 0) None (Some q.op)
 requested_of zero q = refl
 requested_of (suc zero) q = refl
 requested_of (suc (suc zero)) q = refl
@@ -90,8 +90,8 @@ requested_of (suc (suc (suc k))) q =
     ap requested turn ∙ sym (cond_false _ _ (ne_eqb n 0 (λ e. omega (arith, e))))
 
 -- of a unit whose bytes say that it has a request, or none, and of the operation
-abbrev work_by : Bool → Bool → Bool → Work
-work_by none z o = cond none Nothing (At (cond z Read (cond o Write Mark)))
+abbrev work_by : Bool → Bool → Bool → Option Op
+work_by none z o = cond none None (Some (cond z Read (cond o Write Mark)))
 
 fits_by : (none z o output : Bool) → fits_output (work_by none z o) output ≡ (none || ((z && not output) || (not z && output)))
 fits_by true z o output = refl
@@ -139,7 +139,7 @@ full_law f = side_law (is_full f.low.slot) (is_full f.high.slot) f.turned
 
 -- a file beside a unit of that standing and that operation
 module _ (f : File) (kind op low high : ℕ) (is_low : low ≡ slot_kind f.low.slot) (is-high : high ≡ slot_kind f.high.slot) where
-  ready_law : file_ready (cond (eqb kind 0) Nothing (At (op_of op))) f ≡ ready_by kind op f.output low high
+  ready_law : file_ready (cond (eqb kind 0) None (Some (op_of op))) f ≡ ready_by kind op f.output low high
   unfolding file_ready
   ready_law =
       let none = eqb kind 0 in
@@ -188,10 +188,10 @@ module _ (bs : List ℕ) (at channel unit : ℕ) (is-channel : channel ≡ get_o
     there : unit_at (channel_of (channels_in bs) f) f.unit ≡ unit_from (drop to bs)
     there = unit_of_lem ∙ unit_there bs channel unit inside within
 
-    asked : request_of (channels_in bs) f ≡ cond (eqb (get_or bs (to + 1) 0) 0) Nothing (At (op_of (get_or bs (to + 2) 0)))
+    asked : request_of (channels_in bs) f ≡ cond (eqb (get_or bs (to + 1) 0) 0) None (Some (op_of (get_or bs (to + 2) 0)))
     asked =
         ap (λ (x : Unit.Unit). requested x.turn) there ∙ requested_of (get_or (drop to bs) 1 0) (request_from (drop to bs))
-        ∙ ap₂ (λ (k o : ℕ). cond (eqb k 0) Nothing (At (op_of o))) (sym (byte_there bs to 1)) (sym (byte_there bs to 2))
+        ∙ ap₂ (λ (k o : ℕ). cond (eqb k 0) None (Some (op_of o))) (sym (byte_there bs to 1)) (sym (byte_there bs to 2))
 
     fits_there : (ready : Bool)
         → ready ≡ ready_by (get_or bs (to + 1) 0) (get_or bs (to + 2) 0) (eqb (get_or bs (at + 3) 0) 1) (get_or bs (at + 16) 0) (get_or bs (at + 36) 0)
@@ -201,7 +201,7 @@ module _ (bs : List ℕ) (at channel unit : ℕ) (is-channel : channel ≡ get_o
         let declared : eqb (get_or bs to 0) 1 ≡ declared_at (channel_of (channels_in bs) f) f.unit =
         ap (λ (n : ℕ). eqb n 1) (first_there bs to) ∙ sym (ap (λ (x : Unit.Unit). x.declared) there) in
         let by : ready_by (get_or bs (to + 1) 0) (get_or bs (to + 2) 0) f.output (get_or bs (at + 16) 0) (get_or bs (at + 36) 0) ≡ file_ready (request_of (channels_in bs) f) f =
-        sym (ap (λ (x : Work). file_ready x f) asked ∙ ready_law f (get_or bs (to + 1) 0) (get_or bs (to + 2) 0) (get_or bs (at + 16) 0) (get_or bs (at + 36) 0) (byte_there bs at 16 ∙ kinds.0) (byte_there bs at 36 ∙ kinds.1)) in
+        sym (ap (λ (x : Option Op). file_ready x f) asked ∙ ready_law f (get_or bs (to + 1) 0) (get_or bs (to + 2) 0) (get_or bs (at + 16) 0) (get_or bs (at + 36) 0) (byte_there bs at 16 ∙ kinds.0) (byte_there bs at 36 ∙ kinds.1)) in
         ap₂ ◌&&◌ declared
         (e ∙ ap (λ (n : ℕ). ready_by (get_or bs (to + 1) 0) (get_or bs (to + 2) 0) (eqb n 1) (get_or bs (at + 16) 0) (get_or bs (at + 36) 0)) (byte_there bs at 3) ∙ by)
 

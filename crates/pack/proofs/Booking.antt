@@ -14,7 +14,6 @@ use Rattle.area.proofs.Walks.{true_not_false, and_right, or_either}
 use Rattle.channel.specs.declared.Op.{Op}
 use Rattle.channel.specs.declared.Op.TheVariants.{Read, Write, Mark}
 use Rattle.channel.specs.declared.Position.{Position}
-use Rattle.channel.specs.declared.Work.TheVariants.{At}
 use Rattle.channel.specs.declared.Request.{Request}
 use Rattle.channel.specs.declared.Turn.{Turn}
 use Rattle.channel.specs.declared.Turn.TheVariants.{Working}
@@ -60,6 +59,8 @@ use Rattle.pack.proofs.Kept.{call_kept}
 use Rattle.pack.proofs.Seen.{station_at, event_if, call_agrees}
 use Rattle.pack.proofs.Counted.{repeats_told, result_is}
 use Rattle.pack.proofs.Turns.{bits_of, fresh_station}
+use Rattle.core.specs.declared.option.Option.{Option as OptionOf}
+use Rattle.core.specs.declared.option.Option.TheVariants.{Some}
 
 -- a request as the channel holds it: the attempt that is at work, or due, is one above the failures
 abbrev pub as_request : Pending → Request
@@ -82,7 +83,7 @@ held_by_lem r none e = absurd (let z : ◌≡◌ {A = ℕ} 0 1 = cc in omega ari
 held_by_lem r (some p) e = holding p (let same : r ≡ as_request p = cc in same)
 
 -- the last answer of a kind: to priority requests, or to ordinary ones
-abbrev pub last_as : Bool → Book → Option ℕ
+abbrev pub last_as : Bool → Book → OptionOf ℕ
 last_as true b = b.last_urgent
 last_as false b = b.last
 
@@ -91,7 +92,7 @@ pending_as true = is_urgent
 pending_as false = is_ordinary
 
 -- a scan's mark is the unit above that of the last answer of its kind, and 0 if there was none
-abbrev pub MarkIs : Option ℕ → ℕ → Type 0
+abbrev pub MarkIs : OptionOf ℕ → ℕ → Type 0
 MarkIs none m = m ≡ 0
 MarkIs (some u) m = (m ≡ next_unit unit_count u) × (u < unit_count)
 
@@ -161,7 +162,7 @@ module _ (outcome len : ℕ) where
       go true = ap (λ (b : Bool). with_noise (x.noise || b)) (lt-ltb 0 (p.noise + 1) (omega arith))
       go false = ap with_noise (still_quiet p.noise x.noise h)
 
-moved_as : (op : Op) (e : Ending) (x : Reel) → position_after (At op) e (as_position x) ≡ as_position (reel_moved op (ending_number e) x)
+moved_as : (op : Op) (e : Ending) (x : Reel) → position_after (Some op) e (as_position x) ≡ as_position (reel_moved op (ending_number e) x)
 unfolding record_passed mark_passed
 moved_as Read Good x = refl
 moved_as Read Opposite x = refl
@@ -333,12 +334,12 @@ module _ (k d : Station) (b : Book) (S : Shows k b) (u : ℕ) where
         -- the reel
         moved_on_lem : position_after (operation_at k.channel u) e (position_at k.channel u) ≡ as_position (reel_answered (b.requests u) result (b.reels u))
         moved_on_lem =
-            ap (λ (t : Turn). position_after (work_of t) e (position_at k.channel u)) turn ∙ ap (position_after (At r.op) e) (S.stands u)
+            ap (λ (t : Turn). position_after (work_of t) e (position_at k.channel u)) turn ∙ ap (position_after (Some r.op) e) (S.stands u)
             ∙ go (b.requests u) for
           where
-            go : (h : Option Pending) → Held r h → position_after (At r.op) e (as_position (b.reels u)) ≡ as_position (reel_answered h result (b.reels u))
+            go : (h : Option Pending) → Held r h → position_after (Some r.op) e (as_position (b.reels u)) ≡ as_position (reel_answered h result (b.reels u))
             go h (holding p i) =
-                ap (λ (x : Request). position_after (At x.op) e (as_position (b.reels u))) i ∙ moved_as p.op e (b.reels u)
+                ap (λ (x : Request). position_after (Some x.op) e (as_position (b.reels u))) i ∙ moved_as p.op e (b.reels u)
                 ∙ ap (λ (n : ℕ). as_position (reel_moved p.op n (b.reels u))) (sym told)
 
         -- the request that has ended is of the book's kind

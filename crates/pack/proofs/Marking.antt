@@ -19,7 +19,6 @@ use Rattle.channel.specs.declared.Request.{Request}
 use Rattle.channel.specs.declared.Turn.{Turn}
 use Rattle.channel.specs.declared.Turn.TheVariants.{Working}
 use Rattle.channel.specs.declared.Channel.{Channel}
-use Rattle.channel.specs.declared.Work.TheVariants.{At}
 use Rattle.channel.specs.Units.{turn_at, position_at, work_of, operation_at}
 use Rattle.channel_outcomes.specs.declared.Ending.{Ending}
 use Rattle.channel_outcomes.specs.declared.Ending.TheVariants.{Good, Opposite, MarkRead, MediumEnd, LostRedundancy, LostIncomplete}
@@ -81,6 +80,7 @@ use Rattle.pack.proofs.Refused.{call_alone_lem}
 use Rattle.pack.proofs.Kept as kept
 use Rattle.pack.proofs.Kept.{call_kept}
 use Rattle.pack.proofs.Counted.{result_is}
+use Rattle.core.specs.declared.option.Option.TheVariants.{Some}
 
 -- ---- what is known of a file
 
@@ -210,7 +210,7 @@ marks (Repeats q) = false
 marks (Ends e) = is_mark e
 
 abbrev Meets : Bool → Position → Op → Verdict → Type 0
-Meets given p op v = meets_mark (effect_of given (At op) v) ≡ eqb (result_number p v) 3
+Meets given p op v = meets_mark (effect_of given (Some op) v) ≡ eqb (result_number p v) 3
 
 repeats_no_mark : (p : Position) (q : Request) → false ≡ eqb (repeated_number p q) 3
 unfolding repeated_number

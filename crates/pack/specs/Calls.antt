@@ -1,10 +1,8 @@
 -- The thirteen calls as values, and the answer that each gets: what the public definition of that call makes of a state and of the area
 -- that is lent to it. Assumes nothing.
-use Rattle.std.specs.Prelude.{ℕ, Bool, false, List, [], length}
+use Rattle.std.specs.Prelude.{ℕ, Bool, false, List, [], length, Option, None}
 use Rattle.area.specs.Parts.{part_of}
 use Rattle.file_input.specs.declared.Got.{Got}
-use Rattle.call_request.specs.declared.Delivery.{Delivery}
-use Rattle.call_request.specs.declared.Delivery.TheVariants.{Without}
 use Rattle.routines.specs.declared.Naming.{Naming}
 use Rattle.routines.specs.declared.Program.{Program}
 use Rattle.routines.specs.Ranks.{main_program}
@@ -26,6 +24,7 @@ use Rattle.pack_record.specs.Gets.{get_by, get_words}
 use Rattle.pack_record.specs.Skips.{skip_by}
 use Rattle.pack_record.specs.Puts.{put_by, put_by_area}
 use Rattle.pack_record.specs.Seals.{seal_by, seal_by_area}
+use Rattle.word.specs.declared.Checked.{Checked}
 
 -- which of the thirteen, its numbers and its words, in the order of document 01's frames; document 02's return and what runs (M-110) come last
 pub data Call : Type 0 where
@@ -54,7 +53,7 @@ pub data Added : Type 0 where
   nothing : Added
   working : ℕ → Added
   -- the result, what the report delivered, the working unit
-  reported : ℕ → Delivery → ℕ → Added
+  reported : ℕ → Option Checked → ℕ → Added
   got : Got → Added
   returned : Bool → Program → Added
   runs : Program → Added
@@ -122,7 +121,7 @@ adds_nothing (fresh m w masks) = nothing
 adds_nothing (opening file channel unit flags size rlen) = nothing
 adds_nothing (close file) = nothing
 adds_nothing (ask file op priority naming) = working 0
-adds_nothing (report channel unit outcome len words) = reported 0 Without 0
+adds_nothing (report channel unit outcome len words) = reported 0 None 0
 adds_nothing (get file) = got no_answer
 adds_nothing (put file words) = nothing
 adds_nothing (seal file) = nothing

@@ -9,7 +9,6 @@ mod answers;
 
 pub use answers::{answer, shown_words};
 pub use call_record::got_words;
-pub use call_request::Delivery;
 pub use channel_outcomes::NO_LENGTH;
 pub use file::File;
 pub use file_input::{Got, got_count, got_found, got_number, got_start};
@@ -21,6 +20,7 @@ pub use pack_start::{Masks, freeze, fresh, thaw};
 pub use routines::{Naming, Program, no_naming};
 pub use state::{Called, State, before_start};
 pub use state_sound::is_sound;
+use word::Checked;
 
 // Any of the thirteen calls, by its numbers, in the order of document 01's frames, return and what runs last; `size` is B and `rlen` is r. A call that names a file alone holds
 // that file's number. The words of a report and of a put are lent beside it.
@@ -70,7 +70,7 @@ pub enum Adds {
     Working(u8),
     Reported {
         result: u8,
-        delivery: Delivery,
+        delivery: Option<Checked>,
         working: u8,
     },
     Found(Got),

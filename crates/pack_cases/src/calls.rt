@@ -1,6 +1,6 @@
 // The thirteen calls: their numbers as a command has them, their answers printed. Each gives the state after it.
 use crate::print::{answer, checked, end_line, flag, number, program, words};
-use pack::{Adds, AnyAnswer, AnyCall, Delivery, Got, Masks, Naming, State};
+use pack::{Adds, AnyAnswer, AnyCall, Got, Masks, Naming, State};
 use std::io::Stdout;
 use word::{Checked, not_checked};
 
@@ -132,14 +132,14 @@ fn call_of(kind: u64, head: &[u64]) -> AnyCall {
 // ---- its answer
 
 // What a report tells of the block that it delivers; all zero for none.
-fn told(d: Delivery) -> Checked {
+fn told(d: Option<Checked>) -> Checked {
     match d {
-        Delivery::Without => not_checked(),
-        Delivery::With(found) => found,
+        None => not_checked(),
+        Some(found) => found,
     }
 }
 
-fn reported(to: Stdout, res: u8, delivery: Delivery, working: u8) {
+fn reported(to: Stdout, res: u8, delivery: Option<Checked>, working: u8) {
     number(to, res as u64);
     checked(to, told(delivery));
     number(to, working as u64);

@@ -6,8 +6,6 @@ use Prim.Native.Nat.{ℕ, ◌+◌}
 use lib.Dec.{eqb}
 use Rattle.area.proofs.Walks.{and_left, and_right, and_both}
 use Rattle.channel.specs.declared.Op.TheVariants.{Read, Write, Mark}
-use Rattle.channel.specs.declared.Work.{Work}
-use Rattle.channel.specs.declared.Work.TheVariants.{At, Nothing}
 use Rattle.file.specs.declared.Slot.{Slot}
 use Rattle.file.specs.declared.Slot.TheVariants.{Empty}
 use Rattle.file.specs.declared.Side.{Side}
@@ -23,6 +21,9 @@ use Rattle.state_sound.specs.Files.{taken_count}
 use Rattle.area.specs.Lists.{one_if}
 use Rattle.state_sound.specs.Requests.{is_read, is_write, fits_output}
 use Rattle.state_sound.specs.Judged.{file_ready}
+use Rattle.core.specs.declared.option.Option.{Option}
+use Rattle.core.specs.declared.option.Option.TheVariants.{Some, None}
+use Rattle.channel.specs.declared.Op.{Op}
 
 -- ---- which buffers are taken
 
@@ -62,14 +63,14 @@ get_taken w f = found_taken (looked_at f) ∙ passed_taken (passed f) ∙ passed
 
 -- ---- ready
 
-no_write : (x : Work) → fits_output x false ≡ true → is_write x ≡ false
-no_write (At Read) e = refl
-no_write (At Write) e = sym e
-no_write (At Mark) e = refl
-no_write Nothing e = refl
+no_write : (x : Option Op) → fits_output x false ≡ true → is_write x ≡ false
+no_write (Some Read) e = refl
+no_write (Some Write) e = sym e
+no_write (Some Mark) e = refl
+no_write None e = refl
 
 -- an input file that has as many buffers taken as before
-pub input_ready : (x : Work) (f g : File) → f.output ≡ false → g.output ≡ f.output → taken_count g ≡ taken_count f → file_ready x f ≡ true → file_ready x g ≡ true
+pub input_ready : (x : Option Op) (f g : File) → f.output ≡ false → g.output ≡ f.output → taken_count g ≡ taken_count f → file_ready x f ≡ true → file_ready x g ≡ true
 unfolding file_ready
 input_ready x f g i same taken h =
     let way : fits_output x f.output ≡ true = and_left (fits_output x f.output) _ h in

@@ -8,7 +8,6 @@ use lib.Dec.{eqb, ltb}
 use lib.ListN.{length}
 use Rattle.area.proofs.Walks.{true_not_false, and_left, and_right, and_both}
 use Rattle.area.proofs.Marks.{cond_true, unless, unless_so}
-use Rattle.channel.specs.declared.Work.{Work}
 use Rattle.file.specs.Arrivals.{no_arrival}
 use Rattle.file.specs.declared.Slot.TheVariants.{Part}
 use Rattle.file.specs.declared.Side.{Side}
@@ -28,6 +27,8 @@ use Rattle.state_sound.proofs.FileFacts.{Sound}
 use Rattle.state_sound.proofs.Puts.{PutAt, put_at, put_is}
 use Rattle.state_sound.specs.Requests.{is_read, is_write, fits_output}
 use Rattle.state_sound.specs.Judged.{file_ready}
+use Rattle.core.specs.declared.option.Option.{Option}
+use Rattle.channel.specs.declared.Op.{Op}
 
 -- ---- a full block
 
@@ -95,7 +96,7 @@ none_taken m w f S o =
     let none : one_if (not f.output) ≡ 0 = ap (λ (t : Bool). one_if (not t)) o in
     omega (arith, S.taken)
 
-pub output_ready : (m w : ℕ) (x : Work) (f g : File) → Sound m w f → Sound m w g → f.output ≡ true → g.output ≡ f.output → (has_full f ≡ true → has_full g ≡ true)
+pub output_ready : (m w : ℕ) (x : Option Op) (f g : File) → Sound m w f → Sound m w g → f.output ≡ true → g.output ≡ f.output → (has_full f ≡ true → has_full g ≡ true)
     → file_ready x f ≡ true → file_ready x g ≡ true
 unfolding file_ready
 output_ready m w x f g S T o same full h =

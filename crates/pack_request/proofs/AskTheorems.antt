@@ -14,7 +14,6 @@ use Rattle.channel.specs.declared.Turn.{Turn}
 use Rattle.channel.specs.declared.Turn.TheVariants.{Idle, Waiting, Displaced, Working}
 use Rattle.channel.specs.declared.Channel.{Channel}
 use Rattle.channel_turns.specs.declared.Asked.{Asked}
-use Rattle.channel.specs.declared.Work.TheVariants.{At}
 use Rattle.channel.specs.Units.{declared_at, turn_at, is_idle, has_request, accepts_at}
 use Rattle.channel_turns.specs.Scans.{working_in, unit_number}
 use Rattle.channel_theorems.specs.History.{station, ask, accepted, step_to, ask_step, step}
@@ -44,6 +43,7 @@ use Rattle.pack_request.specs.Calls.{ask_wrong, ask_waits, asked_all, ask_by}
 use Rattle.call_request.proofs.AskFound.{ask_refused, ask_taken}
 use Rattle.pack_request.proofs.Ready.{not_false, ready_facts, kind, asked_file_lem}
 use Rattle.pack_request.proofs.Changed.{Frame, changed_refused, changed_taken, changed_frame, here_file, here_channel, became_sound}
+use Rattle.core.specs.declared.option.Option.TheVariants.{Some}
 
 -- ---- what an accepted ask found
 
@@ -176,10 +176,10 @@ module _ (s : State) (file op priority : ℕ) (naming : Naming) where
     unfolding asked_channel
     after_facts =
         let moved = ask_moved_lem s.m c f.unit s.frozen (facts.channels f.channel) (op_of op) (is_priority priority) accepts in
-        became_sound s file f.channel f.unit _ _ (At (op_of op)) (asked_all s file naming) facts found.is_open refl refl moved
+        became_sound s file f.channel f.unit _ _ (Some (op_of op)) (asked_all s file naming) facts found.is_open refl refl moved
         (asked_file_lem s.m s.w f op (facts.files file found.is_open) none_taken
         (kind f op (or_left (ltb 2 op) _ found.range) found.way found.buffer found.unmarked found.sent))
-        (asked_beside s f.channel f.unit _ (At (op_of op)) facts (line_of s facts file found.is_open) moved (due_of naming) refl found.free
+        (asked_beside s f.channel f.unit _ (Some (op_of op)) facts (line_of s facts file found.is_open) moved (due_of naming) refl found.free
         (named_right_lem naming.given naming.level naming.routine))
 
     asked_channel_lem : channel_at asked.state f.channel ≡ asked_channel f c op priority s.frozen

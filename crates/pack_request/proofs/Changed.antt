@@ -9,7 +9,6 @@ use lib.ListN.{length, set, length-set}
 use lib.Seq.{get_or-set_same, get_or-set_other}
 use borrow.Author.Tests.{ne_eqb}
 use Rattle.channel.specs.declared.Channel.{Channel}
-use Rattle.channel.specs.declared.Work.{Work}
 use Rattle.file.specs.declared.File.{File}
 use Rattle.file.specs.Sizes.{closed_file}
 use Rattle.routines.specs.declared.Routines.{Routines}
@@ -26,6 +25,8 @@ use Rattle.state_sound.proofs.ChannelCalls.{Moved}
 use Rattle.state_sound.proofs.Kept.{SameHoldings, both_kept}
 use Rattle.pack_request.specs.Changes.{changed_state}
 use Rattle.pack_request.proofs.Ready.{Became}
+use Rattle.core.specs.declared.option.Option.{Option}
+use Rattle.channel.specs.declared.Op.{Op}
 
 -- what stays of a state, apart from its file i and its channel j
 pub record Frame (s t : State) (i j : ℕ) : Type 0 where
@@ -84,7 +85,7 @@ Beside cs frozen q = RoutinesFacts (declared_in cs) (request_in cs) frozen q
 
 -- the file that was on unit u of channel c became g, w is requested of that unit afterwards, and the routines q are right beside the channels then: a sound state is
 -- sound still
-pub became_sound : (s : State) (i c u : ℕ) (x : Channel) (g : File) (w : Work) (q : Routines) → SoundFacts s → (file_at s i).opened ≡ true → (file_at s i).channel ≡ c
+pub became_sound : (s : State) (i c u : ℕ) (x : Channel) (g : File) (w : Option Op) (q : Routines) → SoundFacts s → (file_at s i).opened ≡ true → (file_at s i).channel ≡ c
     → (file_at s i).unit ≡ u → Moved s.m s.frozen (channel_at s c) x u w → Became s.m s.w w (file_at s i) g → Beside (set s.channels c x) s.frozen q
     → SoundFacts (with_routines (with_file (with_channel s c x) i g) q)
 became_sound s i c u x g w q F o ec eu =
@@ -100,4 +101,4 @@ became_sound s i c u x g w q F o ec eu =
         → Beside (set s.channels (file_at s i).channel x) s.frozen q
         → SoundFacts (with_routines (with_file (with_channel s (file_at s i).channel x) i g) q)
     here M B R =
-        both_kept s i x g F o (same B.alike) B.sound (ap (λ (v : Work). file_ready v g) M.here ∙ B.ready) M.facts (M.known ∙ F.declared i o) M.others q R
+        both_kept s i x g F o (same B.alike) B.sound (ap (λ (v : Option Op). file_ready v g) M.here ∙ B.ready) M.facts (M.known ∙ F.declared i o) M.others q R

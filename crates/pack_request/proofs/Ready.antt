@@ -9,8 +9,6 @@ use borrow.Author.Tests.{eqb-true, eq-eqb, ltb-false}
 use Rattle.area.proofs.Walks.{true_not_false, and_left, and_right, and_both, or_left}
 use Rattle.channel.specs.declared.Op.{Op}
 use Rattle.channel.specs.declared.Op.TheVariants.{Read, Write, Mark}
-use Rattle.channel.specs.declared.Work.{Work}
-use Rattle.channel.specs.declared.Work.TheVariants.{At, Nothing}
 use Rattle.channel_outcomes.specs.declared.Ending.{Ending}
 use Rattle.channel_outcomes.specs.declared.Ending.TheVariants.{Good, Opposite, MarkRead, MediumEnd, LostRedundancy, LostIncomplete}
 use Rattle.word.specs.declared.Checked.{Checked}
@@ -44,6 +42,8 @@ use Rattle.call_request.specs.Ask.{is_reading, is_writing, is_marking, op_of, as
 use Rattle.call_request.specs.Effects.{is_delivery, op_effect}
 use Rattle.call_request.specs.Report.{reported_file}
 use Rattle.call_request.proofs.Found.{fits_bounds}
+use Rattle.core.specs.declared.option.Option.{Option}
+use Rattle.core.specs.declared.option.Option.TheVariants.{Some, None}
 
 -- ---- how many buffers are taken
 
@@ -96,12 +96,12 @@ emptied_count f Neither n = n
 
 -- ---- what a file that is ready for a request has
 
-pub record Ready (x : Work) (f : File) : Type 0 where
+pub record Ready (x : Option Op) (f : File) : Type 0 where
   pub way : fits_output x f.output ≡ true
   pub taken : taken_count f ≡ one_if (is_read x)
   pub block : (not (is_write x) || has_full f) ≡ true
 
-pub ready_facts : (x : Work) (f : File) → file_ready x f ≡ true → Ready x f
+pub ready_facts : (x : Option Op) (f : File) → file_ready x f ≡ true → Ready x f
 unfolding file_ready
 ready_facts x f h =
     let rest = and_right (fits_output x f.output) _ h in
@@ -111,18 +111,18 @@ ready_facts x f h =
       block = and_right (eqb (taken_count f) (one_if (is_read x))) _ rest;
     }
 
-pub facts_ready : (x : Work) (f : File) → Ready x f → file_ready x f ≡ true
+pub facts_ready : (x : Option Op) (f : File) → Ready x f → file_ready x f ≡ true
 unfolding file_ready
 facts_ready x f R =
     and_both (fits_output x f.output) _ R.way (and_both (eqb (taken_count f) (one_if (is_read x))) _ (eq-eqb (taken_count f) (one_if (is_read x)) R.taken) R.block)
 
 -- a file that has no request has no buffer taken, and that is all it needs
-pub ready_none : (f : File) → taken_count f ≡ 0 → file_ready Nothing f ≡ true
-ready_none f n = facts_ready Nothing f (record { way = refl; taken = n; block = refl })
+pub ready_none : (f : File) → taken_count f ≡ 0 → file_ready None f ≡ true
+ready_none f n = facts_ready None f (record { way = refl; taken = n; block = refl })
 
 -- ---- g is what became of the sound file f: sound, ready for x, on the same unit and buffers
 
-pub record Became (m w : ℕ) (x : Work) (f g : File) : Type 0 where
+pub record Became (m w : ℕ) (x : Option Op) (f g : File) : Type 0 where
   pub sound : Sound m w g
   pub ready : file_ready x g ≡ true
   pub alike : Alike f g
@@ -147,21 +147,21 @@ kind f (suc zero) l way buffer unmarked sent = writes (not_false f.output way) (
 kind f (suc (suc zero)) l way buffer unmarked sent = marks (not_false f.output way) sent
 kind f (suc (suc (suc n))) l way buffer unmarked sent = absurd (omega (arith, ltb-false 2 (suc (suc (suc n))) l))
 
-pub asked_file_lem : (m w : ℕ) (f : File) (op : ℕ) → Sound m w f → taken_count f ≡ 0 → Kind f op → Became m w (At (op_of op)) f (asked_file op f)
+pub asked_file_lem : (m w : ℕ) (f : File) (op : ℕ) → Sound m w f → taken_count f ≡ 0 → Kind f op → Became m w (Some (op_of op)) f (asked_file op f)
 unfolding asked_file op_of
 asked_file_lem m w f op S n (reads i e u) = record {
   sound = took_sound m w f S i n e;
-  ready = facts_ready (At Read) (took_buffer f) (record { way = ap not ((event_alike f read).output ∙ i); taken = took_count f n e; block = refl });
+  ready = facts_ready (Some Read) (took_buffer f) (record { way = ap not ((event_alike f read).output ∙ i); taken = took_count f n e; block = refl });
   alike = event_alike f read;
 }
 asked_file_lem m w f op S n (writes o b) = record {
   sound = S;
-  ready = facts_ready (At Write) f (record { way = o; taken = n; block = b });
+  ready = facts_ready (Some Write) f (record { way = o; taken = n; block = b });
   alike = alike_self f;
 }
 asked_file_lem m w f op S n (marks o b) = record {
   sound = S;
-  ready = facts_ready (At Mark) f (record { way = o; taken = n; block = refl });
+  ready = facts_ready (Some Mark) f (record { way = o; taken = n; block = refl });
   alike = alike_self f;
 }
 
@@ -169,15 +169,15 @@ asked_file_lem m w f op S n (marks o b) = record {
 
 module _ (m w : ℕ) (f : File) (n : ℕ) (found : Checked) (S : Sound m w f) (right : is_checked f.sequence f.check found ≡ true)
     (exact : is_exact f.sequence f.check found ≡ true) where
-  untouched : taken_count f ≡ 0 → Became m w Nothing f f
+  untouched : taken_count f ≡ 0 → Became m w None f f
   untouched k = record { sound = S; ready = ready_none f k; alike = alike_self f }
 
-  sent : taken_count f ≡ 0 → Became m w Nothing f (without_oldest f)
+  sent : taken_count f ≡ 0 → Became m w None f (without_oldest f)
   unfolding without_oldest
   sent k = record { sound = dropped_sound m w f S; ready = ready_none (without_oldest f) (emptied_count f (oldest f) k); alike = event_alike f send }
 
   brought : (a : Arrival) → is_arrival f.sequence f.check a ≡ true → taken_count f ≡ 1 → block_fits f n ≡ true
-      → Became m w Nothing f (delivered f (n - extra f.sequence f.check) a)
+      → Became m w None f (delivered f (n - extra f.sequence f.check) a)
   brought a fits k h =
       let b = fits_bounds f n h in
       let d = n - extra f.sequence f.check in
@@ -189,36 +189,36 @@ module _ (m w : ℕ) (f : File) (n : ℕ) (found : Checked) (S : Sound m w f) (r
         alike = event_alike f (deliver d a);
       }
 
-  back : taken_count f ≡ 1 → Became m w Nothing f (gave_back f)
+  back : taken_count f ≡ 1 → Became m w None f (gave_back f)
   back k = record { sound = back_sound m w f S; ready = ready_none (gave_back f) (back_count f k); alike = event_alike f giveBack }
 
-  met : taken_count f ≡ 1 → Became m w Nothing f (met_mark f)
+  met : taken_count f ≡ 1 → Became m w None f (met_mark f)
   met k = record { sound = met_sound m w f S (taken_input m w f S (some_taken f k)); ready = ready_none (met_mark f) (met_count f k); alike = event_alike f mark }
 
   -- a block that was read well, and one that is kept after a permanent error
-  good : taken_count f ≡ 1 → block_fits f n ≡ true → Became m w Nothing f (delivered f (n - extra f.sequence f.check) (arrival 0 found))
+  good : taken_count f ≡ 1 → block_fits f n ≡ true → Became m w None f (delivered f (n - extra f.sequence f.check) (arrival 0 found))
   good = brought (arrival 0 found) (well_fits f.sequence f.check found right)
 
   kept : (x : ℕ) → (eqb x redundancy_error || eqb x incomplete_error) ≡ true → taken_count f ≡ 1 → block_fits f n ≡ true
-      → Became m w Nothing f (delivered f (n - extra f.sequence f.check) (arrival x found))
+      → Became m w None f (delivered f (n - extra f.sequence f.check) (arrival x found))
   kept x k = brought (arrival x found) (kept_fits f.sequence f.check x found k right exact)
 
   -- whatever operation the file was ready for, and however it ends, with words or without
-  pub ended_file : (some : Bool) (op : Op) (e : Ending) → file_ready (At op) f ≡ true → (is_delivery (op_effect some op e) ≡ true → block_fits f n ≡ true)
-      → Became m w Nothing f (reported_file (op_effect some op e) f n found)
+  pub ended_file : (some : Bool) (op : Op) (e : Ending) → file_ready (Some op) f ≡ true → (is_delivery (op_effect some op e) ≡ true → block_fits f n ≡ true)
+      → Became m w None f (reported_file (op_effect some op e) f n found)
   unfolding reported_file after_write
-  ended_file some Read Good h k = good (ready_facts (At Read) f h).taken (k refl)
-  ended_file some Read Opposite h k = good (ready_facts (At Read) f h).taken (k refl)
-  ended_file some Read MarkRead h k = met (ready_facts (At Read) f h).taken
-  ended_file some Read MediumEnd h k = back (ready_facts (At Read) f h).taken
-  ended_file true Read LostRedundancy h k = kept redundancy_error refl (ready_facts (At Read) f h).taken (k refl)
-  ended_file false Read LostRedundancy h k = back (ready_facts (At Read) f h).taken
-  ended_file true Read LostIncomplete h k = kept incomplete_error refl (ready_facts (At Read) f h).taken (k refl)
-  ended_file false Read LostIncomplete h k = back (ready_facts (At Read) f h).taken
-  ended_file some Write Good h k = sent (ready_facts (At Write) f h).taken
-  ended_file some Write Opposite h k = untouched (ready_facts (At Write) f h).taken
-  ended_file some Write MarkRead h k = untouched (ready_facts (At Write) f h).taken
-  ended_file some Write MediumEnd h k = sent (ready_facts (At Write) f h).taken
-  ended_file some Write LostRedundancy h k = untouched (ready_facts (At Write) f h).taken
-  ended_file some Write LostIncomplete h k = untouched (ready_facts (At Write) f h).taken
-  ended_file some Mark e h k = untouched (ready_facts (At Mark) f h).taken
+  ended_file some Read Good h k = good (ready_facts (Some Read) f h).taken (k refl)
+  ended_file some Read Opposite h k = good (ready_facts (Some Read) f h).taken (k refl)
+  ended_file some Read MarkRead h k = met (ready_facts (Some Read) f h).taken
+  ended_file some Read MediumEnd h k = back (ready_facts (Some Read) f h).taken
+  ended_file true Read LostRedundancy h k = kept redundancy_error refl (ready_facts (Some Read) f h).taken (k refl)
+  ended_file false Read LostRedundancy h k = back (ready_facts (Some Read) f h).taken
+  ended_file true Read LostIncomplete h k = kept incomplete_error refl (ready_facts (Some Read) f h).taken (k refl)
+  ended_file false Read LostIncomplete h k = back (ready_facts (Some Read) f h).taken
+  ended_file some Write Good h k = sent (ready_facts (Some Write) f h).taken
+  ended_file some Write Opposite h k = untouched (ready_facts (Some Write) f h).taken
+  ended_file some Write MarkRead h k = untouched (ready_facts (Some Write) f h).taken
+  ended_file some Write MediumEnd h k = sent (ready_facts (Some Write) f h).taken
+  ended_file some Write LostRedundancy h k = untouched (ready_facts (Some Write) f h).taken
+  ended_file some Write LostIncomplete h k = untouched (ready_facts (Some Write) f h).taken
+  ended_file some Mark e h k = untouched (ready_facts (Some Mark) f h).taken

@@ -10,9 +10,7 @@ use native.Mathlib.Omega.{arith}
 use lib.Dec.{ltb, eqb, leb}
 use lib.ListN.{length, set, get_or}
 use borrow.Author.Tests.{not-true, ne_eqb, eq-eqb, eqb-true}
-use Rattle.area.specs.declared.Found.{Found}
-use Rattle.area.specs.declared.Found.TheVariants as found
-use Rattle.area.specs.Lists.{all_of, is_found}
+use Rattle.area.specs.Lists.{all_of}
 use Rattle.area.specs.Parts.{is_word}
 use Rattle.area.specs.Refusals.{Rows, lowest, Exactly}
 use Rattle.area.proofs.Walks.{true_not_false, and_left, and_right, and_both, or_left, or_right}
@@ -23,8 +21,6 @@ use Rattle.channel.specs.declared.Request.{Request}
 use Rattle.channel.specs.declared.Turn.{Turn}
 use Rattle.channel.specs.declared.Turn.TheVariants.{Idle, Waiting, Displaced, Working}
 use Rattle.channel.specs.declared.Channel.{Channel}
-use Rattle.channel.specs.declared.Work.{Work}
-use Rattle.channel.specs.declared.Work.TheVariants.{At, Nothing}
 use Rattle.channel_outcomes.specs.declared.Ending.{Ending}
 use Rattle.channel_outcomes.specs.declared.Verdict.{Verdict}
 use Rattle.channel_outcomes.specs.declared.Verdict.TheVariants.{Repeats, Ends}
@@ -38,7 +34,6 @@ use Rattle.file.specs.declared.File.{File}
 use Rattle.file.specs.Sizes.{closed_file}
 use Rattle.file_input.specs.Delivers.{block_fits}
 use Rattle.pool.specs.Free.{file_count}
-use Rattle.area.specs.Lists.{number_or}
 use Rattle.pool.specs.Serving.{serves, serving_file}
 use Rattle.state_sound.specs.Files.{share_buffer, share_unit, apart}
 use Rattle.state_sound.proofs.Replaced.{alike_self, unbound}
@@ -60,7 +55,6 @@ use Rattle.word.specs.Checks.{unchecked, is_checked, is_exact}
 use Rattle.word.proofs.Laws.Checks.{unchecked_fits, unchecked_exact}
 use Rattle.block.specs.Blocks.{judged_block}
 use Rattle.block.proofs.Laws.Finds.{judged_compares, judged_fits}
-use Rattle.call_request.specs.declared.Delivery.TheVariants.{Without}
 use Rattle.call_request.specs.declared.Effect.{Effect}
 use Rattle.call_request.specs.declared.ReportChange.{ReportChange}
 use Rattle.pack_request.specs.declared.Reporting.{Reporting}
@@ -71,6 +65,10 @@ use Rattle.call_request.proofs.NamedLaws.{repeats_routines, ends_routines}
 use Rattle.pack_request.specs.Calls.{file_of, report_wrong, report_by, report_by_area}
 use Rattle.pack_request.proofs.Ready.{not_false, ended_file}
 use Rattle.pack_request.proofs.Changed.{Frame, Beside, changed_refused, changed_taken, changed_frame, here_file, here_channel, became_sound}
+use Rattle.core.specs.declared.option.Option.{Option}
+use Rattle.core.specs.declared.option.Option.TheVariants.{Some, None}
+use Rattle.core.specs.Option.{is_some, unwrap_or}
+use Rattle.channel.specs.declared.Op.{Op}
 
 -- ---- what a report that is booked comes to
 
@@ -125,16 +123,16 @@ delivery_exact x f words = go (is_delivery x)
 
 -- ---- the file of a unit
 
-pub serving : (fs : List File) (c u : ℕ) → length fs ≡ file_count → Served fs c u → serves c u (get_or fs (number_or (serving_file fs c u) file_count) closed_file) ≡ true
+pub serving : (fs : List File) (c u : ℕ) → length fs ≡ file_count → Served fs c u → serves c u (get_or fs (unwrap_or (serving_file fs c u) file_count) closed_file) ≡ true
 unfolding serving_file
 serving fs c u n p = go (serving_file fs c u) refl
   where
     within : p.place < file_count
     within = let l = place_inside fs closed_file (serves c u) refl p.place p.bound in omega arith
 
-    go : (x : Found) → serving_file fs c u ≡ x → serves c u (get_or fs (number_or x file_count) closed_file) ≡ true
-    go (found.At i) e = (first_finds suc (λ j. serves c u (get_or fs j closed_file)) file_count 0 i e).passes
-    go found.Nothing e = true_not_false p.bound (unbound fs c u p.place (ap is_found e) within)
+    go : (x : Option ℕ) → serving_file fs c u ≡ x → serves c u (get_or fs (unwrap_or x file_count) closed_file) ≡ true
+    go (Some i) e = (first_finds suc (λ j. serves c u (get_or fs j closed_file)) file_count 0 i e).passes
+    go None e = true_not_false p.bound (unbound fs c u p.place (ap is_some e) within)
 
 -- ---- what an accepted report found
 
@@ -253,7 +251,7 @@ module _ (s : State) (area : List ℕ) (channel unit outcome len : ℕ) (words :
 
   -- refused: the number alone, the state that was passed, and the area as it was
   pub record ReportAlone : Type 0 where
-    pub answer : reported ≡ record { refusal = refusal; result = 0; delivery = Without; working = 0; start = 0; count = 0; state = s }
+    pub answer : reported ≡ record { refusal = refusal; result = 0; delivery = None; working = 0; start = 0; count = 0; state = s }
     pub untouched : after ≡ area
 
   report_alone : (refusal ≡ 0 → ⊥) → ReportAlone
@@ -319,7 +317,7 @@ module _ (s : State) (area : List ℕ) (channel unit outcome len : ℕ) (words :
     unfolding operation_at reported_file
     after_facts found right exact = go view ready.fits
       where
-        To : Work → Verdict → Type 0
+        To : Option Op → Verdict → Type 0
         To x v =
             SoundFacts
             (with_routines (with_file (with_channel s channel (book_of c unit v s.frozen)) i (reported_file (effect_of (ltb 0 (length words)) x v) f (length words) found))
@@ -336,16 +334,16 @@ module _ (s : State) (area : List ℕ) (channel unit outcome len : ℕ) (words :
             (repeated_beside s channel unit _ (requested (turn_at c unit)) facts inside moved refl)))
         go (ended r e t j) k =
             let moved = end_moved s.m c unit s.frozen (facts.channels channel) outcome len e j in
-            let w : operation_at c unit ≡ At r.op = ap work_of t in
-            let here : effect ≡ op_effect (ltb 0 (length words)) r.op e = ap (effect_of (ltb 0 (length words)) (operation_at c unit)) j ∙ ap (λ (x : Work). effect_of (ltb 0 (length words)) x (Ends e)) w in
+            let w : operation_at c unit ≡ Some r.op = ap work_of t in
+            let here : effect ≡ op_effect (ltb 0 (length words)) r.op e = ap (effect_of (ltb 0 (length words)) (operation_at c unit)) j ∙ ap (λ (x : Option Op). effect_of (ltb 0 (length words)) x (Ends e)) w in
             subst (To (operation_at c unit)) (sym j)
-            (subst (λ (x : Work). To x (Ends e)) (sym w)
-            (became_sound s i channel unit (book_of c unit (Ends e) s.frozen) _ Nothing (routines_after (Ends e)) facts is_open on_channel_lem on_unit_lem moved
+            (subst (λ (x : Option Op). To x (Ends e)) (sym w)
+            (became_sound s i channel unit (book_of c unit (Ends e) s.frozen) _ None (routines_after (Ends e)) facts is_open on_channel_lem on_unit_lem moved
             (ended_file s.m s.w f (length words) found (facts.files i is_open) right exact (ltb 0 (length words)) r.op e
             (sym (ap (λ (x : Turn). file_ready (requested x) f) t) ∙ requested_ready) (λ b. k (ap is_delivery here ∙ b)))
             (subst (Beside (set s.channels channel (book_of c unit (Ends e) s.frozen)) s.frozen)
             (sym (ends_routines s.routines s.frozen channel unit (position_at c unit) e))
-            (answered_beside s channel unit _ Nothing facts inside moved refl unit_known_lem))))
+            (answered_beside s channel unit _ None facts inside moved refl unit_known_lem))))
 
     reported_channel : channel_at reported.state channel ≡ booking
     unfolding report_by

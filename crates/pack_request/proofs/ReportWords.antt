@@ -22,8 +22,6 @@ use Rattle.channel.specs.declared.Position.{Position}
 use Rattle.channel.specs.declared.Request.{Request}
 use Rattle.channel.specs.declared.Turn.{Turn}
 use Rattle.channel.specs.declared.Channel.{Channel}
-use Rattle.channel.specs.declared.Work.{Work}
-use Rattle.channel.specs.declared.Work.TheVariants.{At, Nothing}
 use Rattle.channel_outcomes.specs.declared.Ending.{Ending}
 use Rattle.channel_outcomes.specs.declared.Ending.TheVariants.{Good, Opposite, MarkRead, MediumEnd, LostRedundancy, LostIncomplete}
 use Rattle.channel_outcomes.specs.declared.Verdict.{Verdict}
@@ -51,6 +49,8 @@ use Rattle.pack_request.specs.Calls.{file_of, report_wrong, report_by_area}
 use Rattle.call_request.proofs.Found.{fits_bounds}
 use Rattle.pack_request.proofs.Ready.{ready_facts, some_taken}
 use Rattle.pack_request.proofs.ReportTheorems.{Booked, again, ended, ReportReady, report_ready, facts, view, is_open, requested_ready}
+use Rattle.core.specs.declared.option.Option.{Option}
+use Rattle.core.specs.declared.option.Option.TheVariants.{Some, None}
 
 -- ---- which operation an effect is of
 
@@ -83,53 +83,53 @@ repeated_not p q some = go (cleaner_due p q)
     go false = (refl, refl)
 
 -- a block is delivered exactly by a read that ends with 01 or 02, or with 05 or 06 and words
-pub delivers_exactly : (some : Bool) (x : Work) (p : Position) (v : Verdict) → is_delivery (effect_of some x v) ≡ (is_read x && (is_good (result_number p v) || (is_lost (result_number p v) && some)))
-delivers_exactly some (At op) p (Refused n) = sym (and-false (is_read_op op))
-delivers_exactly some (At op) p (Repeats q) = sym (ap (λ (b : Bool). is_read_op op && b) (repeated_not p q some).0 ∙ and-false (is_read_op op))
-delivers_exactly some (At Read) p (Ends Good) = refl
-delivers_exactly some (At Read) p (Ends Opposite) = refl
-delivers_exactly some (At Read) p (Ends MarkRead) = refl
-delivers_exactly some (At Read) p (Ends MediumEnd) = refl
-delivers_exactly true (At Read) p (Ends LostRedundancy) = refl
-delivers_exactly false (At Read) p (Ends LostRedundancy) = refl
-delivers_exactly true (At Read) p (Ends LostIncomplete) = refl
-delivers_exactly false (At Read) p (Ends LostIncomplete) = refl
-delivers_exactly some (At Write) p (Ends Good) = refl
-delivers_exactly some (At Write) p (Ends Opposite) = refl
-delivers_exactly some (At Write) p (Ends MarkRead) = refl
-delivers_exactly some (At Write) p (Ends MediumEnd) = refl
-delivers_exactly some (At Write) p (Ends LostRedundancy) = refl
-delivers_exactly some (At Write) p (Ends LostIncomplete) = refl
-delivers_exactly some (At Mark) p (Ends e) = refl
-delivers_exactly some Nothing p (Refused n) = refl
-delivers_exactly some Nothing p (Repeats q) = refl
-delivers_exactly some Nothing p (Ends e) = refl
+pub delivers_exactly : (some : Bool) (x : Option Op) (p : Position) (v : Verdict) → is_delivery (effect_of some x v) ≡ (is_read x && (is_good (result_number p v) || (is_lost (result_number p v) && some)))
+delivers_exactly some (Some op) p (Refused n) = sym (and-false (is_read_op op))
+delivers_exactly some (Some op) p (Repeats q) = sym (ap (λ (b : Bool). is_read_op op && b) (repeated_not p q some).0 ∙ and-false (is_read_op op))
+delivers_exactly some (Some Read) p (Ends Good) = refl
+delivers_exactly some (Some Read) p (Ends Opposite) = refl
+delivers_exactly some (Some Read) p (Ends MarkRead) = refl
+delivers_exactly some (Some Read) p (Ends MediumEnd) = refl
+delivers_exactly true (Some Read) p (Ends LostRedundancy) = refl
+delivers_exactly false (Some Read) p (Ends LostRedundancy) = refl
+delivers_exactly true (Some Read) p (Ends LostIncomplete) = refl
+delivers_exactly false (Some Read) p (Ends LostIncomplete) = refl
+delivers_exactly some (Some Write) p (Ends Good) = refl
+delivers_exactly some (Some Write) p (Ends Opposite) = refl
+delivers_exactly some (Some Write) p (Ends MarkRead) = refl
+delivers_exactly some (Some Write) p (Ends MediumEnd) = refl
+delivers_exactly some (Some Write) p (Ends LostRedundancy) = refl
+delivers_exactly some (Some Write) p (Ends LostIncomplete) = refl
+delivers_exactly some (Some Mark) p (Ends e) = refl
+delivers_exactly some None p (Refused n) = refl
+delivers_exactly some None p (Repeats q) = refl
+delivers_exactly some None p (Ends e) = refl
 
 -- a block is handed out exactly by a write that ends with 01 or 04
-pub sends_exactly : (some : Bool) (x : Work) (p : Position) (v : Verdict) → is_sending (effect_of some x v) ≡ (is_write x && is_done (result_number p v))
-sends_exactly some (At op) p (Refused n) = sym (and-false (is_write_op op))
-sends_exactly some (At op) p (Repeats q) = sym (ap (λ (b : Bool). is_write_op op && b) (repeated_not p q some).1 ∙ and-false (is_write_op op))
-sends_exactly some (At Read) p (Ends Good) = refl
-sends_exactly some (At Read) p (Ends Opposite) = refl
-sends_exactly some (At Read) p (Ends MarkRead) = refl
-sends_exactly some (At Read) p (Ends MediumEnd) = refl
-sends_exactly true (At Read) p (Ends LostRedundancy) = refl
-sends_exactly false (At Read) p (Ends LostRedundancy) = refl
-sends_exactly true (At Read) p (Ends LostIncomplete) = refl
-sends_exactly false (At Read) p (Ends LostIncomplete) = refl
-sends_exactly some (At Write) p (Ends Good) = refl
-sends_exactly some (At Write) p (Ends Opposite) = refl
-sends_exactly some (At Write) p (Ends MarkRead) = refl
-sends_exactly some (At Write) p (Ends MediumEnd) = refl
-sends_exactly some (At Write) p (Ends LostRedundancy) = refl
-sends_exactly some (At Write) p (Ends LostIncomplete) = refl
-sends_exactly some (At Mark) p (Ends e) = refl
-sends_exactly some Nothing p (Refused n) = refl
-sends_exactly some Nothing p (Repeats q) = refl
-sends_exactly some Nothing p (Ends e) = refl
+pub sends_exactly : (some : Bool) (x : Option Op) (p : Position) (v : Verdict) → is_sending (effect_of some x v) ≡ (is_write x && is_done (result_number p v))
+sends_exactly some (Some op) p (Refused n) = sym (and-false (is_write_op op))
+sends_exactly some (Some op) p (Repeats q) = sym (ap (λ (b : Bool). is_write_op op && b) (repeated_not p q some).1 ∙ and-false (is_write_op op))
+sends_exactly some (Some Read) p (Ends Good) = refl
+sends_exactly some (Some Read) p (Ends Opposite) = refl
+sends_exactly some (Some Read) p (Ends MarkRead) = refl
+sends_exactly some (Some Read) p (Ends MediumEnd) = refl
+sends_exactly true (Some Read) p (Ends LostRedundancy) = refl
+sends_exactly false (Some Read) p (Ends LostRedundancy) = refl
+sends_exactly true (Some Read) p (Ends LostIncomplete) = refl
+sends_exactly false (Some Read) p (Ends LostIncomplete) = refl
+sends_exactly some (Some Write) p (Ends Good) = refl
+sends_exactly some (Some Write) p (Ends Opposite) = refl
+sends_exactly some (Some Write) p (Ends MarkRead) = refl
+sends_exactly some (Some Write) p (Ends MediumEnd) = refl
+sends_exactly some (Some Write) p (Ends LostRedundancy) = refl
+sends_exactly some (Some Write) p (Ends LostIncomplete) = refl
+sends_exactly some (Some Mark) p (Ends e) = refl
+sends_exactly some None p (Refused n) = refl
+sends_exactly some None p (Repeats q) = refl
+sends_exactly some None p (Ends e) = refl
 
-delivery_taken : (some : Bool) (op : Op) (e : Ending) (f : File) → file_ready (At op) f ≡ true → is_delivery (op_effect some op e) ≡ true → taken_count f ≡ 1
-delivery_taken some Read e f h b = (ready_facts (At Read) f h).taken
+delivery_taken : (some : Bool) (op : Op) (e : Ending) (f : File) → file_ready (Some op) f ≡ true → is_delivery (op_effect some op e) ≡ true → taken_count f ≡ 1
+delivery_taken some Read e f h b = (ready_facts (Some Read) f h).taken
 delivery_taken some Write Good f h b = true_not_false b refl
 delivery_taken some Write Opposite f h b = true_not_false b refl
 delivery_taken some Write MarkRead f h b = true_not_false b refl
@@ -138,7 +138,7 @@ delivery_taken some Write LostRedundancy f h b = true_not_false b refl
 delivery_taken some Write LostIncomplete f h b = true_not_false b refl
 delivery_taken some Mark e f h b = true_not_false b refl
 
-sending_full : (some : Bool) (op : Op) (e : Ending) (f : File) → file_ready (At op) f ≡ true → is_sending (op_effect some op e) ≡ true → has_full f ≡ true
+sending_full : (some : Bool) (op : Op) (e : Ending) (f : File) → file_ready (Some op) f ≡ true → is_sending (op_effect some op e) ≡ true → has_full f ≡ true
 sending_full some Read Good f h b = true_not_false b refl
 sending_full some Read Opposite f h b = true_not_false b refl
 sending_full some Read MarkRead f h b = true_not_false b refl
@@ -147,12 +147,12 @@ sending_full true Read LostRedundancy f h b = true_not_false b refl
 sending_full false Read LostRedundancy f h b = true_not_false b refl
 sending_full true Read LostIncomplete f h b = true_not_false b refl
 sending_full false Read LostIncomplete f h b = true_not_false b refl
-sending_full some Write e f h b = (ready_facts (At Write) f h).block
+sending_full some Write e f h b = (ready_facts (Some Write) f h).block
 sending_full some Mark e f h b = true_not_false b refl
 
 module _ (c : Channel) (u outcome len n : ℕ) (f : File) (ready : file_ready (requested (turn_at c u)) f ≡ true) where
   by_ending : (test : Effect → Bool) (P : Type 0) → test Keeps ≡ false
-      → ((op : Op) (e : Ending) → file_ready (At op) f ≡ true → test (op_effect (ltb 0 n) op e) ≡ true → P)
+      → ((op : Op) (e : Ending) → file_ready (Some op) f ≡ true → test (op_effect (ltb 0 n) op e) ≡ true → P)
       → Booked c u outcome len → test (effect_at c u outcome len n) ≡ true → P
   unfolding operation_at
   by_ending test P none k (again r q t j) b = true_not_false b (ap (λ (v : Verdict). test (effect_of (ltb 0 n) (operation_at c u) v)) j ∙ none)

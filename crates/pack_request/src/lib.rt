@@ -5,9 +5,9 @@
 mod calls;
 mod changes;
 
-use call_request::Delivery;
 pub use calls::{ask, report, reported_words};
 use state::State;
+use word::Checked;
 
 // The answer to an ask: the refusal, 0 for none; the channel's working unit after the call, 255 for none; the state after it.
 #[derive(Clone, Copy)]
@@ -23,7 +23,7 @@ pub struct Asking {
 pub struct Reporting {
     pub refusal: u8,
     pub result: u8,
-    pub delivery: Delivery,
+    pub delivery: Option<Checked>,
     pub working: u8,
     pub start: usize,
     pub count: usize,

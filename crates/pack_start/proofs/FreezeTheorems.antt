@@ -16,7 +16,6 @@ use Rattle.channel.specs.declared.Turn.TheVariants.{Idle, Waiting, Displaced, Wo
 use Rattle.channel.specs.declared.Channel.{Channel}
 use Rattle.channel.specs.Units.{is_idle, turn_at, is_working}
 use Rattle.channel_turns.specs.Scans.{working_in}
-use Rattle.area.specs.Lists.{is_found}
 use Rattle.channel_turns.specs.Starts.{start_of, thaw_of}
 use Rattle.channel_theorems.proofs.Theorems.Turning.{held, at_set}
 use Rattle.channel_theorems.proofs.Theorems.Starts.{Started, is_frozen, is_busy, is_quiet, begins, started, works_found}
@@ -31,6 +30,7 @@ use Rattle.pack_start.specs.Freeze.{state_rows, state_refusal, frozen_state, tha
 use Rattle.state.proofs.Answered.{not_so, state_refused, state_accepted}
 use Rattle.area.proofs.Maps.{map_twice}
 use Rattle.routines.proofs.Laws.Facts.{look_twice}
+use Rattle.core.specs.Option.{is_some}
 
 module _ (s : State) where
   -- refused with a number exactly if its row applies and none with a lower number does
@@ -125,7 +125,7 @@ start_twice c frozen = go (start_of c frozen) (started c frozen) refl
     go d (is_quiet f) q = q
     go d (begins x t b) q =
         let works = at_set c x t b.within (λ y k. y ≡ x → is_working k.turn ≡ true) (λ e. b.begins) (λ y ne e. absurd (ne e)) x refl in
-        start_stays d frozen (is_found (working_in d)) refl (or_found frozen (works_found d x works))
+        start_stays d frozen (is_some (working_in d)) refl (or_found frozen (works_found d x works))
 
 pub freeze_freeze : (s : State) → frozen_state (frozen_state s) ≡ frozen_state s
 unfolding frozen_state
@@ -164,6 +164,6 @@ nothing_due_lem s h c = go (start_of x s.frozen) (started x s.frozen) refl
     go d (is_busy u e) q = q
     go d (is_quiet f) q = q
     go d (begins u t b) q =
-        start_stays x s.frozen (is_found (working_in x)) refl
-        (by_test (λ f. s.frozen ≡ f → (f || is_found (working_in x)) ≡ true) s.frozen (λ k e. refl)
+        start_stays x s.frozen (is_some (working_in x)) refl
+        (by_test (λ f. s.frozen ≡ f → (f || is_some (working_in x)) ≡ true) s.frozen (λ k e. refl)
         (λ k e. ((sound_facts s h).channels c).alive e u (busy_held t (turn_at x u) b.same b.begins)) refl)

@@ -12,9 +12,7 @@ use lib.Dec.{eqb, ltb, leb-suc-zero}
 use lib.ListN.{length, get_or, set, drop, replicate}
 use lib.Pow.{shl_exact, pow_mono}
 use borrow.Author.Tests.{ne_eqb, lt-ltb}
-use Rattle.area.specs.declared.Found.{Found}
-use Rattle.area.specs.declared.Found.TheVariants.{At, Nothing}
-use Rattle.area.specs.Lists.{any_of, first_along, count_along, number_or}
+use Rattle.area.specs.Lists.{any_of, first_along, count_along}
 use Rattle.area.specs.Masks.{bit_at, mask_of}
 use Rattle.area.proofs.Marks.{first_ext, first_next, first_below, count_ext, count_below}
 use Rattle.area.proofs.Bools.{any_alike, any_exchange}
@@ -24,6 +22,9 @@ use Rattle.file.specs.declared.File.{File}
 use Rattle.file.specs.Sizes.{closed_file}
 use Rattle.pool.specs.Free.{buffer_limit, held_by, is_held, is_free, lowest_free, free_count, lowest_number, free_of}
 use Rattle.pool.specs.Masks.{free_mask, all_free, lowest_set, free_in, taken_by, given_back, free_after}
+use Rattle.core.specs.declared.option.Option.{Option}
+use Rattle.core.specs.declared.option.Option.TheVariants.{Some, None}
+use Rattle.core.specs.Option.{unwrap_or}
 
 -- ---- the words that the code makes
 
@@ -83,7 +84,7 @@ pub high_bit : (x y : ℕ) → x < 2 ^ buffer_limit → y ≡ bit_and x ((2 ^ bu
 unfolding first_along
 high_bit x y h e =
     ap (count_trailing_zeros buffer_limit) is ∙ trailing_first _ buffer_limit (mask_lt _ buffer_limit 0)
-    ∙ ap (λ (z : Found). number_or z buffer_limit) (first_ext _ (λ b. bit_at x b && not (eqb low b)) buffer_limit 0 (λ b l k. own_bit (λ b. bit_at x b && not (eqb low b)) buffer_limit b (omega arith)))
+    ∙ ap (λ (z : Option ℕ). unwrap_or z buffer_limit) (first_ext _ (λ b. bit_at x b && not (eqb low b)) buffer_limit 0 (λ b l k. own_bit (λ b. bit_at x b && not (eqb low b)) buffer_limit b (omega arith)))
     ∙ go (first_along suc (bit_at x) buffer_limit 0) refl
   where
     low : ℕ
@@ -96,20 +97,20 @@ high_bit x y h e =
     others true c r = ap not r
     others false c r = refl
 
-    go : (z : Found) → first_along suc (bit_at x) buffer_limit 0 ≡ z
-        → number_or (first_along suc (λ b. bit_at x b && not (eqb low b)) buffer_limit 0) buffer_limit ≡ lowest_set x (low + 1)
-    go (At p) q =
-        let at : low ≡ p = ap (λ (z : Found). number_or z buffer_limit) q in
+    go : (z : Option ℕ) → first_along suc (bit_at x) buffer_limit 0 ≡ z
+        → unwrap_or (first_along suc (λ b. bit_at x b && not (eqb low b)) buffer_limit 0) buffer_limit ≡ lowest_set x (low + 1)
+    go (Some p) q =
+        let at : low ≡ p = ap (λ (z : Option ℕ). unwrap_or z buffer_limit) q in
         let next : suc p ≡ low + 1 = omega arith in
         let left : 0 + buffer_limit - suc p ≡ buffer_limit - (low + 1) = omega arith in
-        ap (λ (k : ℕ). number_or (first_along suc (λ b. bit_at x b && not (eqb k b)) buffer_limit 0) buffer_limit) at
-        ∙ ap (λ (z : Found). number_or z buffer_limit) (first_next (bit_at x) buffer_limit 0 p q ∙ ap₂ (first_along suc (bit_at x)) left next)
-    go Nothing q =
-        let at : low ≡ buffer_limit = ap (λ (z : Found). number_or z buffer_limit) q in
+        ap (λ (k : ℕ). unwrap_or (first_along suc (λ b. bit_at x b && not (eqb k b)) buffer_limit 0) buffer_limit) at
+        ∙ ap (λ (z : Option ℕ). unwrap_or z buffer_limit) (first_next (bit_at x) buffer_limit 0 p q ∙ ap₂ (first_along suc (bit_at x)) left next)
+    go None q =
+        let at : low ≡ buffer_limit = ap (λ (z : Option ℕ). unwrap_or z buffer_limit) q in
         let none : buffer_limit - (low + 1) ≡ 0 = omega arith in
-        ap (λ (z : Found). number_or z buffer_limit)
+        ap (λ (z : Option ℕ). unwrap_or z buffer_limit)
         (first_ext (λ b. bit_at x b && not (eqb low b)) (bit_at x) buffer_limit 0 (λ b l k. others (bit_at x b) (eqb low b) (ne_eqb low b (λ (r : low ≡ b). omega arith))) ∙ q)
-        ∙ sym (ap (λ (j : ℕ). number_or (first_along suc (bit_at x) j (low + 1)) buffer_limit) none)
+        ∙ sym (ap (λ (j : ℕ). unwrap_or (first_along suc (bit_at x) j (low + 1)) buffer_limit) none)
 
 -- all three from a word x, y being the bit of its lowest
 pub bits_say : (x y : ℕ) → x < 2 ^ buffer_limit → y ≡ mask_of (eqb (count_trailing_zeros buffer_limit x)) buffer_limit
@@ -153,7 +154,7 @@ module _ (m : ℕ) (fs : List File) (few : m ≤ buffer_limit) where
   lowest_same : (k : ℕ) → lowest_set (free_mask m fs) k ≡ lowest_number m fs k
   unfolding lowest_free
   lowest_same k =
-      ap (λ (z : Found). number_or z buffer_limit)
+      ap (λ (z : Option ℕ). unwrap_or z buffer_limit)
       (first_ext (bit_at (free_mask m fs)) (λ b. ltb b m && is_free fs b) (buffer_limit - k) k (λ b l h. free_bit b (omega arith))
       ∙ first_below (is_free fs) m buffer_limit k few)
 

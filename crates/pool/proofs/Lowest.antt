@@ -5,14 +5,15 @@ use mathlib.Core.List.{List}
 use Prim.Native.Nat.{ℕ, zero, suc, ◌+◌, ◌-◌, ◌≤◌}
 use native.Mathlib.Nat.{sub-zero}
 use native.Mathlib.Omega.{arith}
-use Rattle.area.specs.declared.Found.{Found}
-use Rattle.area.specs.declared.Found.TheVariants.{At}
-use Rattle.area.specs.Lists.{first_along, count_along, number_or}
+use Rattle.area.specs.Lists.{first_along, count_along}
 use Rattle.area.proofs.Marks.{first_counted, first_lowest}
 use Rattle.file.specs.declared.File.{File}
 use Rattle.pool.specs.Free.{buffer_limit, is_free, lowest_free, Lowest, free_count, lowest_number}
+use Rattle.core.specs.declared.option.Option.{Option}
+use Rattle.core.specs.declared.option.Option.TheVariants.{Some}
+use Rattle.core.specs.Option.{unwrap_or}
 
-pub found_lowest : (m : ℕ) (fs : List File) (k b : ℕ) → lowest_free m fs k ≡ At b → Lowest m fs k b
+pub found_lowest : (m : ℕ) (fs : List File) (k b : ℕ) → lowest_free m fs k ≡ Some b → Lowest m fs k b
 unfolding lowest_free
 found_lowest m fs k b e =
     let L = first_lowest (is_free fs) (m - k) k b e in
@@ -21,7 +22,7 @@ found_lowest m fs k b e =
 -- where a buffer is free, the lowest is found
 pub record One (m : ℕ) (fs : List File) : Type 0 where
   pub low : ℕ
-  pub found : lowest_free m fs 0 ≡ At low
+  pub found : lowest_free m fs 0 ≡ Some low
 
 pub one_free : (m : ℕ) (fs : List File) (c : ℕ) → free_count m fs ≡ suc c → One m fs
 unfolding free_count lowest_free
@@ -33,8 +34,8 @@ one_free m fs c e =
 pub record Two (m : ℕ) (fs : List File) : Type 0 where
   pub low : ℕ
   pub high : ℕ
-  pub found_low : lowest_free m fs 0 ≡ At low
-  pub found_high : lowest_free m fs (suc low) ≡ At high
+  pub found_low : lowest_free m fs 0 ≡ Some low
+  pub found_high : lowest_free m fs (suc low) ≡ Some high
 
 pub two_free : (m : ℕ) (fs : List File) (c : ℕ) → free_count m fs ≡ suc (suc c) → Two m fs
 unfolding free_count lowest_free
@@ -52,8 +53,8 @@ two_free m fs c e =
 -- ---- the numbers that an open takes
 
 module _ (m : ℕ) (fs : List File) where
-  number_lowest : (k b : ℕ) → lowest_free m fs k ≡ At b → Lowest m fs k (lowest_number m fs k)
-  number_lowest k b e = subst (Lowest m fs k) (sym (ap (λ (x : Found). number_or x buffer_limit) e)) (found_lowest m fs k b e)
+  number_lowest : (k b : ℕ) → lowest_free m fs k ≡ Some b → Lowest m fs k (lowest_number m fs k)
+  number_lowest k b e = subst (Lowest m fs k) (sym (ap (λ (x : Option ℕ). unwrap_or x buffer_limit) e)) (found_lowest m fs k b e)
 
   pub first_free_lem : 1 ≤ free_count m fs → Lowest m fs 0 (lowest_number m fs 0)
   first_free_lem h = go (free_count m fs) refl
@@ -70,5 +71,5 @@ module _ (m : ℕ) (fs : List File) where
       go (suc zero) e = absurd (omega (arith, h, e))
       go (suc (suc c)) e =
           let two = two_free m fs c e in
-          let next : suc two.low ≡ lowest_number m fs 0 + 1 = (let low : lowest_number m fs 0 ≡ two.low = ap (λ (x : Found). number_or x buffer_limit) two.found_low in omega (arith, low)) in
+          let next : suc two.low ≡ lowest_number m fs 0 + 1 = (let low : lowest_number m fs 0 ≡ two.low = ap (λ (x : Option ℕ). unwrap_or x buffer_limit) two.found_low in omega (arith, low)) in
           subst (λ (k : ℕ). Lowest m fs k (lowest_number m fs k)) next (number_lowest (suc two.low) two.high two.found_high)

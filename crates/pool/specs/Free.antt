@@ -1,7 +1,6 @@
 -- Which buffers of a pool are free (document 01, "Sizes"): held by no open file. Assumes nothing.
-use Rattle.std.specs.Prelude.{ℕ, suc, ◌+◌, ◌-◌, ◌≤◌, ◌<◌, ◌≡◌, Bool, true, false, not, cond, ◌&&◌, ◌||◌, List, [], ◌∷◌, leb, eqb}
-use Rattle.area.specs.declared.Found.{Found}
-use Rattle.area.specs.Lists.{any_of, count_of, first_along, count_along, number_or}
+use Rattle.std.specs.Prelude.{ℕ, suc, ◌+◌, ◌-◌, ◌≤◌, ◌<◌, ◌≡◌, Bool, true, false, not, cond, ◌&&◌, ◌||◌, List, [], ◌∷◌, leb, eqb, Option, unwrap_or}
+use Rattle.area.specs.Lists.{any_of, count_of, first_along, count_along}
 use Rattle.file.specs.declared.File.{File}
 use Rattle.file.specs.Sizes.{buffers_for}
 use Rattle.pool.specs.declared.FreeBuffers.{FreeBuffers}
@@ -36,7 +35,7 @@ abbrev pub is_free : List File → ℕ → Bool
 is_free fs b = not (is_held fs b)
 
 -- "The lowest-numbered free buffers are taken": the lowest of the buffers k up to m that is free
-unfoldable pub lowest_free : ℕ → List File → ℕ → Found
+unfoldable pub lowest_free : ℕ → List File → ℕ → Option ℕ
 lowest_free m fs k = first_along suc (is_free fs) (m - k) k
 
 -- said plainly: b is the lowest free one of the buffers k up to m
@@ -52,7 +51,7 @@ free_count m fs = count_along suc (is_free fs) m 0
 
 -- the number of the lowest free one of the buffers k up to m, past the last if none is
 abbrev pub lowest_number : ℕ → List File → ℕ → ℕ
-lowest_number m fs k = number_or (lowest_free m fs k) buffer_limit
+lowest_number m fs k = unwrap_or (lowest_free m fs k) buffer_limit
 
 -- how many are free, and "the lowest-numbered free buffers": the lowest, and the lowest above that
 unfoldable pub free_of : ℕ → List File → FreeBuffers

@@ -1,7 +1,7 @@
 -- The free buffers as bits (document 02, M-104): "Keep the free ones as one bit each and find the lowest, and the count of free ones, from the
 -- bits." Assumes nothing.
-use Rattle.std.specs.Prelude.{ℕ, suc, ◌+◌, ◌-◌, not, cond, ◌&&◌, ◌||◌, List, ltb}
-use Rattle.area.specs.Lists.{first_along, count_along, number_or}
+use Rattle.std.specs.Prelude.{ℕ, suc, ◌+◌, ◌-◌, not, cond, ◌&&◌, ◌||◌, List, ltb, unwrap_or}
+use Rattle.area.specs.Lists.{first_along, count_along}
 use Rattle.area.specs.Masks.{bit_at, mask_of}
 use Rattle.file.specs.declared.File.{File}
 use Rattle.pool.specs.declared.FreeBuffers.{FreeBuffers}
@@ -19,7 +19,7 @@ all_free m = mask_of (λ b. ltb b m) buffer_limit
 
 -- the lowest number from k on whose bit is set, past the last if none is
 abbrev pub lowest_set : ℕ → ℕ → ℕ
-lowest_set mask k = number_or (first_along suc (bit_at mask) (buffer_limit - k) k) buffer_limit
+lowest_set mask k = unwrap_or (first_along suc (bit_at mask) (buffer_limit - k) k) buffer_limit
 
 -- how many bits are set, the lowest, and the lowest above that
 unfoldable pub free_in : ℕ → FreeBuffers

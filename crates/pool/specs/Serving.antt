@@ -1,7 +1,6 @@
 -- Which file serves a unit (document 01, "Sizes"). Assumes nothing.
-use Rattle.std.specs.Prelude.{ℕ, suc, Bool, ◌&&◌, List, eqb, get_or}
-use Rattle.area.specs.declared.Found.{Found}
-use Rattle.area.specs.Lists.{first_along, is_found, number_or}
+use Rattle.std.specs.Prelude.{ℕ, suc, Bool, ◌&&◌, List, eqb, get_or, Option, is_some, unwrap_or}
+use Rattle.area.specs.Lists.{first_along}
 use Rattle.file.specs.declared.File.{File}
 use Rattle.file.specs.Sizes.{closed_file}
 use Rattle.pool.specs.Free.{file_count}
@@ -11,13 +10,13 @@ abbrev pub serves : ℕ → ℕ → File → Bool
 serves channel unit f = f.opened && (eqb f.channel channel && eqb f.unit unit)
 
 -- the file number that serves a unit
-unfoldable pub serving_file : List File → ℕ → ℕ → Found
+unfoldable pub serving_file : List File → ℕ → ℕ → Option ℕ
 serving_file fs channel unit = first_along suc (λ i. serves channel unit (get_or fs i closed_file)) file_count 0
 
 -- its number; past the last file if there is none
 abbrev pub file_serving : List File → ℕ → ℕ → ℕ
-file_serving fs channel unit = number_or (serving_file fs channel unit) file_count
+file_serving fs channel unit = unwrap_or (serving_file fs channel unit) file_count
 
 -- refusal 4, "unit already bound"
 abbrev pub is_bound : List File → ℕ → ℕ → Bool
-is_bound fs channel unit = is_found (serving_file fs channel unit)
+is_bound fs channel unit = is_some (serving_file fs channel unit)

@@ -3,7 +3,6 @@ ghost use Rattle.std.specs.Prelude.{◌≡◌};
 ghost use Rattle.pool.specs.Serving.{serves as servesUnit, serving_file, file_serving, is_bound};
 
 use crate::FILES;
-use area::{Found, is_found};
 use file::File;
 
 // Whether the file is open on that unit.
@@ -14,15 +13,15 @@ pub fn serves(f: File, channel: u8, unit: u8) -> bool
 }
 
 // The number of the file that is open on that unit.
-pub fn serving_file(files: [File; FILES], channel: u8, unit: u8) -> Found
+pub fn serving_file(files: [File; FILES], channel: u8, unit: u8) -> Option<usize>
     ensures { result ≡ serving_file files channel unit }
 {
     for i in 0..FILES {
         if serves(files[i], channel, unit) {
-            return Found::At(i);
+            return Some(i);
         }
     }
-    Found::Nothing
+    None
 }
 
 // That number; past the last file if there is none.
@@ -30,8 +29,8 @@ pub fn file_of(files: [File; FILES], channel: u8, unit: u8) -> usize
     ensures { result ≡ file_serving files channel unit }
 {
     match serving_file(files, channel, unit) {
-        Found::At(i) => i,
-        Found::Nothing => FILES,
+        Some(i) => i,
+        None => FILES,
     }
 }
 
@@ -39,5 +38,5 @@ pub fn file_of(files: [File; FILES], channel: u8, unit: u8) -> usize
 pub fn is_bound(files: [File; FILES], channel: u8, unit: u8) -> bool
     ensures { result ≡ is_bound files channel unit }
 {
-    is_found(serving_file(files, channel, unit))
+    serving_file(files, channel, unit).is_some()
 }

@@ -1,10 +1,8 @@
 -- What a line comes to (document 01, "The session program"): by the public definitions of the thirteen calls. Assumes nothing.
-use Rattle.std.specs.Prelude.{ℕ, cond, List, [], eqb, length, drop}
+use Rattle.std.specs.Prelude.{ℕ, cond, List, [], eqb, length, drop, Option, Some, None}
 use Rattle.area.specs.Parts.{part_of}
 use Rattle.session_frame.specs.Digits.{bytes_of}
 use Rattle.session_frame.specs.Fields.{words_of}
-use Rattle.call_request.specs.declared.Delivery.{Delivery}
-use Rattle.call_request.specs.declared.Delivery.TheVariants.{Without, With}
 use Rattle.session_frame.specs.declared.Masks as frame
 use Rattle.session_frame.specs.declared.Frame.{Frame}
 use Rattle.session_frame.specs.declared.Frame.TheVariants.{Malformed, Fresh, Open, Close, Ask, Report, Get, Put, Seal, Skip, Freeze, Thaw, Return, Running}
@@ -27,6 +25,7 @@ use Rattle.pack_record.specs.Gets.{get_by, get_words}
 use Rattle.pack_record.specs.Skips.{skip_by}
 use Rattle.pack_record.specs.Puts.{put_by, put_by_area}
 use Rattle.pack_record.specs.Seals.{seal_by, seal_by_area}
+use Rattle.word.specs.declared.Checked.{Checked}
 
 -- the state and the area after a line, its answer, and the words that the answer shows
 pub record Reply : Type 0 where
@@ -56,9 +55,9 @@ got_answer got.End = answer.Got (got_number got.End)
 got_answer got.Nothing = answer.Got (got_number got.Nothing)
 
 -- "Report adds result, check error, working unit"; with what was found if it delivers a block
-abbrev pub report_answer : ℕ → Delivery → ℕ → Answer
-report_answer result Without working = answer.Reported result working
-report_answer result (With found) working = answer.Delivered result found working
+abbrev pub report_answer : ℕ → Option Checked → ℕ → Answer
+report_answer result None working = answer.Reported result working
+report_answer result (Some found) working = answer.Delivered result found working
 
 -- the words that come with a line: "04 channel unit outcome words", after a length if there is one; "06 put file words"
 unfoldable pub given_words : Frame → List ℕ → List ℕ

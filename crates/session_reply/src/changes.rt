@@ -8,7 +8,7 @@ ghost use Rattle.session_reply.specs.Changes.{quiet_told, open_told, close_told,
 use crate::{Change, RoutineTold, Told};
 use call_open::{FLAGS, close_on, open_on, wish_of};
 use call_record::{get_on, put_on, seal_on, skip_on};
-use call_request::{Delivery, answers_request, ask_on, report_on};
+use call_request::{answers_request, ask_on, report_on};
 use channel::{Channel, UNITS};
 use file::File;
 use file_input::{Got, got_number, got_start};
@@ -17,6 +17,7 @@ use pool::{FILES, free_in, is_bound};
 use routines::{Naming, Post, Routines, due_of, is_due, nothing_due};
 use session_frame::{Answer, AskFrame, OpenFrame, ReportFrame};
 use state::CHANNELS;
+use word::Checked;
 
 // The answer of an accepted call, or its refusal.
 pub fn answer_or(refusal: u8, a: Answer) -> Answer
@@ -126,15 +127,15 @@ fn is_short(m: u8, w: u16, n: usize) -> bool
 }
 
 // The answer of a report: with what was found if it delivers a block.
-fn report_answer(res: u8, delivery: Delivery, working: u8) -> Answer
+fn report_answer(res: u8, delivery: Option<Checked>, working: u8) -> Answer
     ensures { result ≡ report_answer res delivery working }
 {
     match delivery {
-        Delivery::Without => Answer::Reported {
+        None => Answer::Reported {
             result: res,
             working,
         },
-        Delivery::With(found) => Answer::Delivered {
+        Some(found) => Answer::Delivered {
             result: res,
             found,
             working,

@@ -19,8 +19,6 @@ use Rattle.channel.specs.declared.Turn.{Turn}
 use Rattle.channel.specs.declared.Turn.TheVariants.{Idle, Waiting, Displaced, Working}
 use Rattle.channel.specs.declared.Unit.{Unit}
 use Rattle.channel.specs.declared.Channel.{Channel}
-use Rattle.channel.specs.declared.Work.{Work}
-use Rattle.channel.specs.declared.Work.TheVariants.{At, Nothing}
 use Rattle.channel_turns.specs.declared.Asked.{Asked}
 use Rattle.channel_outcomes.specs.declared.Ending.{Ending}
 use Rattle.channel_outcomes.specs.declared.Verdict.{Verdict}
@@ -28,7 +26,6 @@ use Rattle.channel_outcomes.specs.declared.Verdict.TheVariants.{Repeats, Ends}
 use Rattle.channel_outcomes.specs.Positions.{most_passed, position_after, noted_by}
 use Rattle.channel.specs.Units.{size, idle_unit, unit_at, declared_at, turn_at, position_at, operation_at, with_unit, with_turn, is_idle, accepts_at}
 use Rattle.channel_turns.specs.Scans.{working_in}
-use Rattle.area.specs.Lists.{is_found}
 use Rattle.channel_turns.specs.Turns.{judge_turn, judge_of, goes_on, incomplete_turn, repeat_of, mark_moved, end_of, book_of, report_of}
 use Rattle.channel_turns.specs.Starts.{start_of, thaw_of, new_request, ask_of}
 use Rattle.channel_theorems.specs.History.{Station, station, Event, ask, report, thaw, Step, step}
@@ -42,12 +39,15 @@ use Rattle.channel_theorems.proofs.Theorems.Sound.{verdict_again, works, one_kep
 use Rattle.state_sound.specs.Requests.{requested}
 use Rattle.state_sound.specs.Soundness.{position_in_range, noise_known, noise_right, position_right}
 use Rattle.state_sound.proofs.ChannelFacts.{ChannelFacts}
+use Rattle.core.specs.declared.option.Option.{Option as OptionOf}
+use Rattle.core.specs.declared.option.Option.TheVariants.{Some, None}
+use Rattle.core.specs.Option.{is_some}
 
 -- ---- what is requested of a unit is the operation that it holds
 
-abbrev op_held : Option Request → Work
-op_held none = Nothing
-op_held (some q) = At q.op
+abbrev op_held : Option Request → OptionOf Op
+op_held none = None
+op_held (some q) = Some q.op
 
 requested_held : (t : Turn) → requested t ≡ op_held (held t)
 requested_held Idle = refl
@@ -81,7 +81,7 @@ start_mark k c frozen = go (start_of c frozen) (started c frozen)
     go d (is_quiet q) = (refl, refl)
     go d (begins x t b) = (mark_with k c x t _, size_with c x t _)
 
-start_works : (c : Channel) (frozen : Bool) → frozen ≡ false → (u : ℕ) → is_idle (turn_at (start_of c frozen) u) ≡ false → is_found (working_in (start_of c frozen)) ≡ true
+start_works : (c : Channel) (frozen : Bool) → frozen ≡ false → (u : ℕ) → is_idle (turn_at (start_of c frozen) u) ≡ false → is_some (working_in (start_of c frozen)) ≡ true
 start_works c frozen f u i = or_either frozen _ (start_alive c frozen (start_of c frozen) u (started c frozen) i) (λ e. true_not_false e f) (λ e. e)
 
 -- ---- every call keeps a channel's facts
@@ -195,7 +195,7 @@ module _ (m : ℕ) (s : Station) (F : ChannelFacts m s.frozen s.channel) where
   took_stands e o freezes = F.stands
   took_stands e o thaws = start_right s.channel false F.stands
 
-  took_alive : (e : Event) (o : Step) → Took s e o → o.after.frozen ≡ false → (u : ℕ) → is_idle (turn_at o.after.channel u) ≡ false → is_found (working_in o.after.channel) ≡ true
+  took_alive : (e : Event) (o : Step) → Took s e o → o.after.frozen ≡ false → (u : ℕ) → is_idle (turn_at o.after.channel u) ≡ false → is_some (working_in o.after.channel) ≡ true
   took_alive e o refuses = F.alive
   took_alive e o (asks u op p d i) = start_works _ s.frozen
   took_alive e o (repeats u oc len r q t stood i j n stands) = start_works _ s.frozen
@@ -215,7 +215,7 @@ module _ (m : ℕ) (s : Station) (F : ChannelFacts m s.frozen s.channel) where
 
 -- ---- ask and report, as replacements: r is requested of unit u afterwards, and all else is as it was
 
-pub record Moved (m : ℕ) (frozen : Bool) (c x : Channel) (u : ℕ) (r : Work) : Type 0 where
+pub record Moved (m : ℕ) (frozen : Bool) (c x : Channel) (u : ℕ) (r : OptionOf Op) : Type 0 where
   pub facts : ChannelFacts m frozen x
   pub here : requested (turn_at x u) ≡ r
   pub known : declared_at x u ≡ declared_at c u
@@ -246,13 +246,13 @@ moved m frozen c d u t stood l e F = record {
 
 module _ (m : ℕ) (c : Channel) (u : ℕ) (frozen : Bool) (F : ChannelFacts m frozen c) where
   -- an accepted ask
-  pub ask_moved_lem : (op : Op) (priority : Bool) → accepts_at c u ≡ true → Moved m frozen c (ask_of c u op priority frozen).channel u (At op)
+  pub ask_moved_lem : (op : Op) (priority : Bool) → accepts_at c u ≡ true → Moved m frozen c (ask_of c u op priority frozen).channel u (Some op)
   unfolding accepts_at step
   ask_moved_lem op p a =
       let e : (ask_of c u op p frozen).channel ≡ start_of (with_turn c u (Waiting (new_request op p))) frozen =
       ap (λ (k : Asked). k.channel) (ask_taken c u op p frozen true (sym a) refl) in
       let F' : ChannelFacts m frozen (ask_of c u op p frozen).channel = step_facts m (station c frozen) F (ask u op p) in
-      subst (λ (x : Channel). Moved m frozen c x u (At op)) (sym e)
+      subst (λ (x : Channel). Moved m frozen c x u (Some op)) (sym e)
       (moved m frozen c (with_turn c u (Waiting (new_request op p))) u (Waiting (new_request op p)) (position_at c u) (declared_inside c u (and_left (declared_at c u) _ a)) refl
       (subst (ChannelFacts m frozen) e F'))
 
@@ -262,11 +262,11 @@ module _ (m : ℕ) (c : Channel) (u : ℕ) (frozen : Bool) (F : ChannelFacts m f
       let F' : ChannelFacts m frozen (book_of c u (judge_of c u outcome len) frozen) = step_facts m (station c frozen) F (report u outcome len) in
       subst (λ (w : Verdict). ChannelFacts m frozen (book_of c u w frozen)) e F'
 
-  judged_again : (t : Turn) (outcome len : ℕ) (q : Request) → judge_turn t outcome len ≡ Repeats q → (is_idle t ≡ false) × (At q.op ≡ requested t)
+  judged_again : (t : Turn) (outcome len : ℕ) (q : Request) → judge_turn t outcome len ≡ Repeats q → (is_idle t ≡ false) × (Some q.op ≡ requested t)
   judged_again Idle outcome len q e = absurd (let z : ◌≡◌ {A = ℕ} 0 1 = cc in omega arith)
   judged_again (Waiting r) outcome len q e = absurd (let z : ◌≡◌ {A = ℕ} 0 1 = cc in omega arith)
   judged_again (Displaced r) outcome len q e = absurd (let z : ◌≡◌ {A = ℕ} 0 1 = cc in omega arith)
-  judged_again (Working r) outcome len q e = (refl, ap At (verdict_again r outcome len q e).same_op)
+  judged_again (Working r) outcome len q e = (refl, ap Some (verdict_again r outcome len q e).same_op)
 
   judged_ended : (t : Turn) (outcome len : ℕ) (k : Ending) → judge_turn t outcome len ≡ Ends k → is_idle t ≡ false
   judged_ended Idle outcome len k e = absurd (let z : ◌≡◌ {A = ℕ} 0 1 = cc in omega arith)
@@ -274,7 +274,7 @@ module _ (m : ℕ) (c : Channel) (u : ℕ) (frozen : Bool) (F : ChannelFacts m f
   judged_ended (Displaced r) outcome len k e = refl
   judged_ended (Working r) outcome len k e = refl
 
-  incomplete_op : (b : Bool) (q : Request) → requested (incomplete_turn b q) ≡ At q.op
+  incomplete_op : (b : Bool) (q : Request) → requested (incomplete_turn b q) ≡ Some q.op
   incomplete_op true q = refl
   incomplete_op false q = refl
 
@@ -287,7 +287,7 @@ module _ (m : ℕ) (c : Channel) (u : ℕ) (frozen : Bool) (F : ChannelFacts m f
       (moved m frozen c (with_unit c u (incomplete_turn (goes_on c q.priority frozen) q) (noted_by (position_at c u) q)) u (incomplete_turn (goes_on c q.priority frozen) q) (noted_by (position_at c u) q) (busy_inside c u j.0) refl (booked_facts outcome len (Repeats q) e))
 
   -- a report that ends the operation
-  pub end_moved : (outcome len : ℕ) (k : Ending) → judge_of c u outcome len ≡ Ends k → Moved m frozen c (book_of c u (Ends k) frozen) u Nothing
+  pub end_moved : (outcome len : ℕ) (k : Ending) → judge_of c u outcome len ≡ Ends k → Moved m frozen c (book_of c u (Ends k) frozen) u None
   unfolding judge_of book_of end_of
   end_moved outcome len k e =
       moved m frozen c (ended_at c u (position_after (operation_at c u) k (position_at c u))) u Idle (position_after (operation_at c u) k (position_at c u)) (busy_inside c u (judged_ended (turn_at c u) outcome len k e)) refl (booked_facts outcome len (Ends k) e)

@@ -7,8 +7,7 @@ use native.Mathlib.Omega.{arith}
 use lib.Dec.{leb, ltb, eqb}
 use lib.ListN.{get_or, get_or-map}
 use borrow.Author.Tests.{leb-true, le-leb, ltb-true, lt-ltb, eqb-true, eq-eqb}
-use Rattle.area.specs.declared.Found.{Found}
-use Rattle.area.specs.Lists.{any_of, all_of, count_of, is_found}
+use Rattle.area.specs.Lists.{any_of, all_of, count_of}
 use Rattle.area.proofs.Walks.{by_test, true_not_false, and_left, and_right, and_both, or_either, or_first, or_second, at_all, none_at}
 use Rattle.area.proofs.Marks.{unless, unless_so}
 use Rattle.area.proofs.Bools.{both, any_at, at_any}
@@ -18,7 +17,6 @@ use Rattle.channel.specs.declared.Turn.{Turn}
 use Rattle.channel.specs.declared.Turn.TheVariants.{Idle, Waiting, Displaced, Working}
 use Rattle.channel.specs.declared.Unit.{Unit}
 use Rattle.channel.specs.declared.Channel.{Channel}
-use Rattle.channel.specs.declared.Work.{Work}
 use Rattle.channel_outcomes.specs.Rules.{row_of}
 use Rattle.channel.specs.Units.{size, at_start, idle_unit, unit_at, declared_at, turn_at, position_at, fresh_with, bits_from, fresh_of, is_idle, has_request, is_working, unit_works}
 use Rattle.channel_turns.specs.Scans.{begin_of, working_in, Scanned, finds, misses}
@@ -30,6 +28,9 @@ use Rattle.state_sound.specs.Requests.{requested, is_none, is_waiting}
 use Rattle.state_sound.specs.Soundness.{position_right, marks_right, unit_waits, works_right}
 use Rattle.state_sound.specs.Judged.{is_counted, turn_right, unit_right}
 use Rattle.state_sound.proofs.Everywhere.{by_place, all_places, place_inside, count_some, some_place, count_one_place, one_place_count}
+use Rattle.core.specs.declared.option.Option.{Option}
+use Rattle.core.specs.Option.{is_some}
+use Rattle.channel.specs.declared.Op.{Op}
 
 pub record ChannelFacts (m : ℕ) (frozen : Bool) (c : Channel) : Type 0 where
   -- the mark of either scan is a unit's number
@@ -43,7 +44,7 @@ pub record ChannelFacts (m : ℕ) (frozen : Bool) (c : Channel) : Type 0 where
   -- units are declared in a pool with buffers
   pub pool : (u : ℕ) → declared_at c u ≡ true → 0 < m
   -- where the pack is not frozen and a unit has a request, it works for one
-  pub alive : frozen ≡ false → (u : ℕ) → is_idle (turn_at c u) ≡ false → is_found (working_in c) ≡ true
+  pub alive : frozen ≡ false → (u : ℕ) → is_idle (turn_at c u) ≡ false → is_some (working_in c) ≡ true
 
 -- ---- one unit
 
@@ -89,7 +90,7 @@ unfolding has_request
 request_none c u = ap not (sym (none_idle (turn_at c u)))
 
 pub request_alike : (c d : Channel) (u : ℕ) → requested (turn_at c u) ≡ requested (turn_at d u) → has_request c u ≡ has_request d u
-request_alike c d u e = request_none c u ∙ ap (λ (w : Work). not (is_none w)) e ∙ sym (request_none d u)
+request_alike c d u e = request_none c u ∙ ap (λ (w : Option Op). not (is_none w)) e ∙ sym (request_none d u)
 
 busy_turn : (t : Turn) → is_idle t ≡ false → is_working t ≡ false → is_waiting t ≡ true
 busy_turn Idle i w = true_not_false refl i
@@ -139,14 +140,14 @@ module _ (m : ℕ) (frozen : Bool) (c : Channel) where
   one_of h x y p q =
       count_one_place unit_works d c.units h x y (inside x p) (inside y q) p q
 
-  works_somewhere : 1 ≤ count_of unit_works c.units → is_found (working_in c) ≡ true
-  works_somewhere h = by_test (λ t. is_found (working_in c) ≡ t → t ≡ true) (is_found (working_in c)) (λ e q. refl) (λ e q. absurd (some_place unit_works d c.units h (λ i l. fails i (is_working (turn_at c i)) refl e))) refl
+  works_somewhere : 1 ≤ count_of unit_works c.units → is_some (working_in c) ≡ true
+  works_somewhere h = by_test (λ t. is_some (working_in c) ≡ t → t ≡ true) (is_some (working_in c)) (λ e q. refl) (λ e q. absurd (some_place unit_works d c.units h (λ i l. fails i (is_working (turn_at c i)) refl e))) refl
     where
-      fails : (i : ℕ) (t : Bool) → is_working (turn_at c i) ≡ t → is_found (working_in c) ≡ false → t ≡ false
+      fails : (i : ℕ) (t : Bool) → is_working (turn_at c i) ≡ t → is_some (working_in c) ≡ false → t ≡ false
       fails i true w e = true_not_false (works_found c i w) e
       fails i false w e = refl
 
-  alive_of : works_right frozen c.units ≡ true → frozen ≡ false → (u : ℕ) → is_idle (turn_at c u) ≡ false → is_found (working_in c) ≡ true
+  alive_of : works_right frozen c.units ≡ true → frozen ≡ false → (u : ℕ) → is_idle (turn_at c u) ≡ false → is_some (working_in c) ≡ true
   alive_of h f u i = go (is_working (turn_at c u)) refl
     where
       rest : (not (any_of unit_waits c.units) || eqb (count_of unit_works c.units) 1) ≡ true
@@ -155,7 +156,7 @@ module _ (m : ℕ) (frozen : Bool) (c : Channel) where
       waits : is_waiting (turn_at c u) ≡ true → any_of unit_waits c.units ≡ true
       waits w = at_any unit_waits d c.units u (place_inside c.units d unit_waits refl u w) w
 
-      go : (t : Bool) → is_working (turn_at c u) ≡ t → is_found (working_in c) ≡ true
+      go : (t : Bool) → is_working (turn_at c u) ≡ t → is_some (working_in c) ≡ true
       go true w = works_found c u w
       go false w =
           let n : count_of unit_works c.units ≡ 1 = eqb-true (count_of unit_works c.units) 1 (unless (any_of unit_waits c.units) _ rest (waits (busy_turn (turn_at c u) i w))) in
@@ -192,10 +193,10 @@ module _ (m : ℕ) (frozen : Bool) (c : Channel) where
     most_one : count_of unit_works c.units ≤ 1
     most_one = one_place_count unit_works d c.units (λ i j l k p q. F.one i j p q)
 
-    found_count : is_found (working_in c) ≡ true → 1 ≤ count_of unit_works c.units
+    found_count : is_some (working_in c) ≡ true → 1 ≤ count_of unit_works c.units
     found_count e = go (working_in c) (working_scan c) e
       where
-        go : (w : Found) → Scanned (λ x. is_working (turn_at c x)) (size c) (begin_of (size c) 0) w → is_found w ≡ true → 1 ≤ count_of unit_works c.units
+        go : (w : Option ℕ) → Scanned (λ x. is_working (turn_at c x)) (size c) (begin_of (size c) 0) w → is_some w ≡ true → 1 ≤ count_of unit_works c.units
         go w (finds x l t f) q = count_some unit_works d c.units x l t
         go w (misses f) q = true_not_false q refl
 

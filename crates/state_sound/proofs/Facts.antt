@@ -20,8 +20,6 @@ use Rattle.channel.specs.declared.Turn.{Turn}
 use Rattle.channel.specs.declared.Turn.TheVariants.{Idle, Waiting, Displaced, Working}
 use Rattle.channel.specs.declared.Unit.{Unit}
 use Rattle.channel.specs.declared.Channel.{Channel}
-use Rattle.channel.specs.declared.Work.{Work}
-use Rattle.channel.specs.declared.Work.TheVariants.{At, Nothing}
 use Rattle.channel.specs.Units.{idle_unit, unit_at, declared_at, turn_at}
 use Rattle.file.specs.declared.File.{File}
 use Rattle.file.specs.Sizes.{closed_file}
@@ -42,6 +40,9 @@ use Rattle.routines_sound.specs.Beside.{declared_in, request_in, routines_beside
 use Rattle.state_sound.proofs.Everywhere.{by_place, all_places, from_places, place_inside, pair_places}
 use Rattle.state_sound.proofs.Apart.{buffers_swap, units_swap, apart_swap, buffers_closed, units_closed, apart_closed}
 use Rattle.state_sound.proofs.ChannelFacts.{ChannelFacts, channel_facts, mark_right, units_right, works_right_lem, no_idle, no_facts}
+use Rattle.core.specs.declared.option.Option.{Option}
+use Rattle.core.specs.declared.option.Option.TheVariants.{Some, None}
+use Rattle.channel.specs.declared.Op.{Op}
 
 -- an open file that is bound to unit u of channel c
 pub record Served (fs : List File) (c u : ℕ) : Type 0 where
@@ -99,21 +100,21 @@ from_clauses m w f o C t =
     o
 
 -- a read's file is an input file
-read_input : (x : Work) (output : Bool) → fits_output x output ≡ true → one_if (is_read x) ≤ one_if (not output)
-read_input (At Read) true h = true_not_false h refl
-read_input (At Read) false h = omega arith
-read_input (At Write) o h = omega arith
-read_input (At Mark) o h = omega arith
-read_input Nothing o h = omega arith
+read_input : (x : Option Op) (output : Bool) → fits_output x output ≡ true → one_if (is_read x) ≤ one_if (not output)
+read_input (Some Read) true h = true_not_false h refl
+read_input (Some Read) false h = omega arith
+read_input (Some Write) o h = omega arith
+read_input (Some Mark) o h = omega arith
+read_input None o h = omega arith
 
-taken_right_lem : (x : Work) (f : File) → fits_output x f.output ≡ true → eqb (taken_count f) (one_if (is_read x)) ≡ true → taken_right f ≡ true
+taken_right_lem : (x : Option Op) (f : File) → fits_output x f.output ≡ true → eqb (taken_count f) (one_if (is_read x)) ≡ true → taken_right f ≡ true
 taken_right_lem x f h e =
     let n : taken_count f ≡ one_if (is_read x) = eqb-true (taken_count f) (one_if (is_read x)) e in
     le-leb (taken_count f) (one_if (not f.output)) (omega (arith, read_input x f.output h))
 
-none_fits : (x : Work) (output : Bool) → is_none x ≡ true → fits_output x output ≡ true
-none_fits (At op) o h = true_not_false h refl
-none_fits Nothing o h = refl
+none_fits : (x : Option Op) (output : Bool) → is_none x ≡ true → fits_output x output ≡ true
+none_fits (Some op) o h = true_not_false h refl
+none_fits None o h = refl
 
 -- ---- a unit's clauses
 
@@ -356,7 +357,7 @@ module _ (s : State) where
         u : ℕ
         u = (file_at s i).unit
 
-        x : Work
+        x : Option Op
         x = request_of s.channels (file_at s i)
 
         same : (j : ℕ) → serves c u (file_at s j) ≡ true → j ≡ i
@@ -477,7 +478,7 @@ module _ (s : State) where
             at_any (λ (f : File). serves c u f && fits_output (requested (turn_at (channel_at s c) u)) f.output) closed_file s.files p.place
             (place_inside s.files closed_file (serves c u) refl p.place p.bound)
             (and_both (serves c u (file_at s p.place)) _ p.bound
-            (subst (λ (x : Work). fits_output x (file_at s p.place).output ≡ true) same (ready_way p.place o)))
+            (subst (λ (x : Option Op). fits_output x (file_at s p.place).output ≡ true) same (ready_way p.place o)))
 
         unit : (c u : ℕ) (t : Bool) → is_none (requested (turn_at (channel_at s c) u)) ≡ t → unit_fits s.files c u (unit_at (channel_at s c) u) ≡ true
         unit c u true e = or_first (is_none (requested (turn_at (channel_at s c) u))) _ e

@@ -12,8 +12,6 @@ use borrow.Author.Tests.{eqb-true, eq-eqb, not-true}
 use Rattle.area.proofs.Walks.{by_test, true_not_false, and_left, and_right, and_both, none_at}
 use Rattle.area.proofs.Bools.{both, any_at}
 use Rattle.channel.specs.declared.Channel.{Channel}
-use Rattle.channel.specs.declared.Work.{Work}
-use Rattle.channel.specs.declared.Work.TheVariants.{At, Nothing}
 use Rattle.channel.specs.Units.{declared_at, turn_at}
 use Rattle.file.specs.declared.File.{File}
 use Rattle.file.specs.Sizes.{closed_file}
@@ -38,6 +36,9 @@ use Rattle.state_sound.proofs.Everywhere.{by_place, place_inside}
 use Rattle.state_sound.proofs.Apart.{apart_swap, apart_closed}
 use Rattle.state_sound.proofs.ChannelFacts.{ChannelFacts, no_declared}
 use Rattle.state_sound.proofs.Facts.{Served, SoundFacts}
+use Rattle.core.specs.declared.option.Option.{Option}
+use Rattle.core.specs.declared.option.Option.TheVariants.{Some, None}
+use Rattle.channel.specs.declared.Op.{Op}
 
 -- what holds of the new element, and of the others as they were, holds of each
 pub at_place : {A : Type 0} (xs : List A) (i : ℕ) (a d : A) → i < length xs → (P : ℕ → A → Type 0) → P i a → ((j : ℕ) → j ≢ i → P j (get_or xs j d))
@@ -159,7 +160,7 @@ module _ (s : State) (c i : ℕ) (x : Channel) (f : File) (F : SoundFacts s) (R 
         (λ j ne o. (other_unit (file_at s j).channel (file_at s j).unit (other_file j ne o)).1 ∙ F.declared j o);
     ready = at_place s.files i f closed_file R.place (λ j g. g.opened ≡ true → file_ready (requested (turn_at (channel_in cs g.channel) g.unit)) g ≡ true)
         (λ o. ap (λ (y : Channel). file_ready (requested (turn_at y f.unit)) f) (here_channel f.channel R.channel) ∙ R.ready)
-        (λ j ne o. ap (λ (r : Work). file_ready r (file_at s j)) (other_unit (file_at s j).channel (file_at s j).unit (other_file j ne o)).0 ∙ F.ready j o);
+        (λ j ne o. ap (λ (r : Option Op). file_ready r (file_at s j)) (other_unit (file_at s j).channel (file_at s j).unit (other_file j ne o)).0 ∙ F.ready j o);
     channels = at_place s.channels c x no_channel R.line (λ n y. ChannelFacts s.m s.frozen y) R.facts (λ n ne. F.channels n);
     served = served_now;
     free = ap₂ (free_after s.free) refl (get_or-set_same s.files i f closed_file R.place) ∙ mask_now;
@@ -295,10 +296,10 @@ open_kept s i f F place shut o sound none known U =
     quiet : is_none (request_of s.channels f) ≡ false → ⊥
     quiet n = let p = F.served f.channel f.unit n in true_not_false p.bound (U.unit p.place)
 
-    idle : (r : Work) (t : Bool) → is_none r ≡ t → (is_none r ≡ false → ⊥) → file_ready r f ≡ true
+    idle : (r : Option Op) (t : Bool) → is_none r ≡ t → (is_none r ≡ false → ⊥) → file_ready r f ≡ true
     idle r false n q = absurd (q n)
-    idle (At op) true n q = absurd (q refl)
-    idle Nothing true n q = and_both (eqb (taken_count f) 0) _ (eq-eqb (taken_count f) 0 none) refl
+    idle (Some op) true n q = absurd (q refl)
+    idle None true n q = and_both (eqb (taken_count f) 0) _ (eq-eqb (taken_count f) 0 none) refl
 
 -- ---- close
 

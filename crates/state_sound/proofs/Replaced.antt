@@ -8,9 +8,7 @@ use native.Mathlib.Omega.{arith}
 use borrow.Author.Tests.{eqb-true, eq-eqb, not-true}
 use lib.Dec.{eqb}
 use lib.ListN.{length, get_or, set, replicate}
-use Rattle.area.specs.declared.Found.{Found}
-use Rattle.area.specs.declared.Found.TheVariants.{At, Nothing}
-use Rattle.area.specs.Lists.{all_of, all_pairs, along, is_found}
+use Rattle.area.specs.Lists.{all_of, all_pairs, along}
 use Rattle.area.proofs.Walks.{true_not_false, and_left, and_right, and_both, or_either, at_all, none_at}
 use Rattle.area.proofs.Firsts.{first_misses}
 use Rattle.area.proofs.Marks.{along_suc, all_set, pairs_set, pairs_alike}
@@ -25,6 +23,9 @@ use Rattle.pool.specs.Free.{file_count, held_by, is_held, is_free}
 use Rattle.pool.specs.Serving.{serves, serving_file, is_bound}
 use Rattle.state_sound.specs.Files.{share_buffer, share_unit, apart, is_blank, file_sound, files_sound}
 use Rattle.state_sound.proofs.Shares.{held_shared}
+use Rattle.core.specs.declared.option.Option.{Option}
+use Rattle.core.specs.declared.option.Option.TheVariants.{Some, None}
+use Rattle.core.specs.Option.{is_some}
 
 -- ---- a file that holds what another held
 
@@ -173,9 +174,9 @@ unbound fs c u j n l = go (serving_file fs c u) refl n
     at : along suc j 0 ≡ j
     at = along_suc j 0 ∙ omega arith
 
-    go : (x : Found) → serving_file fs c u ≡ x → is_found x ≡ false → serves c u (get_or fs j closed_file) ≡ false
-    go (At i) e k = true_not_false refl k
-    go Nothing e k =
+    go : (x : Option ℕ) → serving_file fs c u ≡ x → is_some x ≡ false → serves c u (get_or fs j closed_file) ≡ false
+    go (Some i) e k = true_not_false refl k
+    go None e k =
         ap (λ (i : ℕ). serves c u (get_or fs i closed_file)) (sym at) ∙ first_misses suc (λ i. serves c u (get_or fs i closed_file)) file_count 0 e j l
 
 pub opened_files : (m w : ℕ) (fs : List File) (i : ℕ) (q : Wish) (a b : ℕ) → length fs ≡ file_count → files_sound m w fs ≡ true → file_sound m w (opened_file q a b) ≡ true

@@ -7,7 +7,6 @@ use native.Mathlib.Decide.{ℕ_discrete}
 use lib.ListN.{length, set}
 use lib.Seq.{get_or-set_same, get_or-set_other}
 use Rattle.channel.specs.declared.Channel.{Channel}
-use Rattle.channel.specs.declared.Work.{Work}
 use Rattle.channel.specs.Units.{declared_at, turn_at, has_request}
 use Rattle.state.specs.declared.State.{State}
 use Rattle.state.specs.Places.{no_channel, channel_in, channel_at}
@@ -21,9 +20,11 @@ use Rattle.state_sound.specs.Requests.{requested, is_none}
 use Rattle.state_sound.proofs.ChannelFacts.{request_none, request_alike}
 use Rattle.state_sound.proofs.ChannelCalls.{Moved}
 use Rattle.state_sound.proofs.Facts.{SoundFacts}
+use Rattle.core.specs.declared.option.Option.{Option}
+use Rattle.channel.specs.declared.Op.{Op}
 
 -- channel c becomes x, of whose unit u w is requested afterwards; all else is as it was
-module _ (s : State) (c u : ℕ) (x : Channel) (w : Work) (F : SoundFacts s) (line : c < length s.channels) (M : Moved s.m s.frozen (channel_at s c) x u w) where
+module _ (s : State) (c u : ℕ) (x : Channel) (w : Option Op) (F : SoundFacts s) (line : c < length s.channels) (M : Moved s.m s.frozen (channel_at s c) x u w) where
   abbrev cs : List Channel
   cs = set s.channels c x
 
@@ -50,7 +51,7 @@ module _ (s : State) (c u : ℕ) (x : Channel) (w : Work) (F : SoundFacts s) (li
       go (no e) f = ap (λ (y : Channel). has_request y v) (away k e)
 
   own : request_in cs c u ≡ not (is_none w)
-  own = ap (λ (y : Channel). has_request y u) here ∙ request_none x u ∙ ap (λ (r : Work). not (is_none r)) M.here
+  own = ap (λ (y : Channel). has_request y u) here ∙ request_none x u ∙ ap (λ (r : Option Op). not (is_none r)) M.here
 
   -- an ask: what it names is right, and no routine waits at the unit
   pub asked_beside : (d : Due) → is_none w ≡ false → waits_in s.routines c u ≡ false → due_right d ≡ true

@@ -10,7 +10,6 @@ use Rattle.area.proofs.Walks.{true_not_false}
 use Rattle.channel.specs.declared.Turn.{Turn}
 use Rattle.channel.specs.declared.Turn.TheVariants.{Idle}
 use Rattle.channel.specs.declared.Channel.{Channel}
-use Rattle.channel.specs.declared.Work.{Work}
 use Rattle.channel.specs.Units.{size, at_start, declared_at, turn_at, position_at, fresh_with, bits_from, fresh_of}
 use Rattle.channel_turns.specs.Starts.{thaw_of}
 use Rattle.channel_theorems.proofs.Theorems.Turning.{mark_as}
@@ -38,6 +37,8 @@ use Rattle.state_sound.proofs.Apart.{apart_closed}
 use Rattle.state_sound.proofs.ChannelFacts.{ChannelFacts, request_alike, idle_facts, fresh_idle, fresh_stands, no_idle, no_facts}
 use Rattle.state_sound.proofs.ChannelCalls.{freeze_facts, thaw_facts, thaw_alike}
 use Rattle.state_sound.proofs.Facts.{SoundFacts, facts_sound}
+use Rattle.core.specs.declared.option.Option.{Option}
+use Rattle.channel.specs.declared.Op.{Op}
 
 -- ---- no file open, and nothing requested
 
@@ -149,7 +150,7 @@ module _ (s : State) where
     blank = F.blank;
     apart = F.apart;
     declared = λ i o. (alike (file_at s i).channel (file_at s i).unit).1 ∙ F.declared i o;
-    ready = λ i o. ap (λ (r : Work). file_ready r (file_at s i)) (alike (file_at s i).channel (file_at s i).unit).0 ∙ F.ready i o;
+    ready = λ i o. ap (λ (r : Option Op). file_ready r (file_at s i)) (alike (file_at s i).channel (file_at s i).unit).0 ∙ F.ready i o;
     channels = λ c. thawed_at (λ x y. ChannelFacts s.m s.frozen x → ChannelFacts s.m false y) (λ x. thaw_facts s.m s.frozen x) (λ f. no_facts s.m false) c (F.channels c);
     served = λ c u n. F.served c u (ap is_none (sym (alike c u).0) ∙ n);
     free = F.free;

@@ -1,7 +1,7 @@
 -- The same paragraph in the order in which the code walks: the pool, the files, each file with its unit, each channel with its units, the
 -- free mask, the routines.
 -- A theorem says that this is `sound`. Assumes nothing.
-use Rattle.std.specs.Prelude.{ℕ, Bool, true, not, ◌&&◌, ◌||◌, List, leb, ltb, eqb}
+use Rattle.std.specs.Prelude.{ℕ, Bool, true, not, ◌&&◌, ◌||◌, List, leb, ltb, eqb, Option}
 use Rattle.area.specs.Lists.{any_of, all_of, one_if}
 use Rattle.area.specs.Numbered.{all_from}
 use Rattle.channel.specs.declared.Request.{Request}
@@ -9,7 +9,6 @@ use Rattle.channel.specs.declared.Turn.{Turn}
 use Rattle.channel.specs.declared.Turn.TheVariants.{Idle, Waiting, Displaced, Working}
 use Rattle.channel.specs.declared.Unit.{Unit}
 use Rattle.channel.specs.declared.Channel.{Channel}
-use Rattle.channel.specs.declared.Work.{Work}
 use Rattle.channel.specs.Units.{size, declared_at}
 use Rattle.file.specs.declared.File.{File}
 use Rattle.file_input.specs.Delivers.{has_full}
@@ -21,11 +20,12 @@ use Rattle.state.specs.declared.State.{State}
 use Rattle.routines_sound.specs.Beside.{routines_beside}
 use Rattle.state_sound.specs.Requests.{requested, is_none, is_read, is_write, fits_output}
 use Rattle.state_sound.specs.Soundness.{channel_of, request_of, position_right, marks_right, works_right, in_limit}
+use Rattle.channel.specs.declared.Op.{Op}
 
 -- ---- a file with its unit
 
 -- ready for what is requested of it: the direction, the buffer that a read alone has taken, a write's full block
-unfoldable pub file_ready : Work → File → Bool
+unfoldable pub file_ready : Option Op → File → Bool
 file_ready x f = fits_output x f.output && (eqb (taken_count f) (one_if (is_read x)) && (not (is_write x) || has_full f))
 
 unfoldable pub file_fits : List Channel → File → Bool

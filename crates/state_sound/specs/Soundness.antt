@@ -1,6 +1,6 @@
 -- "A state passed back by the caller is sound if ..": that paragraph of document 01, a conjunct for each clause, in its order, the mask of
 -- the free buffers, and the special routines. Assumes nothing.
-use Rattle.std.specs.Prelude.{ℕ, Bool, true, not, cond, ◌&&◌, ◌||◌, List, leb, ltb, eqb}
+use Rattle.std.specs.Prelude.{ℕ, Bool, true, not, cond, ◌&&◌, ◌||◌, List, leb, ltb, eqb, Option}
 use Rattle.area.specs.Lists.{any_of, all_of, all_pairs, count_of, one_if}
 use Rattle.area.specs.Numbered.{all_from}
 use Rattle.channel.specs.declared.Position.{Position}
@@ -9,7 +9,6 @@ use Rattle.channel.specs.declared.Turn.{Turn}
 use Rattle.channel.specs.declared.Turn.TheVariants.{Idle, Waiting, Displaced, Working}
 use Rattle.channel.specs.declared.Unit.{Unit}
 use Rattle.channel.specs.declared.Channel.{Channel}
-use Rattle.channel.specs.declared.Work.{Work}
 use Rattle.channel_outcomes.specs.Positions.{most_passed}
 use Rattle.channel_outcomes.specs.Rules.{row_of}
 use Rattle.channel.specs.Units.{unit_works, size, declared_at, turn_at}
@@ -23,6 +22,7 @@ use Rattle.state.specs.declared.State.{State}
 use Rattle.state.specs.Places.{channel_in}
 use Rattle.routines_sound.specs.Beside.{routines_beside}
 use Rattle.state_sound.specs.Requests.{requested, is_none, is_read, is_write, fits_output, is_waiting}
+use Rattle.channel.specs.declared.Op.{Op}
 
 -- ---- what the clauses speak of
 
@@ -34,7 +34,7 @@ if_open f right = not f.opened || right
 abbrev pub channel_of : List Channel → File → Channel
 channel_of cs f = channel_in cs f.channel
 
-abbrev pub request_of : List Channel → File → Work
+abbrev pub request_of : List Channel → File → Option Op
 request_of cs f = requested (turn_at (channel_of cs f) f.unit)
 
 -- ---- "its numbers are in the ranges here"

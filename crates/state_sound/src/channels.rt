@@ -10,7 +10,7 @@ ghost use Rattle.area.specs.Numbered.{all_from};
 ghost use Rattle.pool.specs.Serving.{serves as servesUnit};
 
 use crate::files::taken_count;
-use channel::{Channel, Op, Position, Request, Turn, UNITS, Unit, Work, is_declared, turn_of};
+use channel::{Channel, Op, Position, Request, Turn, UNITS, Unit, is_declared, turn_of};
 use channel_outcomes::{MOST_PASSED, attempt_limit, noise_limit};
 use file::File;
 use file_input::has_full;
@@ -18,43 +18,43 @@ use pool::{FILES, serves};
 use state::{CHANNELS, channel_in};
 
 // The operation of a unit's request, whether it is worked for or waits.
-fn requested(t: Turn) -> Work
+fn requested(t: Turn) -> Option<Op>
     ensures { result ≡ requestedOf t }
 {
     match t {
-        Turn::Idle => Work::Nothing,
-        Turn::Waiting(q) | Turn::Displaced(q) | Turn::Working(q) => Work::At(q.op),
+        Turn::Idle => None,
+        Turn::Waiting(q) | Turn::Displaced(q) | Turn::Working(q) => Some(q.op),
     }
 }
 
-fn is_none(x: Work) -> bool
+fn is_none(x: Option<Op>) -> bool
     ensures { result ≡ is_none x }
 {
-    matches!(x, Work::Nothing)
+    matches!(x, None)
 }
 
 // Whether a read is requested.
-fn is_read(x: Work) -> bool
+fn is_read(x: Option<Op>) -> bool
     ensures { result ≡ is_read x }
 {
-    matches!(x, Work::At(Op::Read))
+    matches!(x, Some(Op::Read))
 }
 
 // Whether a write is requested.
-fn is_write(x: Work) -> bool
+fn is_write(x: Option<Op>) -> bool
     ensures { result ≡ is_write x }
 {
-    matches!(x, Work::At(Op::Write))
+    matches!(x, Some(Op::Write))
 }
 
 // Whether what is requested, if anything is, fits the direction of a file: a read an input file, a write or a mark an output file.
-fn fits_output(x: Work, output: bool) -> bool
+fn fits_output(x: Option<Op>, output: bool) -> bool
     ensures { result ≡ fits_output x output }
 {
     match x {
-        Work::At(Op::Read) => !output,
-        Work::At(Op::Write | Op::Mark) => output,
-        Work::Nothing => true,
+        Some(Op::Read) => !output,
+        Some(Op::Write | Op::Mark) => output,
+        None => true,
     }
 }
 
@@ -152,7 +152,7 @@ fn unit_right(m: u8, x: Unit) -> bool
 }
 
 // Whether the file is ready for what is requested of it: the direction, the buffer that a read alone has taken, a write's full block.
-fn file_ready(x: Work, f: File) -> bool
+fn file_ready(x: Option<Op>, f: File) -> bool
     ensures { result ≡ file_ready x f }
 {
     let way = fits_output(x, f.output);

@@ -8,9 +8,6 @@ use native.Mathlib.Decide.{ℕ_discrete}
 use native.Mathlib.Omega.{arith}
 use lib.Dec.{eqb}
 use borrow.Author.Tests.{eq-eqb, ne_eqb}
-use Rattle.area.specs.declared.Found.{Found}
-use Rattle.area.specs.declared.Found.TheVariants.{At, Nothing}
-use Rattle.area.specs.Lists.{is_found}
 use Rattle.area.proofs.Walks.{true_not_false}
 use Rattle.area.proofs.Marks.{cond_true, cond_false}
 use Rattle.channel.specs.declared.Op.{Op}
@@ -33,6 +30,9 @@ use Rattle.channel_theorems.proofs.Theorems.Turning.{wants_priority, wants_turn,
 use Rattle.channel_theorems.proofs.Theorems.Starts.{Started, is_frozen, is_busy, is_quiet, begins, started, works_found, urgent_found}
 use Rattle.channel_theorems.proofs.Theorems.Calls.{ended_at, ended_mark, Took, refuses, asks}
 use Rattle.channel_theorems.proofs.Theorems.Sound.{OneWorks}
+use Rattle.core.specs.declared.option.Option.{Option as OptionOf}
+use Rattle.core.specs.declared.option.Option.TheVariants.{Some, None}
+use Rattle.core.specs.Option.{is_some}
 
 -- ---- what each unit holds
 
@@ -157,14 +157,14 @@ begun_ordinary (Displaced q) e = (refl, refl)
 begun_ordinary (Working q) e = (refl, refl)
 
 module _ (c : Channel) (quiet : Quiet c) where
-  pub none_works : working_in c ≡ Nothing
+  pub none_works : working_in c ≡ None
   none_works = scan_unique (working_scan c) (misses (λ y l. quiet y))
 
   -- a start of that unit
-  begins_at : (y : ℕ) → At y ≡ next_turn c → is_working (begun_turn (turn_at c y)) ≡ true → is_idle (turn_at c y) ≡ false
+  begins_at : (y : ℕ) → Some y ≡ next_turn c → is_working (begun_turn (turn_at c y)) ≡ true → is_idle (turn_at c y) ≡ false
       → is_working (turn_at (start_of c false) y) ≡ true
   begins_at y e w i =
-      ap (λ (d : Channel). is_working (turn_at d y)) (start_begins c false false (sym (ap is_found none_works)) refl (At y) e)
+      ap (λ (d : Channel). is_working (turn_at d y)) (start_begins c false false (sym (ap is_some none_works)) refl (Some y) e)
       ∙ at_set c y (begun_turn (turn_at c y)) (busy_inside c y i) (λ z k. z ≡ y → is_working k.turn ≡ true) (λ q. w) (λ z ne q. absurd (ne q)) y refl
 
   -- "Priority requests are now scanned as ordinary ones are"
@@ -176,7 +176,7 @@ module _ (c : Channel) (quiet : Quiet c) where
       let b = begun_urgent (turn_at c y) u in
       let l = busy_inside c y b.1 in
       begins_at y
-      (ap (λ (f : Found). or_else f (ordinary_in c))
+      (ap (λ (f : OptionOf ℕ). or_else f (ordinary_in c))
       (scan_unique (finds y l (wants_priority_lem (turn_at c y) (quiet y) ∙ u) (λ z k o. not_urgent (turn_at c z) (first z k o))) (priority_scan c)))
       b.0 b.1
 
@@ -188,10 +188,10 @@ module _ (c : Channel) (quiet : Quiet c) where
   start_ordinary none-urgent y u first =
       let b = begun_ordinary (turn_at c y) u in
       let l = busy_inside c y b.1 in
-      let p : Nothing ≡ priority_in c = scan_unique (misses (λ z k. not_urgent (turn_at c z) (none-urgent z))) (priority_scan c) in
-      let o : At y ≡ ordinary_in c =
+      let p : None ≡ priority_in c = scan_unique (misses (λ z k. not_urgent (turn_at c z) (none-urgent z))) (priority_scan c) in
+      let o : Some y ≡ ordinary_in c =
       scan_unique (finds y l (wants_turn_lem (turn_at c y) (quiet y) ∙ u) (λ z k q. wants_turn_lem (turn_at c z) (quiet z) ∙ first z k q)) (ordinary_scan c) in
-      begins_at y (o ∙ ap (λ (f : Found). or_else f (ordinary_in c)) p) b.0 b.1
+      begins_at y (o ∙ ap (λ (f : OptionOf ℕ). or_else f (ordinary_in c)) p) b.0 b.1
 
 -- a channel that works, or that is frozen, starts nothing
 pub start_busy : (c : Channel) (f : Bool) (x : ℕ) → is_working (turn_at c x) ≡ true → start_of c f ≡ c
@@ -202,7 +202,7 @@ start_busy c f x w = start_stays c f true (sym (works_found c x w)) (either f)
     either false = refl
 
 pub start_frozen : (c : Channel) → start_of c true ≡ c
-start_frozen c = start_stays c true (is_found (working_in c)) refl refl
+start_frozen c = start_stays c true (is_some (working_in c)) refl refl
 
 -- ---- an operation that is repeated: it goes on, or is set aside
 
@@ -240,9 +240,9 @@ module _ (c : Channel) (u : ℕ) (r q : Request) (at : turn_at c u ≡ Working r
   -- "else the incomplete operation continues"
   pub onward_alone : ((y : ℕ) → y ≢ u → urgent_held (held (turn_at c y)) ≡ false) → is_working (turn_at (repeat_of c u q false) u) ≡ true
   unfolding goes_on
-  onward_alone quiet = onward_by (ap (λ (f : Found). q.priority || not (is_found f)) no_one ∙ either q.priority)
+  onward_alone quiet = onward_by (ap (λ (f : OptionOf ℕ). q.priority || not (is_some f)) no_one ∙ either q.priority)
     where
-      no_one : priority_in c ≡ Nothing
+      no_one : priority_in c ≡ None
       no_one = scan_unique (priority_scan c) (misses (λ y l. go y (ℕ_discrete y u)))
         where
           go : (y : ℕ) → Dec (y ≡ u) → wants_priority (turn_at c y) ≡ false
@@ -258,7 +258,7 @@ module _ (c : Channel) (u : ℕ) (r q : Request) (at : turn_at c u ≡ Working r
       → repeat_of c u q false ≡ start_of (with_unit c u (Displaced q) stands) false
   unfolding repeat_of goes_on
   set_aside p y w =
-      ap (λ (b : Bool). start_of (with_unit c u (incomplete_turn (b || not (is_found (priority_in c))) q) stands) false) p
+      ap (λ (b : Bool). start_of (with_unit c u (incomplete_turn (b || not (is_some (priority_in c))) q) stands) false) p
       ∙ ap (λ (b : Bool). start_of (with_unit c u (incomplete_turn (not b) q) stands) false) (urgent_found c y w)
 
 -- ---- who works
@@ -267,24 +267,24 @@ pub record Busy (c : Channel) : Type 0 where
   pub unit : ℕ
   pub works : is_working (turn_at c unit) ≡ true
 
-pub found_busy : (c : Channel) → is_found (working_in c) ≡ true → Busy c
+pub found_busy : (c : Channel) → is_some (working_in c) ≡ true → Busy c
 found_busy c e = go (working_in c) (working_scan c) e
   where
-    go : (f : Found) → Scanned (λ x. is_working (turn_at c x)) (size c) (begin_of (size c) 0) f → is_found f ≡ true → Busy c
+    go : (f : OptionOf ℕ) → Scanned (λ x. is_working (turn_at c x)) (size c) (begin_of (size c) 0) f → is_some f ≡ true → Busy c
     go f (finds x l t g) e = record { unit = x; works = t }
     go f (misses g) e = true_not_false e refl
 
 pub quiet_or_busy : (c : Channel) → Quiet c ⊎ Busy c
 quiet_or_busy c = go (working_in c) (working_scan c)
   where
-    go : (f : Found) → Scanned (λ x. is_working (turn_at c x)) (size c) (begin_of (size c) 0) f → Quiet c ⊎ Busy c
+    go : (f : OptionOf ℕ) → Scanned (λ x. is_working (turn_at c x)) (size c) (begin_of (size c) 0) f → Quiet c ⊎ Busy c
     go f (finds x l t g) = inr (record { unit = x; works = t })
     go f (misses g) = inl (everywhere c (λ (k : Unit). is_working k.turn) refl g)
 
 -- the one unit that works is the one found
-pub working_at : (c : Channel) → OneWorks c → (u : ℕ) → is_working (turn_at c u) ≡ true → working_in c ≡ At u
+pub working_at : (c : Channel) → OneWorks c → (u : ℕ) → is_working (turn_at c u) ≡ true → working_in c ≡ Some u
 working_at c one u w = go (working_in c) (working_scan c)
   where
-    go : (f : Found) → Scanned (λ x. is_working (turn_at c x)) (size c) (begin_of (size c) 0) f → f ≡ At u
-    go f (finds x l t g) = ap At (one x u t w)
+    go : (f : OptionOf ℕ) → Scanned (λ x. is_working (turn_at c x)) (size c) (begin_of (size c) 0) f → f ≡ Some u
+    go f (finds x l t g) = ap Some (one x u t w)
     go f (misses g) = true_not_false w (everywhere c (λ (k : Unit). is_working k.turn) refl g u)

@@ -15,8 +15,6 @@ use Rattle.channel.specs.declared.Request.{Request}
 use Rattle.channel.specs.declared.Turn.{Turn}
 use Rattle.channel.specs.declared.Turn.TheVariants.{Idle, Waiting}
 use Rattle.channel.specs.declared.Channel.{Channel}
-use Rattle.channel.specs.declared.Work.{Work}
-use Rattle.channel.specs.declared.Work.TheVariants.{At, Nothing}
 use Rattle.channel_outcomes.specs.declared.Ending.{Ending}
 use Rattle.channel_outcomes.specs.declared.Ending.TheVariants.{Good, Opposite, MarkRead, MediumEnd, LostRedundancy, LostIncomplete}
 use Rattle.channel_outcomes.specs.Positions.{most_passed, one_more, record_passed, mark_passed, position_after, noted_by}
@@ -27,6 +25,8 @@ use Rattle.channel_theorems.specs.History.{Station, ask, Step}
 use Rattle.channel_theorems.proofs.Theorems.Turning.{at_set, declared_inside}
 use Rattle.channel_theorems.proofs.Theorems.Starts.{Started, is_frozen, is_busy, is_quiet, begins, started}
 use Rattle.channel_theorems.proofs.Theorems.Calls.{ended_at, Took, refuses, asks}
+use Rattle.core.specs.declared.option.Option.{Option}
+use Rattle.core.specs.declared.option.Option.TheVariants.{Some, None}
 
 -- ---- "each held at 32,767"
 
@@ -45,7 +45,7 @@ mark_held : (p : Position) → Held p → Held (mark_passed p)
 unfolding mark_passed
 mark_held p h = record { marks = one_held_lem p.marks; records = omega arith }
 
-op_held_lem : (op : Op) (e : Ending) (p : Position) → Held p → Held (position_after (At op) e p)
+op_held_lem : (op : Op) (e : Ending) (p : Position) → Held p → Held (position_after (Some op) e p)
 op_held_lem Read Good p h = record_held p h
 op_held_lem Read Opposite p h = record_held p h
 op_held_lem Read MarkRead p h = mark_held p h
@@ -65,9 +65,9 @@ op_held_lem Mark MediumEnd p h = mark_held p h
 op_held_lem Mark LostRedundancy p h = h
 op_held_lem Mark LostIncomplete p h = h
 
-pub after_held_lem : (x : Work) (e : Ending) (p : Position) → Held p → Held (position_after x e p)
-after_held_lem (At op) e p h = op_held_lem op e p h
-after_held_lem Nothing e p h = h
+pub after_held_lem : (x : Option Op) (e : Ending) (p : Position) → Held p → Held (position_after x e p)
+after_held_lem (Some op) e p h = op_held_lem op e p h
+after_held_lem None e p h = h
 
 pub noted_held : (p : Position) (q : Request) → Held p → Held (noted_by p q)
 unfolding noted_by

@@ -7,8 +7,6 @@ use Prim.Native.Nat.{ℕ, zero, suc, ◌+◌, ◌-◌, ◌≤◌, ◌<◌}
 use native.Mathlib.Decide.{dec_lt}
 use native.Mathlib.Omega.{arith}
 use Rattle.area.specs.Lists.{first_along, along}
-use Rattle.area.specs.declared.Found.{Found}
-use Rattle.area.specs.declared.Found.TheVariants.{At, Nothing}
 use Rattle.area.proofs.Walks.{true_not_false}
 use Rattle.area.proofs.Firsts.{First, first_finds, first_misses}
 use Rattle.channel.specs.declared.Channel.{Channel}
@@ -16,6 +14,8 @@ use Rattle.channel.specs.Units.{size}
 use Rattle.channel_turns.specs.Scans.{next_unit, begin_of, stands, scan_from, Before, upward, unwrapped, wrapped, Scanned, finds, misses}
 use Rattle.channel_turns.proofs.Laws.Scans.{begin_below}
 use Rattle.channel_theorems.proofs.Theorems.Order.{Next, above, round, next_is, Compared, same, first, later, compare_before}
+use Rattle.core.specs.declared.option.Option.{Option}
+use Rattle.core.specs.declared.option.Option.TheVariants.{Some, None}
 
 -- x is the j-th unit of a scan of n that begins at b
 data Place (n b j x : ℕ) : Type 0 where
@@ -83,8 +83,8 @@ comes_before n b x y l j h e i m o = go (along_place n j b l h) (along_place n i
 pub along_scans : (test : ℕ → Bool) (n b : ℕ) → (0 < n → b < n) → Scanned test n b (first_along (next_unit n) test n b)
 along_scans test n b starts = go (first_along (next_unit n) test n b) refl
   where
-    go : (f : Found) → first_along (next_unit n) test n b ≡ f → Scanned test n b f
-    go (At x) e = finds x within f.passes (λ y m o. passed y m o (comes n b y l m))
+    go : (f : Option ℕ) → first_along (next_unit n) test n b ≡ f → Scanned test n b f
+    go (Some x) e = finds x within f.passes (λ y m o. passed y m o (comes n b y l m))
       where
         f : First (next_unit n) test n b x
         f = first_finds (next_unit n) test n b x e
@@ -101,7 +101,7 @@ along_scans test n b starts = go (first_along (next_unit n) test n b) refl
 
         passed : (y : ℕ) → y < n → Before b x y → Comes n b y → test y ≡ false
         passed y m o i = ap test (sym i.there) ∙ f.before i.place (comes_before n b x y l f.steps f.among f.reached i m o)
-    go Nothing e = misses (λ y m. none y m (comes n b y (starts (omega arith)) m))
+    go None e = misses (λ y m. none y m (comes n b y (starts (omega arith)) m))
       where
         none : (y : ℕ) → y < n → Comes n b y → test y ≡ false
         none y m i = ap test (sym i.there) ∙ first_misses (next_unit n) test n b e i.place i.among
@@ -112,11 +112,11 @@ unfolding scan_from
 scan_is c want mark = along_scans (stands c want) (size c) (begin_of (size c) mark) (λ h. begin_below (size c) mark h)
 
 -- two answers that both meet the statement are one
-pub scan_unique : {test : ℕ → Bool} {n b : ℕ} {f g : Found} → Scanned test n b f → Scanned test n b g → f ≡ g
+pub scan_unique : {test : ℕ → Bool} {n b : ℕ} {f g : Option ℕ} → Scanned test n b f → Scanned test n b g → f ≡ g
 scan_unique {test} {n} {b} {f} {g} (finds x h e p) (finds y k i q) = go (compare_before b x y)
   where
-    go : Compared b x y → At x ≡ At y
-    go (same w) = ap At w
+    go : Compared b x y → Some x ≡ Some y
+    go (same w) = ap Some w
     go (first w) = true_not_false e (q x h w)
     go (later w) = true_not_false i (p y k w)
 scan_unique (finds x h e p) (misses q) = true_not_false e (q x h)
@@ -124,6 +124,6 @@ scan_unique (misses p) (finds y k i q) = true_not_false i (p y k)
 scan_unique (misses p) (misses q) = refl
 
 -- the same of another test that is everywhere the same
-pub scanned_as : {test other : ℕ → Bool} {n b : ℕ} {f : Found} → ((x : ℕ) → test x ≡ other x) → Scanned test n b f → Scanned other n b f
+pub scanned_as : {test other : ℕ → Bool} {n b : ℕ} {f : Option ℕ} → ((x : ℕ) → test x ≡ other x) → Scanned test n b f → Scanned other n b f
 scanned_as alike (finds x h e p) = finds x h (sym (alike x) ∙ e) (λ y k o. sym (alike y) ∙ p y k o)
 scanned_as alike (misses p) = misses (λ y k. sym (alike y) ∙ p y k)

@@ -3,7 +3,6 @@ use mathlib.Core.Path.{◌≡◌, refl, sym, subst}
 use mathlib.Core.Logic.{◌≢◌}
 use mathlib.Core.Bool.{Bool, true, false, not, cond, ◌||◌}
 use Prim.Native.Nat.{ℕ, ◌<◌}
-use Rattle.area.specs.declared.Found.{Found}
 use Rattle.area.proofs.Walks.{true_not_false}
 use Rattle.channel.specs.declared.Request.{Request}
 use Rattle.channel.specs.declared.Turn.{Turn}
@@ -12,11 +11,12 @@ use Rattle.channel.specs.declared.Unit.{Unit}
 use Rattle.channel.specs.declared.Channel.{Channel}
 use Rattle.channel.specs.Units.{size, turn_at, with_turn, is_idle, is_working}
 use Rattle.channel_turns.specs.Scans.{priority, begin_of, working_in, priority_in, ordinary_in, or_else, next_turn, Before, Scanned, finds, misses}
-use Rattle.area.specs.Lists.{is_found}
 use Rattle.channel_turns.specs.Turns.{is_ordinary, holds_priority}
 use Rattle.channel_turns.specs.Starts.{begun_turn, begun_at, start_of}
 use Rattle.channel_theorems.proofs.Theorems.Order.{Compared, same, first, later, compare_before}
 use Rattle.channel_theorems.proofs.Theorems.Turning.{wants_priority, wants_turn, works_turn, held_as, wants_as, works_as, held, begin_as, working_scan, priority_scan, ordinary_scan, at_set, everywhere, busy_inside}
+use Rattle.core.specs.declared.option.Option.{Option}
+use Rattle.core.specs.Option.{is_some}
 
 -- ---- a start
 
@@ -157,11 +157,11 @@ started c frozen = go frozen (working_in c) (priority_in c) (ordinary_in c) refl
             compared y w ne (first i) = i
             compared y w ne (later i) = true_not_false w (g y (busy_inside c y (turn_begins k (turn_at c y) w).busy) i)
 
-    go : (b : Bool) (w p o : Found) → frozen ≡ b
+    go : (b : Bool) (w p o : Option ℕ) → frozen ≡ b
         → Scanned (λ x. is_working (turn_at c x)) (size c) (begin_of (size c) 0) w
         → Scanned (λ x. wants_priority (turn_at c x)) (size c) (begin_as true c) p
         → Scanned (λ x. wants_turn (turn_at c x)) (size c) (begin_as false c) o
-        → Started c frozen (cond (b || is_found w) c (begun_at c (or_else p o)))
+        → Started c frozen (cond (b || is_some w) c (begun_at c (or_else p o)))
     go true w p o e i j k = is_frozen e
     go false w p o e (finds x l t f) j k = is_busy x t
     go false w p o e (misses f) (finds x l t g) k =
@@ -173,23 +173,23 @@ started c frozen = go frozen (working_in c) (priority_in c) (ordinary_in c) refl
 
 -- ---- the channel works for a unit exactly if the scan for it finds one
 
-pub works_found : (c : Channel) (x : ℕ) → is_working (turn_at c x) ≡ true → is_found (working_in c) ≡ true
+pub works_found : (c : Channel) (x : ℕ) → is_working (turn_at c x) ≡ true → is_some (working_in c) ≡ true
 works_found c x e = go (working_in c) (working_scan c)
   where
-    go : (w : Found) → Scanned (λ y. is_working (turn_at c y)) (size c) (begin_of (size c) 0) w → is_found w ≡ true
+    go : (w : Option ℕ) → Scanned (λ y. is_working (turn_at c y)) (size c) (begin_of (size c) 0) w → is_some w ≡ true
     go w (finds y l t f) = refl
     go w (misses f) = true_not_false e (everywhere c (λ (k : Unit). is_working k.turn) refl f x)
 
 -- and a priority request waits exactly if the scan for them finds one
-pub urgent_found : (c : Channel) (x : ℕ) → wants_priority (turn_at c x) ≡ true → is_found (priority_in c) ≡ true
+pub urgent_found : (c : Channel) (x : ℕ) → wants_priority (turn_at c x) ≡ true → is_some (priority_in c) ≡ true
 urgent_found c x e = go (priority_in c) (priority_scan c)
   where
-    go : (w : Found) → Scanned (λ y. wants_priority (turn_at c y)) (size c) (begin_as true c) w → is_found w ≡ true
+    go : (w : Option ℕ) → Scanned (λ y. wants_priority (turn_at c y)) (size c) (begin_as true c) w → is_some w ≡ true
     go w (finds y l t f) = refl
     go w (misses f) = true_not_false e (everywhere c (λ (k : Unit). wants_priority k.turn) refl f x)
 
 -- after a start, a unit that holds a request sees the channel working or frozen
-pub start_alive : (c : Channel) (frozen : Bool) (d : Channel) (u : ℕ) → Started c frozen d → is_idle (turn_at d u) ≡ false → (frozen || is_found (working_in d)) ≡ true
+pub start_alive : (c : Channel) (frozen : Bool) (d : Channel) (u : ℕ) → Started c frozen d → is_idle (turn_at d u) ≡ false → (frozen || is_some (working_in d)) ≡ true
 start_alive c frozen d u (is_frozen e) i = rw e
 start_alive c frozen d u (is_busy x e) i = or_found frozen (works_found c x e)
   where

@@ -7,7 +7,7 @@ use mathlib.Core.Option.{none, some}
 use Prim.Native.Nat.{ℕ, ◌+◌, ◌≤◌, ◌<◌}
 use native.Mathlib.Decide.{ℕ_discrete}
 use native.Mathlib.Omega.{arith}
-use Rattle.area.specs.Lists.{one_if, is_found}
+use Rattle.area.specs.Lists.{one_if}
 use Rattle.area.proofs.Walks.{true_not_false}
 use Rattle.channel.specs.declared.Position.{Position}
 use Rattle.channel.specs.declared.Request.{Request}
@@ -27,6 +27,7 @@ use Rattle.channel_theorems.proofs.Theorems.Sound.{reports_most, Again, verdict_
 use Rattle.channel_theorems.proofs.Theorems.Race.{Race, race_start, race_set, race_marks, race_ended, also, also_same, also_other}
 use Rattle.channel_theorems.proofs.Theorems.Budget.{left, budget, budget_at, budget_start, urgent_asked, urgent_again, urgent_ended, urgent_past}
 use Rattle.channel_theorems.proofs.Theorems.Raced.{budget_marks}
+use Rattle.core.specs.Option.{is_some}
 
 -- ---- while a priority request waits no ordinary operation begins, so the one at work, if any, is the last
 
@@ -85,7 +86,7 @@ unfolding urgent_after with_unit
 mark_stays c x stood r i p = rw (i, p)
 
 -- "a waiting priority request starts, displacing an incomplete ordinary one"
-set_aside : (c : Channel) (q : Request) (frozen : Bool) → q.priority ≡ false → is_found (priority_in c) ≡ true → goes_on c q.priority frozen ≡ false
+set_aside : (c : Channel) (q : Request) (frozen : Bool) → q.priority ≡ false → is_some (priority_in c) ≡ true → goes_on c q.priority frozen ≡ false
 unfolding goes_on
 set_aside c q frozen p f = rw (p, f) (and-false (not frozen))
 
@@ -136,7 +137,7 @@ urged n u D b s e o k h v (repeats x oc len r q t stood i j m stands) a = go r.p
     other : r.priority ≡ false → x ≢ u
     other p y = true_not_false h.mine (rw (← y) (ap holds_priority i ∙ p))
 
-    waits : r.priority ≡ false → is_found (priority_in c) ≡ true
+    waits : r.priority ≡ false → is_some (priority_in c) ≡ true
     waits p = urgent_found c u (turn_wants true (turn_at c u) h.mine (rests (is_working (turn_at c u)) refl))
       where
         rests : (b : Bool) → is_working (turn_at c u) ≡ b → b ≡ false

@@ -9,9 +9,7 @@ use lib.Dec.{eqb, ltb}
 use lib.ListN.{get_or, set, length-set}
 use lib.Seq.{get_or-set_same, get_or-set_other, set-get_or}
 use borrow.Author.Tests.{eqb-true, eqb-false, eq-eqb, ne_eqb, ltb-true, ltb-false}
-use Rattle.area.specs.declared.Found.{Found}
-use Rattle.area.specs.declared.Found.TheVariants.{At, Nothing}
-use Rattle.area.specs.Lists.{is_found, first_along, along}
+use Rattle.area.specs.Lists.{first_along, along}
 use Rattle.area.specs.Masks.{bit_at}
 use Rattle.area.proofs.Walks.{by_test, true_not_false, or_right}
 use Rattle.area.proofs.Firsts.{first_finds, first_misses}
@@ -38,6 +36,9 @@ use Rattle.channel_turns.specs.Turns.{goes_on, incomplete_turn, repeat_of, is_or
 use Rattle.channel_turns.specs.Desks.{desk_bits, stand_mask, desk_of, scan_of, work_on, urged_on, next_on, starts_on, works_after, with_bit, seated_at, marked_at, moved_on, still_on, ask_move, goes_on_at, repeat_move, end_move, book_move, moved_to}
 use Rattle.channel_turns.proofs.Laws.Scans.{next_up, begin_here, scan_below}
 use Rattle.channel_turns.proofs.Laws.Masks.{Passed, passed_all, scan_bits}
+use Rattle.core.specs.declared.option.Option.{Option}
+use Rattle.core.specs.declared.option.Option.TheVariants.{Some, None}
+use Rattle.core.specs.Option.{is_some}
 
 -- ---- a unit that stands otherwise
 
@@ -96,9 +97,9 @@ module _ (c : Channel) (some : 0 < size c) (few : size c ≤ desk_bits) where
   -- a start is a start by the desk
   pub start_desk : (frozen : Bool) → start_of c frozen ≡ begun_at c (starts_on (size c) (desk_of c) frozen)
   unfolding start_of starts_on
-  start_desk frozen = rw (← work_desk, ← next_desk) (go (frozen || is_found (working_in c)))
+  start_desk frozen = rw (← work_desk, ← next_desk) (go (frozen || is_some (working_in c)))
     where
-      go : (b : Bool) → cond b c (begun_at c (next_turn c)) ≡ begun_at c (cond b Nothing (next_turn c))
+      go : (b : Bool) → cond b c (begun_at c (next_turn c)) ≡ begun_at c (cond b None (next_turn c))
       go true = refl
       go false = refl
 
@@ -165,32 +166,32 @@ begun_stands (Displaced q) h = refl
 begun_stands (Working q) h = refl
 
 -- what waits is found by one of the scans
-turn_waits : (c : Channel) (s : ℕ) → next_turn c ≡ At s → (standing_of (turn_at c s) ≡ idle → ⊥)
+turn_waits : (c : Channel) (s : ℕ) → next_turn c ≡ Some s → (standing_of (turn_at c s) ≡ idle → ⊥)
 unfolding next_turn priority_in ordinary_in scan_from
 turn_waits c s e idles = go (priority_in c) refl
   where
     none : (want : ℕ) → 0 < want → stands c want s ≡ true → ⊥
     none want some t = let same : standing_of (turn_at c s) ≡ want = eqb-true (standing_of (turn_at c s)) want t in omega arith
 
-    go : (x : Found) → priority_in c ≡ x → ⊥
-    go (At u) q =
-        let at : At u ≡ At s = sym (ap (λ (y : Found). or_else y (ordinary_in c)) q) ∙ e in
+    go : (x : Option ℕ) → priority_in c ≡ x → ⊥
+    go (Some u) q =
+        let at : Some u ≡ Some s = sym (ap (λ (y : Option ℕ). or_else y (ordinary_in c)) q) ∙ e in
         none priority (omega arith) (first_finds (next_unit (size c)) (stands c priority) (size c) (begin_of (size c) c.urgent) s (q ∙ at)).passes
-    go Nothing q =
-        let at : ordinary_in c ≡ At s = sym (ap (λ (y : Found). or_else y (ordinary_in c)) q) ∙ e in
+    go None q =
+        let at : ordinary_in c ≡ Some s = sym (ap (λ (y : Option ℕ). or_else y (ordinary_in c)) q) ∙ e in
         none ordinary (omega arith) (first_finds (next_unit (size c)) (stands c ordinary) (size c) (begin_of (size c) c.mark) s at).passes
 
-turn_below : (c : Channel) (s : ℕ) → 0 < size c → next_turn c ≡ At s → s < size c
+turn_below : (c : Channel) (s : ℕ) → 0 < size c → next_turn c ≡ Some s → s < size c
 unfolding next_turn priority_in ordinary_in
 turn_below c s some e = go (priority_in c) refl
   where
-    go : (x : Found) → priority_in c ≡ x → s < size c
-    go (At u) q = scan_below c priority c.urgent s some (q ∙ sym (ap (λ (y : Found). or_else y (ordinary_in c)) q) ∙ e)
-    go Nothing q = scan_below c ordinary c.mark s some (sym (ap (λ (y : Found). or_else y (ordinary_in c)) q) ∙ e)
+    go : (x : Option ℕ) → priority_in c ≡ x → s < size c
+    go (Some u) q = scan_below c priority c.urgent s some (q ∙ sym (ap (λ (y : Option ℕ). or_else y (ordinary_in c)) q) ∙ e)
+    go None q = scan_below c ordinary c.mark s some (sym (ap (λ (y : Option ℕ). or_else y (ordinary_in c)) q) ∙ e)
 
 -- the one that begins on an idle channel is the one that is worked for
-begun_works : (c : Channel) (s : ℕ) → s < size c → working_in c ≡ Nothing → (standing_of (turn_at c s) ≡ idle → ⊥)
-    → working_in (with_turn c s (begun_turn (turn_at c s))) ≡ At s
+begun_works : (c : Channel) (s : ℕ) → s < size c → working_in c ≡ None → (standing_of (turn_at c s) ≡ idle → ⊥)
+    → working_in (with_turn c s (begun_turn (turn_at c s))) ≡ Some s
 unfolding working_in scan_from
 begun_works c s among none waits = rw (size_moved c s (begun_turn (turn_at c s)) (position_at c s)) (go (first_along next there n start) refl)
   where
@@ -220,12 +221,12 @@ begun_works c s among none waits = rw (size_moved c s (begun_turn (turn_at c s))
         by_test (λ e. eqb s p ≡ e → p ≡ s) (eqb s p) (λ e k. sym (eqb-true s p k))
         (λ e k. true_not_false t (stands_moved c s working p (begun_turn (turn_at c s)) (position_at c s) among ∙ ap (λ (b : Bool). cond b (eqb (standing_of (begun_turn (turn_at c s))) working) (stands c working p)) k ∙ q)) refl
 
-    go : (x : Found) → first_along next there n start ≡ x → first_along next there n start ≡ At s
-    go (At p) q =
+    go : (x : Option ℕ) → first_along next there n start ≡ x → first_along next there n start ≡ Some s
+    go (Some p) q =
         let first = first_finds next there n start p q in
         let idles = first_misses next (stands c working) n start none first.steps first.among in
-        q ∙ ap At (alone p (ap (stands c working) (sym first.reached) ∙ idles) first.passes)
-    go Nothing q =
+        q ∙ ap Some (alone p (ap (stands c working) (sym first.reached) ∙ idles) first.passes)
+    go None q =
         let up : along next s start ≡ s = ap (along next s) zero_start ∙ along_up n s 0 (omega arith) ∙ omega arith in
         true_not_false here (ap there (sym up) ∙ first_misses next there n start q s among)
 
@@ -233,17 +234,17 @@ begun_works c s among none waits = rw (size_moved c s (begun_turn (turn_at c s))
 pub start_works : (c : Channel) (frozen : Bool) → 0 < size c → size c ≤ desk_bits → unit_number (working_in (start_of c frozen)) ≡ works_after (size c) (desk_of c) frozen
 unfolding start_of works_after starts_on
 start_works c frozen some few =
-    rw (← work_desk c some few, ← next_desk c some few) (ap unit_number (go (frozen || is_found (working_in c)) refl (working_in c) refl (next_turn c) refl))
+    rw (← work_desk c some few, ← next_desk c some few) (ap unit_number (go (frozen || is_some (working_in c)) refl (working_in c) refl (next_turn c) refl))
   where
-    go : (b : Bool) → (frozen || is_found (working_in c)) ≡ b → (w : Found) → working_in c ≡ w → (x : Found) → next_turn c ≡ x
-        → working_in (cond b c (begun_at c x)) ≡ or_else (cond b Nothing x) w
+    go : (b : Bool) → (frozen || is_some (working_in c)) ≡ b → (w : Option ℕ) → working_in c ≡ w → (x : Option ℕ) → next_turn c ≡ x
+        → working_in (cond b c (begun_at c x)) ≡ or_else (cond b None x) w
     go true e w k x q = k
-    go false e w k Nothing q = k
-    go false e w k (At s) q = begun_works c s (turn_below c s some q) (idle_now (working_in c) refl) (turn_waits c s q)
+    go false e w k None q = k
+    go false e w k (Some s) q = begun_works c s (turn_below c s some q) (idle_now (working_in c) refl) (turn_waits c s q)
       where
-        idle_now : (w : Found) → working_in c ≡ w → working_in c ≡ Nothing
-        idle_now (At u) r = true_not_false (ap is_found r) (or_right frozen (is_found (working_in c)) e)
-        idle_now Nothing r = r
+        idle_now : (w : Option ℕ) → working_in c ≡ w → working_in c ≡ None
+        idle_now (Some u) r = true_not_false (ap is_some r) (or_right frozen (is_some (working_in c)) e)
+        idle_now None r = r
 
 -- ---- the small changes
 
@@ -333,7 +334,7 @@ module _ (c : Channel) (some : 0 < size c) (few : size c ≤ desk_bits) (u : ℕ
   -- a report, by what it came to
   goes_desk : (urgent frozen : Bool) → goes_on c urgent frozen ≡ goes_on_at (size c) (desk_of c) urgent frozen
   unfolding goes_on
-  goes_desk urgent frozen = ap (λ (x : Found). not frozen && (urgent || not (is_found x))) (urged_desk c some few)
+  goes_desk urgent frozen = ap (λ (x : Option ℕ). not frozen && (urgent || not (is_some x))) (urged_desk c some few)
 
   repeat_moves : (q : Request) (frozen : Bool) → repeat_of c u q frozen ≡ moved_to c u (repeat_move (size c) (unit_at c u) u (desk_of c) q frozen)
   unfolding repeat_of repeat_move

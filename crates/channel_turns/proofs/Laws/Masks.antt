@@ -7,8 +7,6 @@ use lib.Dec.{eqb, ltb}
 use lib.Pow.{pow-lt, shl_exact}
 use lib.Bits.{bit_and, bit_or, and_le_l, or_lt}
 use borrow.Author.Tests.{eqb-true, eqb-false, lt-ltb, le-ltb, ltb-true, ltb-false}
-use Rattle.area.specs.declared.Found.{Found}
-use Rattle.area.specs.declared.Found.TheVariants.{At, Nothing}
 use Rattle.area.specs.Lists.{first_along}
 use Rattle.area.specs.Masks.{bit_at, mask_of}
 use Rattle.area.proofs.Walks.{by_test}
@@ -16,6 +14,8 @@ use Rattle.area.proofs.Masks.{zero_bit, one_bit, or_bit, and_bit, not_bit, own_b
 use Rattle.channel_turns.specs.Scans.{next_unit, begin_of}
 use Rattle.channel_turns.specs.Desks.{desk_bits, scan_of, with_bit}
 use Rattle.channel_turns.proofs.Laws.Scans.{next_below, begin_below}
+use Rattle.core.specs.declared.option.Option.{Option}
+use Rattle.core.specs.declared.option.Option.TheVariants.{Some, None}
 
 -- ---- one bit
 
@@ -140,15 +140,15 @@ module _ (next : ℕ → ℕ) (s t : ℕ → Bool) (P : ℕ → Type 0) (goes : 
   pub first_alike : (k u : ℕ) → P u → first_along next s k u ≡ first_along next t k u
   unfolding first_along
   first_alike zero u p = refl
-  first_alike (suc k) u p = ap₂ (λ (b : Bool) (x : Found). cond b (At u) x) (alike u p) (first_alike k (next u) (goes u p))
+  first_alike (suc k) u p = ap₂ (λ (b : Bool) (x : Option ℕ). cond b (Some u) x) (alike u p) (first_alike k (next u) (goes u p))
 
 -- a test that always says no finds nothing
-pub first_no : (next : ℕ → ℕ) (test : ℕ → Bool) → ((u : ℕ) → test u ≡ false) → (k u : ℕ) → first_along next test k u ≡ Nothing
+pub first_no : (next : ℕ → ℕ) (test : ℕ → Bool) → ((u : ℕ) → test u ≡ false) → (k u : ℕ) → first_along next test k u ≡ None
 unfolding first_along
 first_no next test none zero u = refl
 first_no next test none (suc k) u = rw (none u) (first_no next test none k (next u))
 
-pub scan_none : (n mark : ℕ) → scan_of n 0 mark ≡ Nothing
+pub scan_none : (n mark : ℕ) → scan_of n 0 mark ≡ None
 unfolding scan_of
 scan_none n mark = first_no (next_unit n) (bit_at 0) zero_bit n (begin_of n mark)
 

@@ -9,10 +9,10 @@ use Rattle.area.proofs.Walks.{by_test}
 use Rattle.area.specs.Lists.{along}
 use Rattle.area.proofs.Firsts.{first_finds}
 use Rattle.area.proofs.Scans.{along_keeps}
-use Rattle.area.specs.declared.Found.TheVariants.{At}
 use Rattle.channel.specs.declared.Channel.{Channel}
 use Rattle.channel.specs.Units.{size}
 use Rattle.channel_turns.specs.Scans.{next_unit, begin_of, stands, scan_from}
+use Rattle.core.specs.declared.option.Option.TheVariants.{Some}
 
 pub next_up : (n u : ℕ) → u + 1 < n → next_unit n u ≡ u + 1
 next_up n u h = rw (lt-ltb (u + 1) n h)
@@ -33,7 +33,7 @@ pub begin_below : (n m : ℕ) → 0 < n → begin_of n m < n
 begin_below n m h = by_test (λ b. cond b m 0 < n) (ltb m n) (λ e. ltb-true m n e) (λ e. h)
 
 -- what a scan finds is a unit
-pub scan_below : (c : Channel) (want mark u : ℕ) → 0 < size c → scan_from c want mark ≡ At u → u < size c
+pub scan_below : (c : Channel) (want mark u : ℕ) → 0 < size c → scan_from c want mark ≡ Some u → u < size c
 unfolding scan_from
 scan_below c want mark u some e =
     let n = size c in

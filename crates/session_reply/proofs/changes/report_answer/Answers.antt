@@ -1,11 +1,12 @@
 -- `session_reply::changes::report_answer` meets its contract, by whether a block is delivered. Assumes nothing.
 use mathlib.Core.Path.{sym, ap}
-use Rattle.call_request.specs.declared.Delivery.{Delivery}
 use Rattle.session_reply.specs.Replies.{report_answer}
 use Rattle.session_reply.proofs.changes.report_answer.Goals as goal
+use Rattle.core.specs.declared.option.Option.{Option}
+use Rattle.word.specs.declared.Checked.{Checked}
 
-pub returns-in-Without : goal.returns-in-Without
-returns-in-Without c = sym (ap (λ (d : Delivery). report_answer c.args.res d c.args.working) c.in-Without.is)
+pub returns-in-None : goal.returns-in-None
+returns-in-None c = sym (ap (λ (d : Option Checked). report_answer c.args.res d c.args.working) c.in-None.is)
 
-pub returns-in-With : goal.returns-in-With
-returns-in-With c = sym (ap (λ (d : Delivery). report_answer c.args.res d c.args.working) c.in-With.is)
+pub returns-in-Some : goal.returns-in-Some
+returns-in-Some c = sym (ap (λ (d : Option Checked). report_answer c.args.res d c.args.working) c.in-Some.is)
