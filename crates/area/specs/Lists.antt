@@ -1,5 +1,5 @@
 -- What can be asked of a list or of a run of numbers, one after the other. Assumes nothing.
-use Rattle.std.specs.Prelude.{Bool, true, false, cond, ◌&&◌, ◌||◌, List, [], ◌∷◌, ℕ, zero, suc, ◌+◌, Option, Some, None, is_some, unwrap_or}
+use Rattle.std.specs.Prelude.{Bool, true, false, cond, ◌&&◌, ◌||◌, List, [], ◌∷◌, ℕ, zero, suc, ◌+◌, Option, Some, None}
 
 -- some element passes the test
 unfoldable pub any_of : {A : Type 0} → (A → Bool) → List A → Bool

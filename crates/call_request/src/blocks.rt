@@ -7,8 +7,8 @@ ghost use Rattle.file_input.specs.Delivers.{block_fits};
 ghost use Rattle.call_request.specs.Effects.{is_delivery};
 ghost use Rattle.call_request.specs.Report.{shown_start, shown_count, delivery_check, delivery_of, reported_file, reported_area};
 
-use crate::effects::is_delivery;
 use crate::Effect;
+use crate::effects::is_delivery;
 use area::{are_words, copy_in};
 use file::{Arrival, File};
 use file_input::{delivered, gave_back, met_mark, taken_start};
@@ -31,11 +31,7 @@ pub fn look(x: Effect, f: File, words: &[u64]) -> Option<Checked>
 pub fn delivery_of(x: Effect, found: Checked) -> Option<Checked>
     ensures { result ≡ delivery_of x found }
 {
-    if is_delivery(x) {
-        Some(found)
-    } else {
-        None
-    }
+    if is_delivery(x) { Some(found) } else { None }
 }
 
 // Where in the area the block begins that the report hands out, 0 if it hands out none.
