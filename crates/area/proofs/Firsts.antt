@@ -7,7 +7,7 @@ use native.Mathlib.Decide.{dec_lt}
 use native.Mathlib.Omega.{arith}
 use Rattle.area.specs.Lists.{first_along, count_along, along}
 use Rattle.area.proofs.Walks.{by_test, true_not_false}
-use Rattle.core.specs.declared.option.Option.TheVariants.{Some, None}
+use Rattle.std.specs.declared.option.Option.TheVariants.{Some, None}
 
 module _ (next : ℕ → ℕ) (test : ℕ → Bool) where
   -- ---- one turn of a loop that has n numbers left, and its end

@@ -12,9 +12,9 @@ use lib.ListN.{get_or, set}
 use Rattle.area.specs.Lists.{any_of, all_of, all_pairs, count_of, first_along, count_along, along}
 use Rattle.area.proofs.Walks.{true_not_false, and_left, and_right, and_both}
 use Rattle.area.proofs.Firsts.{First, first_finds, first_stop, first_go, first_none, count_stop, count_go, count_none}
-use Rattle.core.specs.declared.option.Option.{Option}
-use Rattle.core.specs.declared.option.Option.TheVariants.{Some, None}
-use Rattle.core.specs.Option.{is_some, unwrap_or}
+use Rattle.std.specs.declared.option.Option.{Option}
+use Rattle.std.specs.declared.option.Option.TheVariants.{Some, None}
+use Rattle.std.specs.Option.{is_some, unwrap_or}
 
 -- ---- Bool
 

@@ -13,8 +13,8 @@ use lib.Count.{ones, ones_step, count_trailing_zeros, under}
 use borrow.Author.Tests.{eq-eqb, ne_eqb, lt-ltb}
 use Rattle.area.specs.Lists.{one_if, first_along, count_along}
 use Rattle.area.specs.Masks.{bit_at, mask_along, mask_of}
-use Rattle.core.specs.declared.option.Option.TheVariants.{Some}
-use Rattle.core.specs.Option.{unwrap_or}
+use Rattle.std.specs.declared.option.Option.TheVariants.{Some}
+use Rattle.std.specs.Option.{unwrap_or}
 
 -- ---- one bit
 

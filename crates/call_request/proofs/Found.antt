@@ -42,7 +42,7 @@ use Rattle.call_request.specs.declared.ReportMove.{ReportMove}
 use Rattle.call_request.specs.Effects.{effect_of, is_delivery}
 use Rattle.call_request.specs.Report.{is_idle_for, is_forbidden, shown_start, shown_count, rows_by, delivery_check, delivery_of, reported_area}
 use Rattle.call_request.specs.Moves.{effect_by, report_number, refused_move, report_moved, report_moved_area}
-use Rattle.core.specs.declared.option.Option.{Option}
+use Rattle.std.specs.declared.option.Option.{Option}
 use Rattle.channel.specs.declared.Op.{Op}
 
 -- ---- report: what the channel refuses

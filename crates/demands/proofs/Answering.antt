@@ -41,7 +41,7 @@ use Rattle.pack.proofs.Counted.{report_matches, answer_matches, priority_matches
 use Rattle.pack.proofs.Turns.{bits_of, fresh_declared, turns_kept, urgent_kept}
 use Rattle.pack.proofs.Booking.{as_held, Shows, shows_start, shows_after}
 use Rattle.demands.specs.Demands.{unanswered, WorkingOrFrozen, AnswersWithin, Answers, AnswersUrgent}
-use Rattle.core.specs.Option.{is_some}
+use Rattle.std.specs.Option.{is_some}
 
 -- ---- the priority requests without an answer, by the history
 

@@ -26,7 +26,7 @@ use Rattle.call_request.proofs.Found.{fits_bounds}
 use Rattle.demands.specs.Records.{Finds}
 use Rattle.demands.proofs.Finding.{judged_finds}
 use Rattle.demands.specs.Demands.{data_in, Writes, Reads}
-use Rattle.core.specs.declared.option.Option.TheVariants.{Some}
+use Rattle.std.specs.declared.option.Option.TheVariants.{Some}
 
 module _ (s : State) (area : List ℕ) (ledgers : ℕ → Ledger) (K : Kept s area ledgers) where
   module _ (i : ℕ) (o : (file_at s i).opened ≡ true) where

@@ -61,7 +61,7 @@ use Rattle.demands.proofs.Orders.{either_order}
 use Rattle.demands.proofs.Answering.{answered, urgent_answered}
 use Rattle.demands.proofs.Records.{gives_one, ledger_got, ledger_skipped}
 use Rattle.demands.proofs.Written.{due_one, ledger_cuts, ledger_sent}
-use Rattle.core.specs.declared.option.Option.TheVariants.{Some}
+use Rattle.std.specs.declared.option.Option.TheVariants.{Some}
 
 -- "Any call, with any numbers, words and lengths, gets an answer. A refusal carries one number of document 01's table, is given exactly
 -- when the table says, and changes nothing. No caller need check first.": of every state value, every area and every call

@@ -80,9 +80,9 @@ use Rattle.pack.proofs.Refused.{call_alone_lem}
 use Rattle.demands_ledger.proofs.Frames.{others_same}
 use Rattle.demands.specs.Orders.{Requests, asking, reporting, On, asks, reports, AnswersNaming, answers_naming, Says, says, afterwards, EitherOrder}
 use Rattle.demands.proofs.Beside.{asked_other, asks_comm, reported_other, ask_report_comm, reports_comm}
-use Rattle.core.specs.declared.option.Option.{Option}
-use Rattle.core.specs.declared.option.Option.TheVariants.{Some, None}
-use Rattle.core.specs.Option.{unwrap_or}
+use Rattle.std.specs.declared.option.Option.{Option}
+use Rattle.std.specs.declared.option.Option.TheVariants.{Some, None}
+use Rattle.std.specs.Option.{unwrap_or}
 use Rattle.channel.specs.declared.Op.{Op}
 
 -- ---- words pasted at two places apart

@@ -52,7 +52,7 @@ use Rattle.demands_ledger.proofs.Told.{Chose, Told}
 use Rattle.demands_ledger.proofs.Frames.{Kept}
 use Rattle.demands_ledger.proofs.Starts.{asked_number}
 use Rattle.demands_ledger.proofs.Always.{accepted_kept, noted_kept, started}
-use Rattle.core.specs.declared.option.Option.TheVariants.{Some, None}
+use Rattle.std.specs.declared.option.Option.TheVariants.{Some, None}
 
 -- ---- what is requested of a unit after one event of its channel
 

@@ -37,8 +37,8 @@ use Rattle.call_request.specs.Report.{is_idle_for, takes_no_words, effect_at}
 use Rattle.demands_ledger.specs.Ledgers.{failed_by}
 use Rattle.pack_request.proofs.Ready.{ready_facts}
 use Rattle.pack_request.proofs.ReportTheorems.{Booked, again, ended}
-use Rattle.core.specs.declared.option.Option.{Option}
-use Rattle.core.specs.declared.option.Option.TheVariants.{Some, None}
+use Rattle.std.specs.declared.option.Option.{Option}
+use Rattle.std.specs.declared.option.Option.TheVariants.{Some, None}
 
 -- ---- the words of a report that answers its request are a delivered block
 

@@ -40,7 +40,7 @@ use Rattle.demands_ledger.specs.Blocks.{block_in, blocks_in}
 use Rattle.demands_ledger.proofs.Frames.{Kept}
 use Rattle.demands_ledger.proofs.Reported.{ready, sending, after_area, change, on_same}
 use Rattle.demands_ledger.proofs.Asks.{Asked}
-use Rattle.core.specs.declared.option.Option.TheVariants.{Some}
+use Rattle.std.specs.declared.option.Option.TheVariants.{Some}
 
 -- ---- the block that a write sends is the first in line
 

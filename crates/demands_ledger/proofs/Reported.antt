@@ -57,7 +57,7 @@ use Rattle.demands_ledger.proofs.Told.{Told}
 use Rattle.demands_ledger.proofs.Frames.{marking, Kept, others_same, kept_file}
 use Rattle.demands_ledger.proofs.Booked.{plus, plus_none, told_back, told_mark, told_sent, told_came}
 use Rattle.demands_ledger.proofs.Deliveries.{words_kept, delivery_told, meets, mark_met, write_ready}
-use Rattle.core.specs.declared.option.Option.TheVariants.{Some, None}
+use Rattle.std.specs.declared.option.Option.TheVariants.{Some, None}
 
 module _ (s : State) (area : List ℕ) (ledgers : ℕ → Ledger) (K : Kept s area ledgers) (channel unit outcome len : ℕ) (words : List ℕ)
     (z : (report_by s area channel unit outcome len words).refusal ≡ 0) where

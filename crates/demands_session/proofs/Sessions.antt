@@ -38,7 +38,7 @@ use Rattle.session.specs.Session.{Course, with_text, play_lines}
 use Rattle.session.proofs.Counting.{lines_append}
 use Rattle.demands_session.specs.Played.{call_in, calls_in, line_of, line_for, state_for, area_for, zeros, state_in, area_in, lent_from}
 use Rattle.demands_session.proofs.Played.{course_cons, history_is, lent_state}
-use Rattle.core.specs.declared.option.Option.TheVariants.{Some}
+use Rattle.std.specs.declared.option.Option.TheVariants.{Some}
 
 -- ---- a line within a session, after the lines ks
 

@@ -31,8 +31,8 @@ use Rattle.sheet.specs.declared.Event.{Event}
 use Rattle.sheet.specs.Events.{is_pair, is_accepted, is_repeated, no_event, ask_event, report_event, start_event, event_of}
 use Rattle.sheet.specs.Sheet.{events_of}
 use Rattle.demands_sheet.specs.Listed.{call_event, event_for, events_by}
-use Rattle.core.specs.declared.option.Option.{Option as OptionOf}
-use Rattle.core.specs.declared.option.Option.TheVariants.{Some, None}
+use Rattle.std.specs.declared.option.Option.{Option as OptionOf}
+use Rattle.std.specs.declared.option.Option.TheVariants.{Some, None}
 use Rattle.word.specs.declared.Checked.{Checked}
 
 -- ---- the digits of a byte are 0 and d exactly if it is d

@@ -39,8 +39,8 @@ use Rattle.state_image.specs.Images.{state_head, channels_codec}
 use Rattle.state_image.proofs.Joined.{first_there, byte_there}
 use Rattle.image_sound.specs.Judging.{channels_in, unit_place, ready_by, fits_unit, KindsThere}
 use Rattle.image_sound.proofs.FileLaws.{kind_taken, kind_full}
-use Rattle.core.specs.declared.option.Option.{Option}
-use Rattle.core.specs.declared.option.Option.TheVariants.{Some, None}
+use Rattle.std.specs.declared.option.Option.{Option}
+use Rattle.std.specs.declared.option.Option.TheVariants.{Some, None}
 
 -- ---- a unit at its place
 

@@ -59,8 +59,8 @@ use Rattle.pack.proofs.Kept.{call_kept}
 use Rattle.pack.proofs.Seen.{station_at, event_if, call_agrees}
 use Rattle.pack.proofs.Counted.{repeats_told, result_is}
 use Rattle.pack.proofs.Turns.{bits_of, fresh_station}
-use Rattle.core.specs.declared.option.Option.{Option as OptionOf}
-use Rattle.core.specs.declared.option.Option.TheVariants.{Some}
+use Rattle.std.specs.declared.option.Option.{Option as OptionOf}
+use Rattle.std.specs.declared.option.Option.TheVariants.{Some}
 
 -- a request as the channel holds it: the attempt that is at work, or due, is one above the failures
 abbrev pub as_request : Pending → Request

@@ -80,7 +80,7 @@ use Rattle.pack.proofs.Refused.{call_alone_lem}
 use Rattle.pack.proofs.Kept as kept
 use Rattle.pack.proofs.Kept.{call_kept}
 use Rattle.pack.proofs.Counted.{result_is}
-use Rattle.core.specs.declared.option.Option.TheVariants.{Some}
+use Rattle.std.specs.declared.option.Option.TheVariants.{Some}
 
 -- ---- what is known of a file
 

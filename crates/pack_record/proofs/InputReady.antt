@@ -21,8 +21,8 @@ use Rattle.state_sound.specs.Files.{taken_count}
 use Rattle.area.specs.Lists.{one_if}
 use Rattle.state_sound.specs.Requests.{is_read, is_write, fits_output}
 use Rattle.state_sound.specs.Judged.{file_ready}
-use Rattle.core.specs.declared.option.Option.{Option}
-use Rattle.core.specs.declared.option.Option.TheVariants.{Some, None}
+use Rattle.std.specs.declared.option.Option.{Option}
+use Rattle.std.specs.declared.option.Option.TheVariants.{Some, None}
 use Rattle.channel.specs.declared.Op.{Op}
 
 -- ---- which buffers are taken

@@ -27,7 +27,7 @@ use Rattle.state_sound.proofs.FileFacts.{Sound}
 use Rattle.state_sound.proofs.Puts.{PutAt, put_at, put_is}
 use Rattle.state_sound.specs.Requests.{is_read, is_write, fits_output}
 use Rattle.state_sound.specs.Judged.{file_ready}
-use Rattle.core.specs.declared.option.Option.{Option}
+use Rattle.std.specs.declared.option.Option.{Option}
 use Rattle.channel.specs.declared.Op.{Op}
 
 -- ---- a full block

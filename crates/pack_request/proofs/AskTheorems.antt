@@ -43,7 +43,7 @@ use Rattle.pack_request.specs.Calls.{ask_wrong, ask_waits, asked_all, ask_by}
 use Rattle.call_request.proofs.AskFound.{ask_refused, ask_taken}
 use Rattle.pack_request.proofs.Ready.{not_false, ready_facts, kind, asked_file_lem}
 use Rattle.pack_request.proofs.Changed.{Frame, changed_refused, changed_taken, changed_frame, here_file, here_channel, became_sound}
-use Rattle.core.specs.declared.option.Option.TheVariants.{Some}
+use Rattle.std.specs.declared.option.Option.TheVariants.{Some}
 
 -- ---- what an accepted ask found
 

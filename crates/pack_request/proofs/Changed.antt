@@ -25,7 +25,7 @@ use Rattle.state_sound.proofs.ChannelCalls.{Moved}
 use Rattle.state_sound.proofs.Kept.{SameHoldings, both_kept}
 use Rattle.pack_request.specs.Changes.{changed_state}
 use Rattle.pack_request.proofs.Ready.{Became}
-use Rattle.core.specs.declared.option.Option.{Option}
+use Rattle.std.specs.declared.option.Option.{Option}
 use Rattle.channel.specs.declared.Op.{Op}
 
 -- what stays of a state, apart from its file i and its channel j

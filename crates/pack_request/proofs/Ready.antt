@@ -42,8 +42,8 @@ use Rattle.call_request.specs.Ask.{is_reading, is_writing, is_marking, op_of, as
 use Rattle.call_request.specs.Effects.{is_delivery, op_effect}
 use Rattle.call_request.specs.Report.{reported_file}
 use Rattle.call_request.proofs.Found.{fits_bounds}
-use Rattle.core.specs.declared.option.Option.{Option}
-use Rattle.core.specs.declared.option.Option.TheVariants.{Some, None}
+use Rattle.std.specs.declared.option.Option.{Option}
+use Rattle.std.specs.declared.option.Option.TheVariants.{Some, None}
 
 -- ---- how many buffers are taken
 

@@ -65,9 +65,9 @@ use Rattle.call_request.proofs.NamedLaws.{repeats_routines, ends_routines}
 use Rattle.pack_request.specs.Calls.{file_of, report_wrong, report_by, report_by_area}
 use Rattle.pack_request.proofs.Ready.{not_false, ended_file}
 use Rattle.pack_request.proofs.Changed.{Frame, Beside, changed_refused, changed_taken, changed_frame, here_file, here_channel, became_sound}
-use Rattle.core.specs.declared.option.Option.{Option}
-use Rattle.core.specs.declared.option.Option.TheVariants.{Some, None}
-use Rattle.core.specs.Option.{is_some, unwrap_or}
+use Rattle.std.specs.declared.option.Option.{Option}
+use Rattle.std.specs.declared.option.Option.TheVariants.{Some, None}
+use Rattle.std.specs.Option.{is_some, unwrap_or}
 use Rattle.channel.specs.declared.Op.{Op}
 
 -- ---- what a report that is booked comes to

@@ -49,8 +49,8 @@ use Rattle.pack_request.specs.Calls.{file_of, report_wrong, report_by_area}
 use Rattle.call_request.proofs.Found.{fits_bounds}
 use Rattle.pack_request.proofs.Ready.{ready_facts, some_taken}
 use Rattle.pack_request.proofs.ReportTheorems.{Booked, again, ended, ReportReady, report_ready, facts, view, is_open, requested_ready}
-use Rattle.core.specs.declared.option.Option.{Option}
-use Rattle.core.specs.declared.option.Option.TheVariants.{Some, None}
+use Rattle.std.specs.declared.option.Option.{Option}
+use Rattle.std.specs.declared.option.Option.TheVariants.{Some, None}
 
 -- ---- which operation an effect is of
 

@@ -30,7 +30,7 @@ use Rattle.pack_start.specs.Freeze.{state_rows, state_refusal, frozen_state, tha
 use Rattle.state.proofs.Answered.{not_so, state_refused, state_accepted}
 use Rattle.area.proofs.Maps.{map_twice}
 use Rattle.routines.proofs.Laws.Facts.{look_twice}
-use Rattle.core.specs.Option.{is_some}
+use Rattle.std.specs.Option.{is_some}
 
 module _ (s : State) where
   -- refused with a number exactly if its row applies and none with a lower number does

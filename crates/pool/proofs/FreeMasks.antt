@@ -22,9 +22,9 @@ use Rattle.file.specs.declared.File.{File}
 use Rattle.file.specs.Sizes.{closed_file}
 use Rattle.pool.specs.Free.{buffer_limit, held_by, is_held, is_free, lowest_free, free_count, lowest_number, free_of}
 use Rattle.pool.specs.Masks.{free_mask, all_free, lowest_set, free_in, taken_by, given_back, free_after}
-use Rattle.core.specs.declared.option.Option.{Option}
-use Rattle.core.specs.declared.option.Option.TheVariants.{Some, None}
-use Rattle.core.specs.Option.{unwrap_or}
+use Rattle.std.specs.declared.option.Option.{Option}
+use Rattle.std.specs.declared.option.Option.TheVariants.{Some, None}
+use Rattle.std.specs.Option.{unwrap_or}
 
 -- ---- the words that the code makes
 

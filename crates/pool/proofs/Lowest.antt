@@ -9,9 +9,9 @@ use Rattle.area.specs.Lists.{first_along, count_along}
 use Rattle.area.proofs.Marks.{first_counted, first_lowest}
 use Rattle.file.specs.declared.File.{File}
 use Rattle.pool.specs.Free.{buffer_limit, is_free, lowest_free, Lowest, free_count, lowest_number}
-use Rattle.core.specs.declared.option.Option.{Option}
-use Rattle.core.specs.declared.option.Option.TheVariants.{Some}
-use Rattle.core.specs.Option.{unwrap_or}
+use Rattle.std.specs.declared.option.Option.{Option}
+use Rattle.std.specs.declared.option.Option.TheVariants.{Some}
+use Rattle.std.specs.Option.{unwrap_or}
 
 pub found_lowest : (m : ℕ) (fs : List File) (k b : ℕ) → lowest_free m fs k ≡ Some b → Lowest m fs k b
 unfolding lowest_free

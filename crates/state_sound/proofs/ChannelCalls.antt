@@ -39,9 +39,9 @@ use Rattle.channel_theorems.proofs.Theorems.Sound.{verdict_again, works, one_kep
 use Rattle.state_sound.specs.Requests.{requested}
 use Rattle.state_sound.specs.Soundness.{position_in_range, noise_known, noise_right, position_right}
 use Rattle.state_sound.proofs.ChannelFacts.{ChannelFacts}
-use Rattle.core.specs.declared.option.Option.{Option as OptionOf}
-use Rattle.core.specs.declared.option.Option.TheVariants.{Some, None}
-use Rattle.core.specs.Option.{is_some}
+use Rattle.std.specs.declared.option.Option.{Option as OptionOf}
+use Rattle.std.specs.declared.option.Option.TheVariants.{Some, None}
+use Rattle.std.specs.Option.{is_some}
 
 -- ---- what is requested of a unit is the operation that it holds
 

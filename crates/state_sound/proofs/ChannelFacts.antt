@@ -28,8 +28,8 @@ use Rattle.state_sound.specs.Requests.{requested, is_none, is_waiting}
 use Rattle.state_sound.specs.Soundness.{position_right, marks_right, unit_waits, works_right}
 use Rattle.state_sound.specs.Judged.{is_counted, turn_right, unit_right}
 use Rattle.state_sound.proofs.Everywhere.{by_place, all_places, place_inside, count_some, some_place, count_one_place, one_place_count}
-use Rattle.core.specs.declared.option.Option.{Option}
-use Rattle.core.specs.Option.{is_some}
+use Rattle.std.specs.declared.option.Option.{Option}
+use Rattle.std.specs.Option.{is_some}
 use Rattle.channel.specs.declared.Op.{Op}
 
 pub record ChannelFacts (m : ℕ) (frozen : Bool) (c : Channel) : Type 0 where

@@ -40,8 +40,8 @@ use Rattle.routines_sound.specs.Beside.{declared_in, request_in, routines_beside
 use Rattle.state_sound.proofs.Everywhere.{by_place, all_places, from_places, place_inside, pair_places}
 use Rattle.state_sound.proofs.Apart.{buffers_swap, units_swap, apart_swap, buffers_closed, units_closed, apart_closed}
 use Rattle.state_sound.proofs.ChannelFacts.{ChannelFacts, channel_facts, mark_right, units_right, works_right_lem, no_idle, no_facts}
-use Rattle.core.specs.declared.option.Option.{Option}
-use Rattle.core.specs.declared.option.Option.TheVariants.{Some, None}
+use Rattle.std.specs.declared.option.Option.{Option}
+use Rattle.std.specs.declared.option.Option.TheVariants.{Some, None}
 use Rattle.channel.specs.declared.Op.{Op}
 
 -- an open file that is bound to unit u of channel c

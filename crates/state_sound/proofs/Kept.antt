@@ -36,8 +36,8 @@ use Rattle.state_sound.proofs.Everywhere.{by_place, place_inside}
 use Rattle.state_sound.proofs.Apart.{apart_swap, apart_closed}
 use Rattle.state_sound.proofs.ChannelFacts.{ChannelFacts, no_declared}
 use Rattle.state_sound.proofs.Facts.{Served, SoundFacts}
-use Rattle.core.specs.declared.option.Option.{Option}
-use Rattle.core.specs.declared.option.Option.TheVariants.{Some, None}
+use Rattle.std.specs.declared.option.Option.{Option}
+use Rattle.std.specs.declared.option.Option.TheVariants.{Some, None}
 use Rattle.channel.specs.declared.Op.{Op}
 
 -- what holds of the new element, and of the others as they were, holds of each

@@ -23,9 +23,9 @@ use Rattle.pool.specs.Free.{file_count, held_by, is_held, is_free}
 use Rattle.pool.specs.Serving.{serves, serving_file, is_bound}
 use Rattle.state_sound.specs.Files.{share_buffer, share_unit, apart, is_blank, file_sound, files_sound}
 use Rattle.state_sound.proofs.Shares.{held_shared}
-use Rattle.core.specs.declared.option.Option.{Option}
-use Rattle.core.specs.declared.option.Option.TheVariants.{Some, None}
-use Rattle.core.specs.Option.{is_some}
+use Rattle.std.specs.declared.option.Option.{Option}
+use Rattle.std.specs.declared.option.Option.TheVariants.{Some, None}
+use Rattle.std.specs.Option.{is_some}
 
 -- ---- a file that holds what another held
 

@@ -20,7 +20,7 @@ use Rattle.state_sound.specs.Requests.{requested, is_none}
 use Rattle.state_sound.proofs.ChannelFacts.{request_none, request_alike}
 use Rattle.state_sound.proofs.ChannelCalls.{Moved}
 use Rattle.state_sound.proofs.Facts.{SoundFacts}
-use Rattle.core.specs.declared.option.Option.{Option}
+use Rattle.std.specs.declared.option.Option.{Option}
 use Rattle.channel.specs.declared.Op.{Op}
 
 -- channel c becomes x, of whose unit u w is requested afterwards; all else is as it was

@@ -37,7 +37,7 @@ use Rattle.state_sound.proofs.Apart.{apart_closed}
 use Rattle.state_sound.proofs.ChannelFacts.{ChannelFacts, request_alike, idle_facts, fresh_idle, fresh_stands, no_idle, no_facts}
 use Rattle.state_sound.proofs.ChannelCalls.{freeze_facts, thaw_facts, thaw_alike}
 use Rattle.state_sound.proofs.Facts.{SoundFacts, facts_sound}
-use Rattle.core.specs.declared.option.Option.{Option}
+use Rattle.std.specs.declared.option.Option.{Option}
 use Rattle.channel.specs.declared.Op.{Op}
 
 -- ---- no file open, and nothing requested

@@ -30,9 +30,9 @@ use Rattle.channel_theorems.proofs.Theorems.Turning.{wants_priority, wants_turn,
 use Rattle.channel_theorems.proofs.Theorems.Starts.{Started, is_frozen, is_busy, is_quiet, begins, started, works_found, urgent_found}
 use Rattle.channel_theorems.proofs.Theorems.Calls.{ended_at, ended_mark, Took, refuses, asks}
 use Rattle.channel_theorems.proofs.Theorems.Sound.{OneWorks}
-use Rattle.core.specs.declared.option.Option.{Option as OptionOf}
-use Rattle.core.specs.declared.option.Option.TheVariants.{Some, None}
-use Rattle.core.specs.Option.{is_some}
+use Rattle.std.specs.declared.option.Option.{Option as OptionOf}
+use Rattle.std.specs.declared.option.Option.TheVariants.{Some, None}
+use Rattle.std.specs.Option.{is_some}
 
 -- ---- what each unit holds
 

@@ -25,8 +25,8 @@ use Rattle.channel_theorems.specs.History.{Station, ask, Step}
 use Rattle.channel_theorems.proofs.Theorems.Turning.{at_set, declared_inside}
 use Rattle.channel_theorems.proofs.Theorems.Starts.{Started, is_frozen, is_busy, is_quiet, begins, started}
 use Rattle.channel_theorems.proofs.Theorems.Calls.{ended_at, Took, refuses, asks}
-use Rattle.core.specs.declared.option.Option.{Option}
-use Rattle.core.specs.declared.option.Option.TheVariants.{Some, None}
+use Rattle.std.specs.declared.option.Option.{Option}
+use Rattle.std.specs.declared.option.Option.TheVariants.{Some, None}
 
 -- ---- "each held at 32,767"
 

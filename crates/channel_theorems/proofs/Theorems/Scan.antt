@@ -14,8 +14,8 @@ use Rattle.channel.specs.Units.{size}
 use Rattle.channel_turns.specs.Scans.{next_unit, begin_of, stands, scan_from, Before, upward, unwrapped, wrapped, Scanned, finds, misses}
 use Rattle.channel_turns.proofs.Laws.Scans.{begin_below}
 use Rattle.channel_theorems.proofs.Theorems.Order.{Next, above, round, next_is, Compared, same, first, later, compare_before}
-use Rattle.core.specs.declared.option.Option.{Option}
-use Rattle.core.specs.declared.option.Option.TheVariants.{Some, None}
+use Rattle.std.specs.declared.option.Option.{Option}
+use Rattle.std.specs.declared.option.Option.TheVariants.{Some, None}
 
 -- x is the j-th unit of a scan of n that begins at b
 data Place (n b j x : ℕ) : Type 0 where

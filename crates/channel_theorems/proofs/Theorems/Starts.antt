@@ -15,8 +15,8 @@ use Rattle.channel_turns.specs.Turns.{is_ordinary, holds_priority}
 use Rattle.channel_turns.specs.Starts.{begun_turn, begun_at, start_of}
 use Rattle.channel_theorems.proofs.Theorems.Order.{Compared, same, first, later, compare_before}
 use Rattle.channel_theorems.proofs.Theorems.Turning.{wants_priority, wants_turn, works_turn, held_as, wants_as, works_as, held, begin_as, working_scan, priority_scan, ordinary_scan, at_set, everywhere, busy_inside}
-use Rattle.core.specs.declared.option.Option.{Option}
-use Rattle.core.specs.Option.{is_some}
+use Rattle.std.specs.declared.option.Option.{Option}
+use Rattle.std.specs.Option.{is_some}
 
 -- ---- a start
 

@@ -27,7 +27,7 @@ use Rattle.channel_theorems.proofs.Theorems.Sound.{reports_most, Again, verdict_
 use Rattle.channel_theorems.proofs.Theorems.Race.{Race, race_start, race_set, race_marks, race_ended, also, also_same, also_other}
 use Rattle.channel_theorems.proofs.Theorems.Budget.{left, budget, budget_at, budget_start, urgent_asked, urgent_again, urgent_ended, urgent_past}
 use Rattle.channel_theorems.proofs.Theorems.Raced.{budget_marks}
-use Rattle.core.specs.Option.{is_some}
+use Rattle.std.specs.Option.{is_some}
 
 -- ---- while a priority request waits no ordinary operation begins, so the one at work, if any, is the last
 

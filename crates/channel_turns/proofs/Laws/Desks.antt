@@ -36,9 +36,9 @@ use Rattle.channel_turns.specs.Turns.{goes_on, incomplete_turn, repeat_of, is_or
 use Rattle.channel_turns.specs.Desks.{desk_bits, stand_mask, desk_of, scan_of, work_on, urged_on, next_on, starts_on, works_after, with_bit, seated_at, marked_at, moved_on, still_on, ask_move, goes_on_at, repeat_move, end_move, book_move, moved_to}
 use Rattle.channel_turns.proofs.Laws.Scans.{next_up, begin_here, scan_below}
 use Rattle.channel_turns.proofs.Laws.Masks.{Passed, passed_all, scan_bits}
-use Rattle.core.specs.declared.option.Option.{Option}
-use Rattle.core.specs.declared.option.Option.TheVariants.{Some, None}
-use Rattle.core.specs.Option.{is_some}
+use Rattle.std.specs.declared.option.Option.{Option}
+use Rattle.std.specs.declared.option.Option.TheVariants.{Some, None}
+use Rattle.std.specs.Option.{is_some}
 
 -- ---- a unit that stands otherwise
 

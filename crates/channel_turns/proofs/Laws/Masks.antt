@@ -14,8 +14,8 @@ use Rattle.area.proofs.Masks.{zero_bit, one_bit, or_bit, and_bit, not_bit, own_b
 use Rattle.channel_turns.specs.Scans.{next_unit, begin_of}
 use Rattle.channel_turns.specs.Desks.{desk_bits, scan_of, with_bit}
 use Rattle.channel_turns.proofs.Laws.Scans.{next_below, begin_below}
-use Rattle.core.specs.declared.option.Option.{Option}
-use Rattle.core.specs.declared.option.Option.TheVariants.{Some, None}
+use Rattle.std.specs.declared.option.Option.{Option}
+use Rattle.std.specs.declared.option.Option.TheVariants.{Some, None}
 
 -- ---- one bit
 

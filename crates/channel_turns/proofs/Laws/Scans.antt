@@ -12,7 +12,7 @@ use Rattle.area.proofs.Scans.{along_keeps}
 use Rattle.channel.specs.declared.Channel.{Channel}
 use Rattle.channel.specs.Units.{size}
 use Rattle.channel_turns.specs.Scans.{next_unit, begin_of, stands, scan_from}
-use Rattle.core.specs.declared.option.Option.TheVariants.{Some}
+use Rattle.std.specs.declared.option.Option.TheVariants.{Some}
 
 pub next_up : (n u : ℕ) → u + 1 < n → next_unit n u ≡ u + 1
 next_up n u h = rw (lt-ltb (u + 1) n h)

@@ -8,8 +8,8 @@ use Rattle.channel.specs.declared.Channel.{Channel}
 use Rattle.channel.specs.Units.{with_turn, accepts_at}
 use Rattle.channel_turns.specs.Scans.{working_in, next_turn}
 use Rattle.channel_turns.specs.Starts.{begun_at, start_of, new_request, ask_of}
-use Rattle.core.specs.declared.option.Option.{Option}
-use Rattle.core.specs.Option.{is_some}
+use Rattle.std.specs.declared.option.Option.{Option}
+use Rattle.std.specs.Option.{is_some}
 
 module _ (c : Channel) (frozen busy : Bool) (known : busy ≡ is_some (working_in c)) where
   pub start_stays : (frozen || busy) ≡ true → start_of c frozen ≡ c

@@ -2,7 +2,7 @@
 use mathlib.Core.Path.{sym, ap}
 use Rattle.session_reply.specs.Replies.{report_answer}
 use Rattle.session_reply.proofs.changes.report_answer.Goals as goal
-use Rattle.core.specs.declared.option.Option.{Option}
+use Rattle.std.specs.declared.option.Option.{Option}
 use Rattle.word.specs.declared.Checked.{Checked}
 
 pub returns-in-None : goal.returns-in-None
