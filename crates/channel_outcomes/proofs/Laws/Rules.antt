@@ -105,6 +105,12 @@ repeat_room q outcome k below entry e = (omega (arith, limit_fits_lem q.op outco
         let b : leb 1 q.incomplete ≡ false = rw (eq-eqb outcome incomplete_word h) at a in
         omega (arith, leb-false 1 q.incomplete b)
 
+-- the last of the five
+pub ending_last : (op : Op) (attempt outcome : ℕ) → 4 ≤ outcome → ending_of op attempt outcome ≡ MediumEnd
+unfolding ending_of
+ending_last op attempt outcome h =
+    rw (ne_eqb outcome 0 (omega arith), ne_eqb outcome 1 (omega arith), ne_eqb outcome 2 (omega arith), ne_eqb outcome 3 (omega arith))
+
 -- the limit of a row stands in its column of redundancy
 pub limit_redundancy : (op : Op) → limit_at op 1 ≡ (row_of op).attempts
 unfolding row_of
@@ -130,6 +136,14 @@ module _ (q : Request) (outcome length : ℕ) (noise : Bool) (known : noise ≡ 
 
   pub noise_room : noise ≡ true → q.noise < 255
   noise_room e = omega (arith, noise_left e, noise_fits q.op)
+
+  pub noise_passed : noise ≡ true → verdict_of q outcome length ≡ Repeats (past_noise q)
+  unfolding verdict_of
+  noise_passed e = rw (← known, e)
+
+  pub no_noise : noise ≡ false → verdict_of q outcome length ≡ table_verdict q outcome
+  unfolding verdict_of
+  no_noise e = rw (← known, e)
 
   -- it is a redundancy, which a read may have
   pub noise_allowed : noise ≡ true → is_allowed q.op outcome ≡ true

@@ -366,6 +366,34 @@ module _ (c : Channel) (some : 0 < size c) (few : size c ≤ desk_bits) (u : ℕ
   book_works (Repeats q) frozen = repeat_works q frozen
   book_works (Ends e) frozen = end_works e frozen
 
+-- ---- one start by the desk
+
+-- a start that is held back, and one that is not, by what works
+module _ (n : ℕ) (d : Desk) (frozen : Bool) (w : Found) (known : w ≡ work_on n d) where
+  pub starts_none : (frozen || is_found w) ≡ true → (Nothing ≡ starts_on n d frozen) × (unit_number w ≡ works_after n d frozen)
+  unfolding starts_on works_after
+  starts_none h = rw (← known, h) (refl, refl)
+
+  pub starts_next : (frozen || is_found w) ≡ false → (x : Found) → x ≡ next_on n d → (x ≡ starts_on n d frozen) × (unit_number x ≡ works_after n d frozen)
+  unfolding starts_on works_after
+  starts_next h x e = rw (← known, h, ← e) (refl, last w x (or_right frozen (is_found w) h))
+    where
+      last : (w x : Found) → is_found w ≡ false → unit_number x ≡ unit_number (or_else x w)
+      last (At k) x q = true_not_false refl q
+      last Nothing (At k) q = refl
+      last Nothing Nothing q = refl
+
+-- an ask, by whether it is accepted
+module _ (n : ℕ) (x : Unit) (u : ℕ) (d : Desk) (op : Op) (urgent frozen none : Bool) (known : none ≡ is_idle x.turn) where
+  pub ask_taken_on : (x.declared && none) ≡ true
+      → ask_move n x u d op urgent frozen ≡ moved_on n (Waiting (new_request op urgent)) x.position (seated_at n d u (waiting_as urgent)) frozen
+  unfolding ask_move
+  ask_taken_on h = rw (← known, h)
+
+  pub ask_left_on : (x.declared && none) ≡ false → ask_move n x u d op urgent frozen ≡ still_on n x d
+  unfolding ask_move
+  ask_left_on h = rw (← known, h)
+
 -- ---- the same of a channel that has n units
 
 module _ (c : Channel) (n : ℕ) (long : size c ≡ n) (some : 0 < n) (few : n ≤ desk_bits) where

@@ -77,6 +77,9 @@ module _ (mask u : ℕ) (word : mask < 2 ^ desk_bits) (among : u < desk_bits) (o
 abbrev pub Passed : (ℕ → Bool) → ℕ → ℕ → Type 0
 Passed test i mask = (mask < 2 ^ desk_bits) × ((b : ℕ) → b < desk_bits → bit_at mask b ≡ (ltb b i && test b))
 
+pub passed_none : (test : ℕ → Bool) → Passed test 0 0
+passed_none test = (omega arith, λ b l. zero_bit b ∙ sym (ap (λ (t : Bool). t && test b) (le-ltb b 0 (omega arith))))
+
 or_none : (a : Bool) → (a || false) ≡ a
 or_none true = refl
 or_none false = refl
