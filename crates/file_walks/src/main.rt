@@ -6,57 +6,105 @@
 mod print;
 
 use file::{Arrival, File, Wish};
+use file_input::Finding;
 use numbers::next;
 use print::{found, number, whole};
 use std::io::Stdout;
 use streams::read_full;
 use word::Checked;
 
-// The file, the words of a buffer, and where the next event is read.
+// The text, and where its next number is read.
+#[derive(Drop)]
+struct Reader<'a> {
+    text: &'a [u8],
+    at: usize,
+}
+
+impl Reader<'_> {
+    fn number(&mut self) -> u64 {
+        let n = next(self.text, self.at);
+        self.at = n.at;
+        n.value
+    }
+
+    fn flag(&mut self) -> bool {
+        self.number() != 0
+    }
+
+    // The low byte of a number, its low two and its low four.
+    fn byte(&mut self) -> u8 {
+        (self.number() & 0xff) as u8
+    }
+
+    fn size(&mut self) -> u16 {
+        (self.number() & 0xffff) as u16
+    }
+
+    fn wide(&mut self) -> u32 {
+        (self.number() & 0xffff_ffff) as u32
+    }
+}
+
+// What happens to the file.
+#[derive(Clone, Copy)]
+enum Event {
+    Open,
+    Take,
+    Deliver,
+    GiveBack,
+    Mark,
+    Get,
+    Skip,
+    Put,
+    Seal,
+    Send,
+    Written,
+    NotWritten,
+}
+
+impl From<u64> for Event {
+    fn from(kind: u64) -> Event {
+        match kind {
+            1 => Event::Open,
+            2 => Event::Take,
+            3 => Event::Deliver,
+            4 => Event::GiveBack,
+            5 => Event::Mark,
+            6 => Event::Get,
+            7 => Event::Skip,
+            8 => Event::Put,
+            9 => Event::Seal,
+            10 => Event::Send,
+            11 => Event::Written,
+            _ => Event::NotWritten,
+        }
+    }
+}
+
+// The file, and the words of a buffer.
 #[derive(Clone, Copy)]
 struct Desk {
     file: File,
     w: u16,
-    at: usize,
 }
 
-// A number as a byte, and as one of two and of four bytes.
-fn byte(n: u64) -> u8 {
-    (n % 256) as u8
-}
-
-fn size(n: u64) -> u16 {
-    (n % 65536) as u16
-}
-
-fn wide(n: u64) -> u32 {
-    (n % 4294967296) as u32
-}
-
-fn open(text: &[u8], p: Desk) -> Desk {
-    let w = next(text, p.at);
-    let output = next(text, w.at);
-    let double = next(text, output.at);
-    let sequence = next(text, double.at);
-    let check = next(text, sequence.at);
-    let b = next(text, check.at);
-    let r = next(text, b.at);
-    let low = next(text, r.at);
-    let high = next(text, low.at);
-    let q = Wish {
+fn open(from: &mut Reader<'_>) -> Desk {
+    let w = from.size();
+    let wish = Wish {
         channel: 0,
         unit: 0,
-        output: output.value != 0,
-        double: double.value != 0,
-        sequence: sequence.value != 0,
-        check: check.value != 0,
-        size: size(b.value),
-        rlen: size(r.value),
+        output: from.flag(),
+        double: from.flag(),
+        sequence: from.flag(),
+        check: from.flag(),
+        size: from.size(),
+        rlen: from.size(),
     };
+    let low = from.byte();
+    let high = from.byte();
     Desk {
-        file: file::opened_file(q, byte(low.value), byte(high.value)),
-        w: size(w.value),
-        at: high.at,
+        file: file::opened_file(wish, low, high),
+        w,
     }
 }
 
@@ -67,21 +115,19 @@ fn take(to: Stdout, f: File, w: u16) -> File {
 }
 
 fn get(to: Stdout, f: File, w: u16) -> File {
-    let r = file_input::get(f, w);
-    let g = r.got;
-    number(to, file_input::got_number(g) as u64);
-    number(to, file_input::got_start(g) as u64);
-    number(to, file_input::got_count(g) as u64);
-    found(to, file_input::got_found(g));
-    r.file
+    let Finding { got, file } = file_input::get(f, w);
+    number(to, file_input::got_number(got) as u64);
+    number(to, file_input::got_start(got) as u64);
+    number(to, file_input::got_count(got) as u64);
+    found(to, file_input::got_found(got));
+    file
 }
 
 fn put(to: Stdout, f: File, w: u16) -> File {
     let g = file_output::added(f);
     number(to, file_output::put_start(f, w) as u64);
     number(to, file_output::part_length(g) as u64);
-    let sealed = if file_output::is_complete(g) { 1 } else { 0 };
-    number(to, sealed);
+    number(to, u64::from(file_output::is_complete(g)));
     file_output::after_put(f)
 }
 
@@ -97,93 +143,54 @@ fn send(to: Stdout, f: File, w: u16) -> File {
     f
 }
 
-// The file after an event that has no numbers of its own.
-fn after(to: Stdout, kind: u64, f: File, w: u16) -> File {
-    match kind {
-        2 => take(to, f, w),
-        4 => file_input::gave_back(f),
-        5 => file_input::met_mark(f),
-        6 => get(to, f, w),
-        7 => file::without_oldest(f),
-        8 => put(to, f, w),
-        9 => seal(to, f, w),
-        10 => send(to, f, w),
-        11 => file_output::after_write(f, true),
-        _ => file_output::after_write(f, false),
-    }
+fn deliver(from: &mut Reader<'_>, f: File) -> File {
+    let words = from.size();
+    let error = from.byte();
+    let failed = from.byte();
+    let check = Checked {
+        error,
+        sum: from.wide(),
+        number: from.size(),
+        sumread: from.wide(),
+        numberread: from.size(),
+    };
+    file_input::delivered(f, words, Arrival { failed, check })
 }
 
-fn deliver(text: &[u8], p: Desk) -> Desk {
-    let n = next(text, p.at);
-    let error = next(text, n.at);
-    let failed = next(text, error.at);
-    let sum = next(text, failed.at);
-    let due = next(text, sum.at);
-    let sumread = next(text, due.at);
-    let numberread = next(text, sumread.at);
-    let c = Checked {
-        error: byte(error.value),
-        sum: wide(sum.value),
-        number: size(due.value),
-        sumread: wide(sumread.value),
-        numberread: size(numberread.value),
+// The desk after an event, whose own numbers come next.
+fn after(to: Stdout, event: Event, from: &mut Reader<'_>, desk: Desk) -> Desk {
+    let Desk { file: f, w } = desk;
+    let file = match event {
+        Event::Open => return open(from),
+        Event::Take => take(to, f, w),
+        Event::Deliver => deliver(from, f),
+        Event::GiveBack => file_input::gave_back(f),
+        Event::Mark => file_input::met_mark(f),
+        Event::Get => get(to, f, w),
+        Event::Skip => file::without_oldest(f),
+        Event::Put => put(to, f, w),
+        Event::Seal => seal(to, f, w),
+        Event::Send => send(to, f, w),
+        Event::Written => file_output::after_write(f, true),
+        Event::NotWritten => file_output::after_write(f, false),
     };
-    let a = Arrival {
-        failed: byte(failed.value),
-        check: c,
-    };
-    let f = p.file;
-    Desk {
-        file: file_input::delivered(f, size(n.value), a),
-        w: p.w,
-        at: numberread.at,
-    }
-}
-
-// One event, of which the kind has been read.
-fn event(to: Stdout, text: &[u8], kind: u64, p: Desk) -> Desk {
-    if kind == 1 {
-        return open(text, p);
-    }
-    if kind == 3 {
-        return deliver(text, p);
-    }
-    let f = p.file;
-    let g = after(to, kind, f, p.w);
-    Desk {
-        file: g,
-        w: p.w,
-        at: p.at,
-    }
+    Desk { file, w }
 }
 
 // Plays the whole text. There are no more events than bytes.
 fn play(to: Stdout, text: &[u8]) {
-    let mut p = Desk {
+    let mut desk = Desk {
         file: file::closed_file(),
         w: 0,
-        at: 0,
     };
-    let mut left = text.len();
-    while 0 < left {
-        let kind = next(text, p.at);
-        if kind.value == 0 {
+    let mut from = Reader { text, at: 0 };
+    for _ in 0..text.len() {
+        let kind = from.number();
+        if kind == 0 {
             return;
         }
-        let f = p.file;
-        p = event(
-            to,
-            text,
-            kind.value,
-            Desk {
-                file: f,
-                w: p.w,
-                at: kind.at,
-            },
-        );
-        let g = p.file;
-        whole(to, g);
-        left = left - 1;
+        desk = after(to, Event::from(kind), &mut from, desk);
+        whole(to, desk.file);
     }
 }
 

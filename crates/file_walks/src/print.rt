@@ -20,27 +20,28 @@ fn last(to: Stdout, n: u64) {
 fn flag(b: bool) -> u64
     ensures { result ≤ 1 }
 {
-    if b { 1 } else { 0 }
+    u64::from(b)
 }
 
-// What a check found: the error, the sum and the number worked out, and those read.
-pub fn found(to: Stdout, c: Checked) {
-    number(to, c.error as u64);
+// The sum and the number that a check worked out, and those read.
+fn fields(to: Stdout, c: Checked) {
     number(to, c.sum as u64);
     number(to, c.number as u64);
     number(to, c.sumread as u64);
     number(to, c.numberread as u64);
+}
+
+// What a check found: the error, and the fields.
+pub fn found(to: Stdout, c: Checked) {
+    number(to, c.error as u64);
+    fields(to, c);
 }
 
 // How a block arrived: the check error, the read error, and the rest of what the check found.
 fn arrived(to: Stdout, a: Arrival) {
-    let c = a.check;
-    number(to, c.error as u64);
+    number(to, a.check.error as u64);
     number(to, a.failed as u64);
-    number(to, c.sum as u64);
-    number(to, c.number as u64);
-    number(to, c.sumread as u64);
-    number(to, c.numberread as u64);
+    fields(to, a.check);
 }
 
 // The oldest full block, if there is one: its buffer, data words, the place of get in it, and how it arrived, the errors not told.
@@ -57,11 +58,7 @@ fn block(to: Stdout, f: File) {
 
 // The number of the taken buffer, 255 for none.
 fn taken(to: Stdout, f: File) {
-    let low = f.low;
-    let high = f.high;
-    let x = low.slot;
-    let y = high.slot;
-    if file::is_taken(x) | file::is_taken(y) {
+    if file::is_taken(f.low.slot) | file::is_taken(f.high.slot) {
         return number(to, file_input::taken_start(f, 1) as u64);
     }
     number(to, 255)

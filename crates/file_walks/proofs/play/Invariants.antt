@@ -1,9 +1,0 @@
--- `file_walks::play` is safe and ends: the events that may be left are counted down. Assumes nothing.
-use Prim.Native.Nat.{◌≤◌}
-use Rattle.file_walks.proofs.play.Given as goal
-
-abbrev pub invariant-loop-left : goal.invariant-loop-left
-invariant-loop-left l = l.left ≤ l.initial.left
-
-abbrev pub decreases-loop-left : goal.decreases-loop-left
-decreases-loop-left l = l.left
