@@ -7,16 +7,8 @@ ghost use Rattle.image_sound.specs.Judging.{flags_tight, is_good_file, kinds_rig
 use crate::slots::{BAD, slot_judged};
 use codec::two_at;
 use file::sizes_fit;
+use state_image::{EMPTY, FULL, PART, TAKEN};
 use word::BLOCK_NUMBERS;
-
-// What a buffer holds.
-const EMPTY: u8 = 0;
-
-const TAKEN: u8 = 1;
-
-const PART: u8 = 2;
-
-const FULL: u8 = 3;
 
 // Whether the truths of a file are 0 or 1.
 fn flags_tight(b: &[u8], at: usize) -> bool

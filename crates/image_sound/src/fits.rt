@@ -6,20 +6,7 @@ ghost use Rattle.state_image.specs.Images.{state_size};
 ghost use Rattle.image_sound.specs.Judging.{ready_by, unit_place, channels_in, fits_unit, KindsThere};
 
 use channel::{CHANNELS, UNITS};
-
-// Where the channels begin, the bytes of a channel's own numbers, of a unit and of a channel.
-pub const FIRST: usize = 4;
-
-pub const OWN: usize = 2;
-
-pub const UNIT: usize = 12;
-
-pub const CHANNEL: usize = OWN + UNITS * UNIT;
-
-// What a buffer holds.
-const TAKEN: u8 = 1;
-
-const FULL: u8 = 3;
+use state_image::{CHANNEL, CHANNEL_OWN, FULL, STATE_OWN, TAKEN, UNIT};
 
 fn wide(x: u8) -> usize
     ensures { result ≡ x }
@@ -32,7 +19,7 @@ pub fn unit_place(channel: usize, unit: usize) -> usize
     requires { (channel < channel_count) × (unit < unit_count) }
     ensures { result ≡ unit_place channel unit }
 {
-    FIRST + channel * CHANNEL + (OWN + unit * UNIT)
+    STATE_OWN + channel * CHANNEL + (CHANNEL_OWN + unit * UNIT)
 }
 
 // Whether a file is ready for what is requested of its unit, by the unit's and the file's bytes: whether anything is, the operation, the direction, and the kinds

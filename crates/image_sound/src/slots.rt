@@ -6,14 +6,9 @@ ghost use Rattle.image_sound.specs.Judging.{has_only_words, slot_judged, full_re
 
 use codec::{four_at, two_at, word_at};
 use file::is_arrival;
-use state_image::arrival_at;
+use state_image::{FULL, PART, arrival_at};
 
-// The kinds of what a buffer holds.
-const PART: u8 = 2;
-
-const FULL: u8 = 3;
-
-// None of them.
+// None of the kinds of what a buffer holds.
 pub const BAD: u8 = 4;
 
 // Whether a buffer has no bytes besides its number, its kind and its words.

@@ -2,6 +2,7 @@
 // or refuses a proposal, whoever made it. The two share the judgement of the list and nothing else.
 // An event is one number: 0 to 63 opens that file with a single buffer, 64 to 127 opens file 0 to 63 with a double one, 128 to 191 closes file 0 to 63.
 // A row, what a proposal says of one opening, is one number: count of buffers, file, second buffer, first buffer, a byte each, highest first.
+// Events and rows stay numbers: the definitions of specs/, which say what a good list and an acceptable proposal are, are about these numbers.
 // It knows nothing of texts, nor of the files and pools of the pack.
 #![tactic(auto)]
 

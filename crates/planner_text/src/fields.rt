@@ -7,7 +7,7 @@ ghost use Rattle.planner_text.specs.Texts.{field1, field2, field3, close_event, 
 // The byte between fields.
 const BLANK: u8 = 32;
 
-// No number.
+// No number. It stays one past a byte: `row_of` and `packed` of specs/ give a field that is missing the same byte as a number too large.
 const NONE: u16 = 256;
 
 // How many bytes stand before the first `stop`: all, if there is none.

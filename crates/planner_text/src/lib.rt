@@ -9,7 +9,7 @@ mod lines;
 pub use fields::{event_of, row_of};
 pub use lines::{read_list, read_proposal};
 
-// A list that was read: its limit, 0 if the first line is no number, and how many events stand in the room.
+// A list that was read: its limit, 0 (which the judgement refuses as it refuses a written 0) if the first line is no number, and how many events stand in the room.
 #[derive(Clone, Copy)]
 pub struct ListRead {
     pub limit: u8,

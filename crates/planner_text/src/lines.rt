@@ -41,7 +41,7 @@ fn read_events(text: &[u8], at: usize, events: &mut [u8]) -> usize
     events.len()
 }
 
-// The same as rows of a proposal.
+// The same as rows of a proposal. It stays beside `read_events`: one function for both would take what a line says as a closure and again as a definition.
 fn read_rows(text: &[u8], at: usize, rows: &mut [u32]) -> usize
     requires { at ≤ length text.now }
     ensures rows_after { take result rows.new ≡ take (length rows.old) (map row_of (lines_of (drop at text.now))) }

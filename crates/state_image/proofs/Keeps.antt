@@ -1,13 +1,13 @@
 -- The codecs of an image keep what they write: of a unit, a buffer and a file all, of a channel of n units those whose units from n on are blank, of a state
 -- the whole ones with a right free mask. Assumes nothing.
 use mathlib.Core.Path.{◌≡◌, refl, sym, ap, ap₂, ◌∙◌}
-use mathlib.Core.Bool.{Bool, true, false}
-use mathlib.Core.List.{List, [], ◌∷◌, ◌++◌, append_assoc}
-use Prim.Native.Nat.{ℕ, ◌+◌, ◌*◌, ◌-◌, ◌/◌, ◌%◌, ◌≤◌}
+use mathlib.Core.Bool.{false}
+use mathlib.Core.List.{List, ◌++◌, append_assoc}
+use Prim.Native.Nat.{ℕ, ◌+◌, ◌*◌, ◌≤◌}
 use native.Mathlib.Omega.{arith}
 use lib.Dec.{eqb}
 use mir.Val.{bool_byte}
-use lib.ListN.{length, take, drop, replicate, length-append, get_or, drop_of_length-le}
+use lib.ListN.{length, take, drop, length-append, drop_of_length-le}
 use lib.Seq.{drop_at, drop-drop, take_all}
 use Rattle.channel.specs.declared.Op.{Op}
 use Rattle.channel.specs.declared.Op.TheVariants.{Read, Write, Mark}
@@ -28,12 +28,12 @@ use Rattle.pool.specs.Free.{file_count}
 use Rattle.pool.specs.Masks.{free_mask}
 use Rattle.state.specs.declared.State.{State}
 use Rattle.state.specs.Places.{channel_count, no_channel}
-use Rattle.codec.specs.Codecs.{Codec, Keeps, Padded, All, first_of}
+use Rattle.codec.specs.Codecs.{Keeps, Padded, first_of}
 use Rattle.codec.specs.Rows.{word_codec}
 use Rattle.codec.proofs.Codecs.{any, all_any, padded_keeps, each_length, first_length}
 use Rattle.codec.proofs.Numbers.{flag_back, two_back, word_keeps}
-use Rattle.state_image.specs.Units.{turn_byte, request_in, turn_of, op_byte, op_of, unit_row, unit_bytes, request_from, position_from, unit_codec, units_codec, channel_row, channel_codec}
-use Rattle.state_image.specs.Files.{slot_words, buffer_row, buffer_bytes, full_from, slot_of, buffer_from, buffer_codec, file_row, file_from, file_codec, files_codec}
+use Rattle.state_image.specs.Units.{turn_byte, request_in, turn_of, op_byte, op_of, unit_bytes, request_from, position_from, unit_codec, units_codec, channel_row, channel_codec}
+use Rattle.state_image.specs.Files.{slot_words, buffer_row, buffer_bytes, buffer_from, buffer_codec, file_row, file_from, file_codec, files_codec}
 use Rattle.state_image.specs.Routines.{routines_codec}
 use Rattle.state_image.proofs.Posts.{HasPosts, routines_sized, routines_keep}
 use Rattle.state_image.specs.Images.{UnitsTo, Whole, state_head, state_row, state_with, state_from, channels_codec, state_size, state_codec, image_words, words_codec}

@@ -2,9 +2,9 @@
 -- their pieces, put or read one after the other, are the whole. Assumes nothing.
 use mathlib.Core.Path.{◌≡◌, refl, sym, ap, ap₂, ◌∙◌}
 use mathlib.Core.List.{List, [], ◌∷◌, ◌++◌, append_assoc}
-use Prim.Native.Nat.{ℕ, suc, ◌+◌, ◌*◌, ◌-◌, ◌≤◌}
+use Prim.Native.Nat.{ℕ, suc, ◌+◌, ◌*◌, ◌≤◌}
 use native.Mathlib.Omega.{arith}
-use lib.ListN.{length, take, drop, replicate, length-append, get_or, drop_of_length-le}
+use lib.ListN.{length, take, drop, length-append, get_or, drop_of_length-le}
 use lib.Seq.{drop_at, drop-drop, take_all, get_or-drop}
 use Rattle.area.specs.Parts.{paste, pasted_in}
 use Rattle.channel.specs.Units.{unit_count, channel_count}
@@ -15,10 +15,10 @@ use Rattle.routines.specs.declared.Posts.{Posts}
 use Rattle.routines.specs.declared.Routines.{Routines}
 use Rattle.routines.specs.Ranks.{depth, main_program}
 use Rattle.routines.specs.Posts.{empty_post}
-use Rattle.codec.specs.Codecs.{Codec, Keeps, Padded, All, first_of, padded}
+use Rattle.codec.specs.Codecs.{Keeps, Padded, All, first_of}
 use Rattle.codec.proofs.Codecs.{any, all_any, padded_keeps, each_length, first_length}
 use Rattle.codec.proofs.Loops.{put_fits, put_then}
-use Rattle.state_image.specs.Routines.{program_size, program_row, program_codec, pushed_codec, programs_size, programs_codec, post_size, post_row, post_codec, unit_posts_codec, posts_codec, empty_posts, all_posts_codec, routines_size, routines_codec}
+use Rattle.state_image.specs.Routines.{program_size, program_row, program_codec, pushed_codec, programs_size, programs_codec, post_codec, unit_posts_codec, posts_codec, empty_posts, all_posts_codec, routines_size, routines_codec}
 use Rattle.state_image.specs.Images.{PostsTo}
 
 -- ---- what runs and was interrupted

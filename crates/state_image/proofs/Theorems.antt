@@ -2,8 +2,8 @@
 -- "not the image of a sound state as document 01 lists it": `image_good` and `good_image`. "Two different good images never stand for the same
 -- state": `one_image`. Assumes nothing.
 use borrow.Author.Tests.{eqb-true, eq-eqb}
-use mathlib.Core.Path.{◌≡◌, refl, sym, ap, ◌∙◌}
-use mathlib.Core.Bool.{Bool, true, false, ◌&&◌}
+use mathlib.Core.Path.{◌≡◌, sym, ap, ◌∙◌}
+use mathlib.Core.Bool.{true, false}
 use mathlib.Core.List.{List, [], ◌++◌, append-nil}
 use Prim.Native.Nat.{ℕ, ◌+◌, ◌*◌, ◌-◌, ◌≤◌, ◌<◌}
 use native.Mathlib.Omega.{arith}
@@ -11,20 +11,18 @@ use lib.Dec.{eqb}
 use lib.ListN.{length, take, drop, length-append, length-drop, take-append-drop, drop_of_length-le}
 use lib.Seq.{take_at, drop_at}
 use Rattle.area.proofs.Walks.{and_left, and_right, and_both}
-use Rattle.channel.specs.declared.Channel.{Channel}
 use Rattle.channel.specs.Units.{unit_count, idle_unit}
 use Rattle.file.specs.Sizes.{closed_file}
 use Rattle.pool.specs.Free.{file_count}
-use Rattle.pool.specs.Masks.{free_mask}
 use Rattle.state.specs.declared.State.{State}
 use Rattle.state.specs.Places.{channel_count, no_channel}
 use Rattle.state_sound.specs.Soundness.{sound}
 use Rattle.state_sound.proofs.Facts.{sound_facts}
-use Rattle.codec.specs.Codecs.{same, All, read_each, write_each}
+use Rattle.codec.specs.Codecs.{same, read_each, write_each}
 use Rattle.codec.specs.Rows.{word_codec}
-use Rattle.codec.proofs.Codecs.{any, all_any, same_self, same_is, padded_keeps, padded_length, padded_rest, read_whole, write_whole, read_each_lem, length_read, all_drop}
+use Rattle.codec.proofs.Codecs.{any, all_any, same_self, same_is, padded_keeps, padded_length, padded_rest, read_whole, write_whole, read_each_lem, all_drop}
 use Rattle.codec.proofs.Numbers.{word_keeps, words_tight}
-use Rattle.state_image.specs.Units.{channel_codec, units_codec, channel_head, unit_codec}
+use Rattle.state_image.specs.Units.{channel_codec, channel_head, unit_codec}
 use Rattle.state_image.specs.Files.{file_codec, files_codec}
 use Rattle.routines.specs.Ranks.{depth, main_program}
 use Rattle.routines.specs.Posts.{empty_post}

@@ -1,5 +1,5 @@
 -- The bytes of a buffer and of a file: a line for each field. What has no meaning is zero. Assumes nothing.
-use Rattle.std.specs.Prelude.{ℕ, ◌+◌, ◌*◌, ◌/◌, ◌%◌, Bool, cond, List, [], ◌∷◌, ◌++◌, eqb, get_or, drop}
+use Rattle.std.specs.Prelude.{ℕ, ◌+◌, cond, List, [], ◌∷◌, ◌++◌, eqb, get_or, drop}
 use mir.Val.{bool_byte}
 use Rattle.word.specs.declared.Checked.{Checked}
 use Rattle.file.specs.declared.Arrival.{Arrival}

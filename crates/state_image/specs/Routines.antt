@@ -1,7 +1,6 @@
 -- The bytes of what runs and was interrupted, and of what stands with each unit (document 02, M-110): a line for each field. Assumes nothing.
 use Rattle.std.specs.Prelude.{ℕ, ◌+◌, ◌*◌, List, [], ◌∷◌, ◌++◌, get_or, drop, replicate}
 use Rattle.channel.specs.Units.{unit_count, channel_count}
-use Rattle.routines.specs.declared.Due.{Due}
 use Rattle.routines.specs.declared.Program.{Program}
 use Rattle.routines.specs.declared.Programs.{Programs}
 use Rattle.routines.specs.declared.Post.{Post}

@@ -1,5 +1,5 @@
 -- The bytes of a unit and of a channel: a line for each field. What has no meaning is zero. Assumes nothing.
-use Rattle.std.specs.Prelude.{ℕ, ◌+◌, ◌*◌, Bool, true, false, cond, List, [], ◌∷◌, ◌++◌, eqb, get_or, drop}
+use Rattle.std.specs.Prelude.{ℕ, ◌+◌, ◌*◌, false, cond, List, [], ◌∷◌, ◌++◌, eqb, get_or, drop}
 use mir.Val.{bool_byte}
 use Rattle.channel.specs.declared.Op.{Op}
 use Rattle.channel.specs.declared.Op.TheVariants.{Read, Write, Mark}

@@ -19,14 +19,23 @@ pub const FILE: usize = OWN + (BUFFER + BUFFER);
 // The bytes of all files.
 pub const FILE_BYTES: usize = FILES * FILE;
 
+// What a buffer holds, as a byte.
+pub const EMPTY: u8 = 0;
+
+pub const TAKEN: u8 = 1;
+
+pub const PART: u8 = 2;
+
+pub const FULL: u8 = 3;
+
 fn slot_kind(x: Slot) -> u8
     ensures { result ≡ slot_kind x }
 {
     match x {
-        Slot::Empty => 0,
-        Slot::Taken => 1,
-        Slot::Part(_) => 2,
-        Slot::Full { .. } => 3,
+        Slot::Empty => EMPTY,
+        Slot::Taken => TAKEN,
+        Slot::Part(_) => PART,
+        Slot::Full { .. } => FULL,
     }
 }
 
@@ -109,13 +118,13 @@ fn full_at(b: &[u8], at: usize) -> Slot
 fn slot_of(kind: u8, words: u16, full: Slot) -> Slot
     ensures { result ≡ slot_of kind words full }
 {
-    if kind == 0 {
+    if kind == EMPTY {
         return Slot::Empty;
     }
-    if kind == 1 {
+    if kind == TAKEN {
         return Slot::Taken;
     }
-    if kind == 2 {
+    if kind == PART {
         return Slot::Part(words);
     }
     full

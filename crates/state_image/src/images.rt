@@ -8,7 +8,7 @@ ghost use Rattle.state_image.specs.Images.{state_row, state_codec, state_size, s
 use crate::Image;
 use crate::files::{FILE_BYTES, files_at, put_files};
 use crate::programs::{ROUTINE_BYTES, put_routines, routines_at};
-use crate::units::{CHANNEL, channels_at, put_channels};
+use crate::units::{CHANNEL, CHANNEL_OWN, UNIT, channels_at, put_channels};
 use crate::words::{ALL_WORDS, WORDS, put_words, read_words};
 use channel::UNITS;
 use codec::{are_same, put_bytes, two_at};
@@ -17,15 +17,15 @@ use state::{CHANNELS, State, before_start};
 use state_sound::is_sound;
 
 // The bytes of a state's own numbers.
-const OWN: usize = 4;
+pub const STATE_OWN: usize = 4;
 
 // The bytes of a state, and of its image with the area.
-const STATE: usize = OWN + (CHANNELS * CHANNEL + (FILE_BYTES + ROUTINE_BYTES));
+const STATE: usize = STATE_OWN + (CHANNELS * CHANNEL + (FILE_BYTES + ROUTINE_BYTES));
 
 pub const IMAGE: usize = STATE + ALL_WORDS;
 
 // The bytes of a state's own numbers.
-fn state_row(s: State) -> [u8; OWN]
+fn state_row(s: State) -> [u8; STATE_OWN]
     ensures { result ≡ state_row s }
 {
     [s.m, s.frozen as u8, (s.w % 256) as u8, (s.w / 256) as u8]
@@ -38,15 +38,15 @@ fn put_state(out: &mut [u8], s: State, n: usize)
 {
     let own = state_row(s);
     put_bytes(out, 0, &own);
-    put_channels(out, OWN, s.channels, n);
+    put_channels(out, STATE_OWN, s.channels, n);
     put_files(
         out,
-        OWN + CHANNELS * (crate::units::OWN + n * crate::units::UNIT),
+        STATE_OWN + CHANNELS * (CHANNEL_OWN + n * UNIT),
         s.files,
     );
     put_routines(
         out,
-        OWN + (CHANNELS * (crate::units::OWN + n * crate::units::UNIT) + FILE_BYTES),
+        STATE_OWN + (CHANNELS * (CHANNEL_OWN + n * UNIT) + FILE_BYTES),
         s.routines,
         n,
     );
@@ -58,14 +58,11 @@ fn state_at(b: &[u8], n: usize) -> State
     ensures { result ≡ (state_codec n).read b.now }
 {
     let w = two_at(b, 2);
-    let channels = channels_at(b, OWN, n);
-    let files = files_at(
-        b,
-        OWN + CHANNELS * (crate::units::OWN + n * crate::units::UNIT),
-    );
+    let channels = channels_at(b, STATE_OWN, n);
+    let files = files_at(b, STATE_OWN + CHANNELS * (CHANNEL_OWN + n * UNIT));
     let routines = routines_at(
         b,
-        OWN + (CHANNELS * (crate::units::OWN + n * crate::units::UNIT) + FILE_BYTES),
+        STATE_OWN + (CHANNELS * (CHANNEL_OWN + n * UNIT) + FILE_BYTES),
         n,
     );
     let free = free_mask(b[0], files);

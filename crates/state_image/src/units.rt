@@ -12,10 +12,10 @@ use state::CHANNELS;
 // The bytes of a unit, and of a channel's own numbers.
 pub const UNIT: usize = 12;
 
-pub const OWN: usize = 2;
+pub const CHANNEL_OWN: usize = 2;
 
 // The bytes of a channel with all its units.
-pub const CHANNEL: usize = OWN + UNITS * UNIT;
+pub const CHANNEL: usize = CHANNEL_OWN + UNITS * UNIT;
 
 fn turn_byte(t: Turn) -> u8
     ensures { result ≡ turn_byte t }
@@ -198,7 +198,7 @@ fn units_at(b: &[u8], start: usize, n: usize) -> [Unit; UNITS]
 }
 
 // The bytes of a channel's own numbers.
-fn channel_row(c: Channel) -> [u8; OWN]
+fn channel_row(c: Channel) -> [u8; CHANNEL_OWN]
     ensures { result ≡ channel_row c }
 {
     [c.mark, c.urgent]
@@ -211,7 +211,7 @@ pub fn put_channel(out: &mut [u8], at: usize, c: Channel, n: usize)
 {
     let own = channel_row(c);
     put_bytes(out, at, &own);
-    put_units(out, at + OWN, c.units, n);
+    put_units(out, at + CHANNEL_OWN, c.units, n);
 }
 
 // The channel of n units that stands at byte `at`.
@@ -219,7 +219,7 @@ pub fn channel_at(b: &[u8], at: usize, n: usize) -> Channel
     requires { (n ≤ unit_count) × (at + (channel_codec n).size ≤ length b.now) }
     ensures { result ≡ (channel_codec n).read (drop at b.now) }
 {
-    let units = units_at(b, at + OWN, n);
+    let units = units_at(b, at + CHANNEL_OWN, n);
     Channel {
         units,
         mark: b[at],
@@ -232,7 +232,7 @@ pub fn put_channels(out: &mut [u8], at: usize, channels: [Channel; CHANNELS], n:
     requires { (n ≤ unit_count) × (at + (channels_codec n).size ≤ length out.old) }
     ensures { out.new ≡ paste at ((channels_codec n).write channels) out.old }
 {
-    let size = OWN + n * UNIT;
+    let size = CHANNEL_OWN + n * UNIT;
     let mut to = at;
     for channel in channels.iter() {
         put_channel(out, to, *channel, n);
@@ -247,7 +247,7 @@ pub fn channels_at(b: &[u8], start: usize, n: usize) -> [Channel; CHANNELS]
 {
     let none = channel::fresh(0);
     let mut channels = [none; CHANNELS];
-    let size = OWN + n * UNIT;
+    let size = CHANNEL_OWN + n * UNIT;
     let mut at = start;
     for channel in channels.iter_mut() {
         let c = channel_at(b, at, n);

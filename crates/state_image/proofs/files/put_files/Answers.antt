@@ -1,5 +1,4 @@
 -- `state_image::files::put_files` meets its contract. After i turns the first i files are put (`HasWritten`). Assumes nothing.
-use Prim.Native.Nat.{◌-◌}
 use native.Mathlib.Omega.{arith}
 use Rattle.codec.proofs.Loops.{written_none, written_room, written_length, written_one, written_all}
 use Rattle.state_image.proofs.Keeps.{file_keeps}

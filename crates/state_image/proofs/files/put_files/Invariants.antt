@@ -1,4 +1,3 @@
-use Prim.Native.Nat.{◌-◌}
 use Rattle.codec.proofs.Loops.{HasWritten}
 use Rattle.state_image.proofs.Keeps.{file_keeps}
 use Rattle.pool.specs.Free.{file_count}

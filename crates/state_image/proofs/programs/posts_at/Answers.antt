@@ -1,5 +1,4 @@
 -- `state_image::programs::posts_at` meets its contract. After i turns the posts of the first i channels are read (`HasRead`). Assumes nothing.
-use Prim.Native.Nat.{◌-◌}
 use Rattle.channel.specs.Units.{channel_count}
 use Rattle.codec.proofs.Loops.{read_none, read_room, read_one, read_all}
 use Rattle.state_image.specs.Routines.{posts_codec, empty_posts}

@@ -1,4 +1,4 @@
-use Prim.Native.Nat.{◌-◌, ◌*◌}
+use Prim.Native.Nat.{◌*◌}
 use Rattle.channel.specs.Units.{channel_count}
 use Rattle.codec.proofs.Loops.{HasRead}
 use Rattle.state_image.specs.Routines.{post_size, posts_codec, empty_posts}

@@ -1,5 +1,4 @@
 -- `state_image::programs::pushed_at` meets its contract. After i turns the first i programs are read (`HasRead`). Assumes nothing.
-use Prim.Native.Nat.{◌-◌}
 use Rattle.codec.proofs.Loops.{read_none, read_room, read_one, read_all}
 use Rattle.routines.specs.Ranks.{depth, main_program}
 use Rattle.state_image.specs.Routines.{program_codec}

@@ -1,4 +1,3 @@
-use Prim.Native.Nat.{◌-◌}
 use Rattle.codec.proofs.Loops.{HasRead}
 use Rattle.routines.specs.Ranks.{depth, main_program}
 use Rattle.state_image.specs.Routines.{program_codec}

@@ -1,5 +1,4 @@
 -- `state_image::programs::put_posts` meets its contract. After i turns the posts of the first i channels are put (`HasWritten`). Assumes nothing.
-use Prim.Native.Nat.{◌-◌}
 use Rattle.channel.specs.Units.{channel_count}
 use Rattle.codec.proofs.Loops.{written_none, written_room, written_length, written_one, written_all}
 use Rattle.state_image.proofs.Posts.{posts_sized}

@@ -1,4 +1,4 @@
-use Prim.Native.Nat.{◌-◌, ◌*◌}
+use Prim.Native.Nat.{◌*◌}
 use Rattle.channel.specs.Units.{channel_count}
 use Rattle.codec.proofs.Loops.{HasWritten}
 use Rattle.state_image.proofs.Posts.{posts_sized}

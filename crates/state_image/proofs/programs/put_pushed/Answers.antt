@@ -1,5 +1,4 @@
 -- `state_image::programs::put_pushed` meets its contract. After i turns the first i programs are put (`HasWritten`). Assumes nothing.
-use Prim.Native.Nat.{◌-◌}
 use Rattle.codec.proofs.Loops.{written_none, written_room, written_length, written_one, written_all}
 use Rattle.routines.specs.Ranks.{depth, main_program}
 use Rattle.state_image.proofs.Posts.{program_keeps}

@@ -1,4 +1,3 @@
-use Prim.Native.Nat.{◌-◌}
 use Rattle.codec.proofs.Loops.{HasWritten}
 use Rattle.routines.specs.Ranks.{depth}
 use Rattle.state_image.proofs.Posts.{program_keeps}

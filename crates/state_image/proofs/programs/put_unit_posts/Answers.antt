@@ -1,5 +1,4 @@
 -- `state_image::programs::put_unit_posts` meets its contract. After i turns the first i posts are put (`HasWritten`). Assumes nothing.
-use Prim.Native.Nat.{◌-◌}
 use Rattle.channel.specs.Units.{unit_count}
 use Rattle.codec.proofs.Loops.{written_none, written_room, written_length, written_one, written_all}
 use Rattle.routines.specs.Posts.{empty_post}

@@ -1,4 +1,3 @@
-use Prim.Native.Nat.{◌-◌}
 use Rattle.codec.proofs.Loops.{HasWritten}
 use Rattle.state_image.proofs.Posts.{post_keeps}
 use Rattle.state_image.specs.Routines.{post_codec}

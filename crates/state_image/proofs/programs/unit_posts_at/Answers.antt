@@ -1,5 +1,4 @@
 -- `state_image::programs::unit_posts_at` meets its contract. After i turns the first i posts are read (`HasRead`). Assumes nothing.
-use Prim.Native.Nat.{◌-◌}
 use Rattle.channel.specs.Units.{unit_count}
 use Rattle.codec.proofs.Loops.{read_none, read_room, read_one, read_all, drop_blanks}
 use Rattle.routines.specs.Posts.{empty_post}

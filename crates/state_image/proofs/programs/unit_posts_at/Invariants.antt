@@ -1,4 +1,3 @@
-use Prim.Native.Nat.{◌-◌}
 use Rattle.channel.specs.Units.{unit_count}
 use Rattle.codec.proofs.Loops.{HasRead}
 use Rattle.routines.specs.Posts.{empty_post}

@@ -1,5 +1,5 @@
 use mathlib.Core.Path.{◌≡◌}
-use Prim.Native.Nat.{◌+◌, ◌-◌, ◌*◌}
+use Prim.Native.Nat.{◌+◌, ◌*◌}
 use lib.ListN.{replicate}
 use Rattle.codec.proofs.Loops.{HasRead}
 use Rattle.state.specs.Places.{channel_count, no_channel}

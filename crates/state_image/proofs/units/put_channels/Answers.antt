@@ -1,6 +1,5 @@
 -- `state_image::units::put_channels` meets its contract. After i turns the first i channels are put (`HasWritten`). Assumes nothing.
 use mathlib.Core.Path.{refl}
-use Prim.Native.Nat.{◌-◌}
 use native.Mathlib.Omega.{arith}
 use Rattle.codec.proofs.Loops.{written_none, written_room, written_length, written_one, written_all}
 use Rattle.state_image.proofs.Keeps.{channel_sized}

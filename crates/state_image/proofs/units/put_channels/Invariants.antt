@@ -1,5 +1,5 @@
 use mathlib.Core.Path.{◌≡◌}
-use Prim.Native.Nat.{◌+◌, ◌-◌, ◌*◌}
+use Prim.Native.Nat.{◌+◌, ◌*◌}
 use Rattle.codec.proofs.Loops.{HasWritten}
 use Rattle.state_image.proofs.Keeps.{channel_sized}
 use Rattle.state.specs.Places.{channel_count}

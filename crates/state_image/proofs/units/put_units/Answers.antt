@@ -1,5 +1,4 @@
 -- `state_image::units::put_units` meets its contract. After i turns the first i units are put (`HasWritten`). Assumes nothing.
-use Prim.Native.Nat.{◌-◌}
 use native.Mathlib.Omega.{arith}
 use Rattle.codec.proofs.Loops.{written_none, written_room, written_length, written_one, written_all}
 use Rattle.state_image.proofs.Keeps.{unit_keeps}

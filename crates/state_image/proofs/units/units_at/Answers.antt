@@ -1,6 +1,5 @@
 -- `state_image::units::units_at` meets its contract. After i turns the first i units are read (`HasRead`). Assumes nothing.
 use mathlib.Core.Path.{refl, ap, ◌∙◌}
-use Prim.Native.Nat.{◌-◌}
 use native.Mathlib.Omega.{arith}
 use lib.ListN.{drop}
 use Rattle.codec.proofs.Loops.{read_none, read_room, read_one, read_all, drop_blanks}

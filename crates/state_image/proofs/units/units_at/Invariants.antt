@@ -1,5 +1,4 @@
 use mathlib.Core.Path.{◌≡◌}
-use Prim.Native.Nat.{◌-◌}
 use lib.ListN.{replicate}
 use Rattle.codec.proofs.Loops.{HasRead}
 use mathlib.Core.Bool.{false}

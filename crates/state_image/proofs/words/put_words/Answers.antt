@@ -1,5 +1,4 @@
 -- `state_image::words::put_words` meets its contract. After i turns the first i words are put (`HasWritten`). Assumes nothing.
-use Prim.Native.Nat.{◌-◌}
 use native.Mathlib.Omega.{arith}
 use Rattle.codec.proofs.Loops.{written_none, written_room, written_length, written_one, written_all}
 use Rattle.codec.specs.Rows.{word_codec}

@@ -1,4 +1,3 @@
-use Prim.Native.Nat.{◌-◌}
 use Rattle.codec.proofs.Loops.{HasWritten}
 use Rattle.codec.specs.Rows.{word_codec}
 use Rattle.codec.proofs.Numbers.{word_keeps}

@@ -1,6 +1,6 @@
 -- `state_image::words::read_words` meets its contract. After i turns the first i words are read (`HasRead`). Assumes nothing.
 use mathlib.Core.Path.{sym, ◌∙◌}
-use Prim.Native.Nat.{◌-◌, ◌≤◌}
+use Prim.Native.Nat.{◌≤◌}
 use native.Mathlib.Omega.{arith}
 use lib.ListN.{length}
 use Rattle.codec.proofs.Loops.{read_none, read_room, read_one, read_all}

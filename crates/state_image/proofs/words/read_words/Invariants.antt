@@ -1,4 +1,3 @@
-use Prim.Native.Nat.{◌-◌}
 use Rattle.codec.proofs.Loops.{HasRead}
 use Rattle.codec.specs.Rows.{word_codec}
 use Rattle.state_image.specs.Images.{image_words}
