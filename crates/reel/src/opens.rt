@@ -1,11 +1,25 @@
 // The file is opened, and after a mark closed and opened again.
-ghost use Rattle.std.specs.Prelude.{◌≡◌};
-ghost use Rattle.pack.specs.Answers.{answer_by};
-ghost use Rattle.reel.specs.Steps.{begun_by, again_by};
+ghost use Rattle.std.specs.Prelude.{◌≡◌, []};
+ghost use Rattle.pack.specs.Answers.{answer_by, call_of};
+ghost use Rattle.reel.specs.Steps.{opens, begun_by, again_by};
 
 use crate::Options;
 use crate::turns::in_turn;
 use pack::{AnyAnswer, AnyCall, Masks, State};
+
+// The open of file 0 on unit 0 of channel 0.
+fn opening(o: Options) -> AnyCall
+    ensures { call_of result [] ≡ opens o }
+{
+    AnyCall::Open {
+        file: 0,
+        channel: 0,
+        unit: 0,
+        flags: o.flags,
+        size: o.size,
+        rlen: o.rlen,
+    }
+}
 
 // A fresh start of the pool with unit 0 of channel 0, and the open. It is refused as the open is.
 pub fn begun(area: &mut [u64], o: Options) -> AnyAnswer
@@ -18,50 +32,17 @@ pub fn begun(area: &mut [u64], o: Options) -> AnyAnswer
         d: 0,
         e: 0,
     };
-    let flags = o.flags;
-    let size = o.size;
-    let rlen = o.rlen;
-    let none = [0u64; 1];
-    in_turn(
-        pack::before_start(),
-        area,
-        AnyCall::Fresh {
-            m: 1,
-            w: 1024,
-            masks,
-        },
-        AnyCall::Open {
-            file: 0,
-            channel: 0,
-            unit: 0,
-            flags,
-            size,
-            rlen,
-        },
-        &none[..0],
-    )
+    let start = AnyCall::Fresh {
+        m: 1,
+        w: 1024,
+        masks,
+    };
+    in_turn(pack::before_start(), area, start, opening(o), &[])
 }
 
 // A close, and the open again: block numbers start at 1.
 pub fn again(s: State, area: &mut [u64], o: Options) -> AnyAnswer
     ensures { answer_by result area.new ≡ again_by s area.old o }
 {
-    let flags = o.flags;
-    let size = o.size;
-    let rlen = o.rlen;
-    let none = [0u64; 1];
-    in_turn(
-        s,
-        area,
-        AnyCall::Close(0),
-        AnyCall::Open {
-            file: 0,
-            channel: 0,
-            unit: 0,
-            flags,
-            size,
-            rlen,
-        },
-        &none[..0],
-    )
+    in_turn(s, area, AnyCall::Close(0), opening(o), &[])
 }

@@ -16,31 +16,36 @@ pub fn in_turn(
     ensures { answer_by result area.new ≡ in_turn s area.old (call_of first words.now) (call_of second words.now) }
 {
     let x = pack::answer(s, area, first, words);
-    let t = x.state;
-    pack::answer(t, area, second, words)
+    pack::answer(x.state, area, second, words)
 }
 
-// An operation that is asked for (0 read, 1 write, 2 mark), with no routine, and then reported with an outcome, and with words where it brings a block. Where the ask is refused, the
+// The operations of an ask, and the outcomes of a report, by the numbers of the pack's calls.
+pub const READ: u8 = 0;
+
+pub const WRITE: u8 = 1;
+
+pub const MARK: u8 = 2;
+
+pub const GOOD: u8 = 0;
+
+pub const FILE_MARK: u8 = 3;
+
+// An operation that is asked for, with no routine, and then reported with an outcome, and with words where it brings a block. Where the ask is refused, the
 // report is given the state as it was.
 pub fn ended(s: State, area: &mut [u64], op: u8, outcome: u8, words: &[u64]) -> AnyAnswer
     ensures { answer_by result area.new ≡ ended_by s area.old op outcome words.now }
 {
-    let naming = no_naming();
-    in_turn(
-        s,
-        area,
-        AnyCall::Ask {
-            file: 0,
-            op,
-            priority: 0,
-            naming,
-        },
-        AnyCall::Report {
-            channel: 0,
-            unit: 0,
-            outcome,
-            length: NO_LENGTH,
-        },
-        words,
-    )
+    let ask = AnyCall::Ask {
+        file: 0,
+        op,
+        priority: 0,
+        naming: no_naming(),
+    };
+    let report = AnyCall::Report {
+        channel: 0,
+        unit: 0,
+        outcome,
+        length: NO_LENGTH,
+    };
+    in_turn(s, area, ask, report, words)
 }

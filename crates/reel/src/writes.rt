@@ -3,7 +3,7 @@ ghost use Rattle.std.specs.Prelude.{◌≡◌};
 ghost use Rattle.pack.specs.Answers.{answer_by};
 ghost use Rattle.reel.specs.Steps.{put_by, sealed_by, sent_by, sent_mark_by};
 
-use crate::turns::ended;
+use crate::turns::{GOOD, MARK, WRITE, ended};
 use pack::{AnyAnswer, AnyCall, State};
 
 // The put of a record.
@@ -17,8 +17,7 @@ pub fn put(s: State, area: &mut [u64], words: &[u64]) -> AnyAnswer
 pub fn sealed(s: State, area: &mut [u64]) -> AnyAnswer
     ensures { answer_by result area.new ≡ sealed_by s area.old }
 {
-    let none = [0u64; 1];
-    pack::answer(s, area, AnyCall::Seal(0), &none[..0])
+    pack::answer(s, area, AnyCall::Seal(0), &[])
 }
 
 // The write of a full block, and its good end: the answer shows the block, check word last. Where no block is full it is refused 11, since the ask
@@ -26,14 +25,12 @@ pub fn sealed(s: State, area: &mut [u64]) -> AnyAnswer
 pub fn sent(s: State, area: &mut [u64]) -> AnyAnswer
     ensures { answer_by result area.new ≡ sent_by s area.old }
 {
-    let none = [0u64; 1];
-    ended(s, area, 1, 0, &none[..0])
+    ended(s, area, WRITE, GOOD, &[])
 }
 
 // The write of a mark, and its good end.
 pub fn sent_mark(s: State, area: &mut [u64]) -> AnyAnswer
     ensures { answer_by result area.new ≡ sent_mark_by s area.old }
 {
-    let none = [0u64; 1];
-    ended(s, area, 2, 0, &none[..0])
+    ended(s, area, MARK, GOOD, &[])
 }

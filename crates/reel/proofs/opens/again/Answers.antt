@@ -4,4 +4,4 @@ use Rattle.reel.proofs.opens.again.Goals as goal
 
 pub returns : goal.returns
 unfolding again_by
-returns c = c.in_turn.ensures
+returns c = rw c.opening.ensures at c.in_turn.ensures

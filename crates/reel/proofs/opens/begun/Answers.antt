@@ -3,4 +3,4 @@ use Rattle.reel.proofs.InTurn.{begun_is}
 use Rattle.reel.proofs.opens.begun.Goals as goal
 
 pub returns : goal.returns
-returns c = begun_is _ _ c.args.o _ c.before_start.ensures c.in_turn.ensures
+returns c = begun_is _ _ c.args.o _ c.before_start.ensures (rw c.opening.ensures at c.in_turn.ensures)
