@@ -1,59 +1,76 @@
-// What a line says: a mark, words, or nothing that is known.
+// The lines of a text, and what each says.
 
-// `Words` is how many; `Fault` stands where an image has a fault, for reading.
+use reel::WORDS;
+use session_line::{Line, has_begun, next_line, no_line};
+
+// The most characters of a line: those of 1,024 words.
+const LINE: usize = 10 * WORDS;
+
+// What a line says.
 #[derive(Clone, Copy)]
-pub enum Said {
-    Words(usize),
+pub enum Said<'a> {
+    Words(&'a [u64]),
     Mark,
+    // For reading: the image has a fault here.
     Fault,
+    // Nothing that is known.
     Bad,
+    // More than a line can say.
     Long,
 }
 
-fn is_digit(c: u8) -> bool {
-    ((48 <= c) & (c <= 57)) | ((65 <= c) & (c <= 70))
+// The line that has begun.
+#[derive(Drop)]
+pub struct Lines {
+    room: [u8; LINE],
+    line: Line,
 }
 
-fn all_digits(line: &[u8]) -> bool {
-    let mut good = true;
-    let mut i = 0;
-    while i < line.len() {
-        good = good & is_digit(line[i]);
-        i += 1;
-    }
-    good
+fn is_digit(c: &u8) -> bool {
+    matches!(*c, b'0'..=b'9' | b'A'..=b'F')
 }
 
-fn is_text(line: &[u8], text: &[u8]) -> bool {
-    if line.len() != text.len() {
-        return false;
-    }
-    let mut same = true;
-    let mut i = 0;
-    while i < line.len() {
-        if text.len() <= i {
-            return same;
-        }
-        same = same & (line[i] == text[i]);
-        i += 1;
-    }
-    same
-}
-
-// Words go to the front of the room; ten digits are a word.
-pub fn says(line: &[u8], overlong: bool, words: &mut [u64]) -> Said {
-    if overlong {
-        return Said::Long;
-    }
-    if is_text(line, b"MARK") {
+// What a whole line says; its words go to the front of the room. Ten digits are a word.
+fn says<'a>(line: &[u8], words: &'a mut [u64]) -> Said<'a> {
+    if line == b"MARK".as_slice() {
         return Said::Mark;
     }
-    if is_text(line, b"FAULT") {
+    if line == b"FAULT".as_slice() {
         return Said::Fault;
     }
-    if (line.len() % 10 != 0) | !all_digits(line) {
+    if line.len() % 10 != 0 || !line.iter().all(is_digit) {
         return Said::Bad;
     }
     let n = session_frame::words_into(line, 0, words);
-    Said::Words(n)
+    Said::Words(words.get(..n).unwrap_or(words))
+}
+
+impl Lines {
+    pub fn new() -> Lines {
+        Lines {
+            room: [0; LINE],
+            line: no_line(),
+        }
+    }
+
+    // Takes the bytes from a place on, as far as the line goes. If it ends among them, the answer is the place after it.
+    pub fn next(&mut self, bytes: &[u8], at: usize) -> Option<usize> {
+        let step = next_line(bytes, at, &mut self.room, self.line);
+        self.line = step.line;
+        step.ended.then_some(step.at)
+    }
+
+    pub fn has_begun(&self) -> bool {
+        has_begun(self.line)
+    }
+
+    // What the line that has ended says, with its words at the front of a lent room; the next begins.
+    pub fn said<'a>(&mut self, words: &'a mut [u64]) -> Said<'a> {
+        let line = self.line;
+        self.line = no_line();
+        if line.overlong {
+            return Said::Long;
+        }
+        says(self.room.get(..line.filled).unwrap_or(&self.room), words)
+    }
 }

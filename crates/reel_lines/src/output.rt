@@ -1,96 +1,64 @@
-// Text into the output, from a place on; the answer is the place after it. What has no room is left out.
+// Lines that wait to be written to standard output.
 
-use streams::decimal;
+use crate::failure::Failure;
+use std::io::{Cursor, Stdout, Write};
+use streams::{large_buffer, write_all};
 
-// The first n elements, or all.
-pub fn front(bytes: &[u8], n: usize) -> &[u8] {
-    if bytes.len() < n {
-        return bytes;
+// How much may wait: a line of 1,024 words has room after it.
+const WAITING: u64 = 32768;
+
+#[derive(Drop)]
+pub struct Output {
+    // What waits, up to the cursor's position.
+    pub text: Cursor<[u8; 65536]>,
+    to: Stdout,
+}
+
+impl Output {
+    pub fn new(to: Stdout) -> Output {
+        Output {
+            text: Cursor::new(large_buffer()),
+            to,
+        }
     }
-    &bytes[..n]
-}
 
-pub fn front_words(words: &[u64], n: usize) -> &[u64] {
-    if words.len() < n {
-        return words;
+    // Adds words one after the other, and the end of their line.
+    pub fn add_words(&mut self, words: &[u64]) -> Result<(), Failure> {
+        for word in words {
+            self.text.write_all(&digits(*word))?;
+        }
+        self.text.write_all(b"\n")?;
+        Ok(())
     }
-    &words[..n]
-}
 
-pub fn put(out: &mut [u8], at: usize, c: u8) -> usize {
-    if at < out.len() {
-        out[at] = c;
-        return at + 1;
+    // Writes what waits, and keeps nothing of it.
+    pub fn flush(&mut self) -> Result<(), Failure> {
+        let n = self.text.position() as usize;
+        self.text.set_position(0);
+        let room = &self.text.get_ref()[..];
+        if write_all(self.to, room.get(..n).unwrap_or(room)) {
+            Ok(())
+        } else {
+            Err(Failure::Output)
+        }
     }
-    at
-}
 
-pub fn put_text(out: &mut [u8], at: usize, text: &[u8]) -> usize {
-    let mut to = at;
-    let mut i = 0;
-    while i < text.len() {
-        to = put(out, to, text[i]);
-        i += 1;
+    // Writes what waits if it is much.
+    pub fn end_line(&mut self) -> Result<(), Failure> {
+        if WAITING < self.text.position() {
+            self.flush()?;
+        }
+        Ok(())
     }
-    to
 }
 
-pub fn put_decimal(out: &mut [u8], at: usize, x: u64) -> usize {
-    let mut text = [0u8; 20];
-    let k = decimal(x, &mut text);
-    put_text(out, at, &text[..k])
-}
-
-// A text and a number after it.
-pub fn put_both(out: &mut [u8], at: usize, text: &[u8], x: u64) -> usize {
-    let next = put_text(out, at, text);
-    put_decimal(out, next, x)
-}
-
-// The digit of a number: 0 to 9, then A to F.
-fn digit(n: u8) -> u8 {
-    if n < 10 {
-        return 48 + n;
+// A word in ten hexadecimal digits, the highest first.
+fn digits(word: u64) -> [u8; 10] {
+    let mut text = [0u8; 10];
+    let mut rest = word;
+    for digit in text.iter_mut().rev() {
+        *digit = b"0123456789ABCDEF"[(rest % 16) as usize];
+        rest /= 16;
     }
-    55 + n % 16
-}
-
-// Two hexadecimal digits of a byte, and two octal ones of a character.
-fn put_byte(out: &mut [u8], at: usize, x: u64) -> usize {
-    let b = (x % 256) as u8;
-    let next = put(out, at, digit(b / 16));
-    put(out, next, digit(b % 16))
-}
-
-fn put_character(out: &mut [u8], at: usize, x: u64) -> usize {
-    let c = (x % 64) as u8;
-    let next = put(out, at, digit(c / 8));
-    put(out, next, digit(c % 8))
-}
-
-// A sum of 18 bits in six octal digits, as they stand in the first half of a check word.
-pub fn put_sum(out: &mut [u8], at: usize, x: u64) -> usize {
-    let a = put_character(out, at, x >> 12);
-    let b = put_character(out, a, x >> 6);
-    put_character(out, b, x)
-}
-
-// A word in ten hexadecimal digits, highest first.
-fn put_word(out: &mut [u8], at: usize, w: u64) -> usize {
-    let a = put_byte(out, at, w >> 32);
-    let b = put_byte(out, a, w >> 24);
-    let c = put_byte(out, b, w >> 16);
-    let d = put_byte(out, c, w >> 8);
-    put_byte(out, d, w)
-}
-
-// Words one after the other, and the end of their line.
-pub fn put_line(out: &mut [u8], at: usize, words: &[u64]) -> usize {
-    let mut to = at;
-    let mut i = 0;
-    while i < words.len() {
-        to = put_word(out, to, words[i]);
-        i += 1;
-    }
-    put(out, to, b'\n')
+    text
 }
