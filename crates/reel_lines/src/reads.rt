@@ -109,7 +109,7 @@ impl Run {
         if refusal == 13 {
             let extra = u32::from(self.options.flags & (SEQUENCE | CHECK) != 0);
             let least = extra + 1;
-            let most = extra + u32::from(self.options.size);
+            let most = extra.saturating_add(u32::from(self.options.size));
             writeln!(
                 self.output.text,
                 ", it has words {n}, and a block here has {least} to {most}."

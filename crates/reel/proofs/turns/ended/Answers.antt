@@ -4,4 +4,4 @@ use Rattle.reel.proofs.turns.ended.Goals as goal
 
 pub returns : goal.returns
 unfolding ended_by
-returns c = rw (← c.no_naming-naming.ensures) c.in_turn.ensures
+returns c = rw (← c.no_naming.ensures) c.in_turn.ensures
