@@ -369,19 +369,19 @@ module _ (c : Channel) (some : 0 < size c) (few : size c ≤ desk_bits) (u : ℕ
 -- ---- one start by the desk
 
 -- a start that is held back, and one that is not, by what works
-module _ (n : ℕ) (d : Desk) (frozen : Bool) (w : Found) (known : w ≡ work_on n d) where
-  pub starts_none : (frozen || is_found w) ≡ true → (Nothing ≡ starts_on n d frozen) × (unit_number w ≡ works_after n d frozen)
+module _ (n : ℕ) (d : Desk) (frozen : Bool) (w : Option ℕ) (known : w ≡ work_on n d) where
+  pub starts_none : (frozen || is_some w) ≡ true → (None ≡ starts_on n d frozen) × (unit_number w ≡ works_after n d frozen)
   unfolding starts_on works_after
   starts_none h = rw (← known, h) (refl, refl)
 
-  pub starts_next : (frozen || is_found w) ≡ false → (x : Found) → x ≡ next_on n d → (x ≡ starts_on n d frozen) × (unit_number x ≡ works_after n d frozen)
+  pub starts_next : (frozen || is_some w) ≡ false → (x : Option ℕ) → x ≡ next_on n d → (x ≡ starts_on n d frozen) × (unit_number x ≡ works_after n d frozen)
   unfolding starts_on works_after
-  starts_next h x e = rw (← known, h, ← e) (refl, last w x (or_right frozen (is_found w) h))
+  starts_next h x e = rw (← known, h, ← e) (refl, last w x (or_right frozen (is_some w) h))
     where
-      last : (w x : Found) → is_found w ≡ false → unit_number x ≡ unit_number (or_else x w)
-      last (At k) x q = true_not_false refl q
-      last Nothing (At k) q = refl
-      last Nothing Nothing q = refl
+      last : (w x : Option ℕ) → is_some w ≡ false → unit_number x ≡ unit_number (or_else x w)
+      last (Some k) x q = true_not_false refl q
+      last None (Some k) q = refl
+      last None None q = refl
 
 -- an ask, by whether it is accepted
 module _ (n : ℕ) (x : Unit) (u : ℕ) (d : Desk) (op : Op) (urgent frozen none : Bool) (known : none ≡ is_idle x.turn) where
