@@ -12,9 +12,10 @@ use Rattle.area.specs.Lists.{any_of}
 use Rattle.channel.specs.declared.Op.{Op}
 use Rattle.channel.specs.declared.Op.TheVariants.{Read, Write, Mark}
 use Rattle.channel.specs.declared.Request.{Request}
+use Rattle.channel_outcomes.specs.declared.Ending.TheVariants.{MediumEnd}
 use Rattle.channel_outcomes.specs.declared.Verdict.{Verdict}
 use Rattle.channel_outcomes.specs.declared.Verdict.TheVariants.{Refused, Repeats, Ends}
-use Rattle.channel_outcomes.specs.Rules.{op_number, incomplete_word, row_of, is_allowed, is_permanent, is_noise, next_attempt, ending_of, table_verdict}
+use Rattle.channel_outcomes.specs.Rules.{op_number, incomplete_word, row_of, is_allowed, is_permanent, is_noise, past_noise, next_attempt, ending_of, table_verdict, verdict_of}
 
 -- the table of the code
 abbrev pub rules : List (List ℕ)
