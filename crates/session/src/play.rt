@@ -14,9 +14,8 @@ use pool::{FILES, free_after};
 use session_frame::{Answer, Frame, frame_of, words_at, words_into, write_answer};
 use session_line::{Line, has_begun, next_line, no_line};
 use session_reply::{
-    BINDING, REQUEST, ROUTINE, WHOLE, answer_or, binding_on, channel_place, file_number, group_of,
-    index_in, is_still, named_file, post_for, posted, record_on, request_on, routine_on,
-    whole_refusal, whole_state,
+    Group, answer_or, binding_on, channel_place, file_number, group_of, index_in, is_still,
+    named_file, post_for, posted, record_on, request_on, routine_on, whole_refusal, whole_state,
 };
 use state::State;
 use state_sound::is_sound;
@@ -27,23 +26,9 @@ fn given(f: Frame, line: &[u8], room: &mut [u64]) -> usize
     ensures room_after { room.new ≡ paste 0 (given_in f line.now (length room.old)) room.old }
 {
     match f {
-        Frame::Malformed => 0,
-        Frame::Fresh(_) => 0,
-        Frame::Open(_) => 0,
-        Frame::Close(_) => 0,
-        Frame::Ask(_) => 0,
-        Frame::Report(q) => {
-            let start = words_at(q);
-            words_into(line, start, room)
-        }
-        Frame::Get(_) => 0,
+        Frame::Report(q) => words_into(line, words_at(q), room),
         Frame::Put(_) => words_into(line, 2, room),
-        Frame::Seal(_) => 0,
-        Frame::Skip(_) => 0,
-        Frame::Freeze => 0,
-        Frame::Thaw => 0,
-        Frame::Return => 0,
-        Frame::Running => 0,
+        _ => 0,
     }
 }
 
@@ -51,14 +36,10 @@ fn given(f: Frame, line: &[u8], room: &mut [u64]) -> usize
 fn text_of(line: Line, room: &[u8]) -> &[u8]
     ensures { result.now ≡ held_text line room.now }
 {
-    let n = line.filled;
     if line.overlong {
         return &room[..0];
     }
-    if room.len() < n {
-        return room;
-    }
-    &room[..n]
+    &room[..line.filled.min(room.len())]
 }
 
 // The frame of the line in the room; its words go to the front of theirs.
@@ -116,6 +97,7 @@ pub fn play_part(
     let mut more = line;
     let mut place = at;
     let mut end = 0;
+    // a turn takes as many bytes as `next_line` says, so there is no range to go over
     while place < bytes.len() {
         if out.len() - end < ANSWER {
             return Played {
@@ -134,87 +116,73 @@ pub fn play_part(
         let q = frame_in(more, &room[..], words);
         more = no_line();
         let frame = q.frame;
-        let group = group_of(frame);
-        if group == REQUEST {
-            let files = t.files;
-            let i = file_number(frame, files);
-            let k = index_in(i, FILES);
-            let old = t.files[k];
-            let l = channel_place(frame, i, old);
-            let was = t.channels[l];
-            let held = t.routines;
-            let stood = post_for(frame, i, old, held);
-            let x = request_on(
-                unsound,
-                t.m,
-                t.w,
-                t.frozen,
-                frame,
-                i,
-                old,
-                was,
-                stood,
-                area,
-                &words[..q.count],
-            );
-            let new = x.file;
-            let c = x.channel;
-            let a = x.answer;
-            let p = x.post;
-            let free = free_after(t.free, old, new);
-            t.files[k] = new;
-            t.channels[l] = c;
-            t.free = free;
-            end = answer_at(a, x.start, x.count, &area[..], out, end);
-            let still = is_still(stood, p, x.looks);
-            if still {
-                continue;
+        match group_of(frame) {
+            Group::Request => {
+                let i = file_number(frame, t.files);
+                let k = index_in(i, FILES);
+                let old = t.files[k];
+                let l = channel_place(frame, i, old);
+                let was = t.channels[l];
+                let held = t.routines;
+                let stood = post_for(frame, i, old, held);
+                let x = request_on(
+                    unsound,
+                    t.m,
+                    t.w,
+                    t.frozen,
+                    frame,
+                    i,
+                    old,
+                    was,
+                    stood,
+                    area,
+                    &words[..q.count],
+                );
+                let free = free_after(t.free, old, x.file);
+                t.files[k] = x.file;
+                t.channels[l] = x.channel;
+                t.free = free;
+                end = answer_at(x.answer, x.start, x.count, &area[..], out, end);
+                if !is_still(stood, x.post, x.looks) {
+                    t.routines = posted(held, t.frozen, frame, i, old, x.post, x.looks);
+                }
             }
-            let after = posted(held, t.frozen, frame, i, old, p, x.looks);
-            t.routines = after;
-            continue;
-        }
-        if group == WHOLE {
-            let no = whole_refusal(unsound, area.len(), frame);
-            let a = answer_or(no, Answer::Done);
-            end = answer_at(a, 0, 0, &area[..], out, end);
-            if no == 0 {
-                t = whole_state(t, frame);
+            Group::Whole => {
+                let no = whole_refusal(unsound, area.len(), frame);
+                let a = answer_or(no, Answer::Done);
+                end = answer_at(a, 0, 0, &area[..], out, end);
+                if no == 0 {
+                    t = whole_state(t, frame);
+                }
             }
-            continue;
+            Group::Routine => {
+                let x = routine_on(unsound, t.frozen, t.routines, frame);
+                t.routines = x.routines;
+                end = answer_at(x.answer, 0, 0, &area[..], out, end);
+            }
+            Group::Binding => {
+                let i = named_file(frame) as usize;
+                let k = index_in(i, FILES);
+                let old = t.files[k];
+                let l = channel_place(frame, i, old);
+                let was = t.channels[l];
+                let x = binding_on(unsound, t.w, t.free, t.files, frame, i, old, was);
+                let free = free_after(t.free, old, x.file);
+                t.files[k] = x.file;
+                t.free = free;
+                end = answer_at(x.answer, x.start, x.count, &area[..], out, end);
+            }
+            Group::Record => {
+                let i = named_file(frame) as usize;
+                let k = index_in(i, FILES);
+                let old = t.files[k];
+                let x = record_on(unsound, t.m, t.w, frame, i, old, area, &words[..q.count]);
+                let free = free_after(t.free, old, x.file);
+                t.files[k] = x.file;
+                t.free = free;
+                end = answer_at(x.answer, x.start, x.count, &area[..], out, end);
+            }
         }
-        if group == ROUTINE {
-            let held = t.routines;
-            let x = routine_on(unsound, t.frozen, held, frame);
-            let a = x.answer;
-            let after = x.routines;
-            t.routines = after;
-            end = answer_at(a, 0, 0, &area[..], out, end);
-            continue;
-        }
-        let i = named_file(frame) as usize;
-        let k = index_in(i, FILES);
-        let old = t.files[k];
-        if group == BINDING {
-            let l = channel_place(frame, i, old);
-            let was = t.channels[l];
-            let files = t.files;
-            let x = binding_on(unsound, t.w, t.free, files, frame, i, old, was);
-            let new = x.file;
-            let a = x.answer;
-            let free = free_after(t.free, old, new);
-            t.files[k] = new;
-            t.free = free;
-            end = answer_at(a, x.start, x.count, &area[..], out, end);
-            continue;
-        }
-        let x = record_on(unsound, t.m, t.w, frame, i, old, area, &words[..q.count]);
-        let new = x.file;
-        let a = x.answer;
-        let free = free_after(t.free, old, new);
-        t.files[k] = new;
-        t.free = free;
-        end = answer_at(a, x.start, x.count, &area[..], out, end);
     }
     Played {
         state: t,
@@ -242,12 +210,10 @@ pub fn play_end(
     ensures out_after { out.new ≡ (end_of s area.old line room.old words.old out.old).out }
     ensures room_unchanged { room.new ≡ room.old }
 {
-    let begun = has_begun(line);
-    if begun {
+    if has_begun(line) {
         let p = play_part(false, s, area, line, room, words, b"\n", 0, out);
-        let state = p.state;
         return Answered {
-            state,
+            state: p.state,
             length: p.length,
         };
     }
@@ -286,9 +252,8 @@ pub fn answer_line(
         overlong: false,
     };
     let p = play_part(!good, s, area, held, line, words, b"\n", 0, out);
-    let state = p.state;
     Answered {
-        state,
+        state: p.state,
         length: p.length,
     }
 }

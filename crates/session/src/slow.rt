@@ -17,11 +17,9 @@ const ENDED: u8 = 17;
 pub fn new_talk() -> Talk
     ensures { result ≡ new_talk }
 {
-    let state = before_start();
-    let line = no_line();
     Talk {
-        state,
-        line,
+        state: before_start(),
+        line: no_line(),
         ended: false,
     }
 }
@@ -68,18 +66,13 @@ pub fn talk_part(
     if over {
         return refused(ENDED, t, at);
     }
-    let short = lacks_room(room.len(), words.len(), out.len());
-    if short {
+    if lacks_room(room.len(), words.len(), out.len()) {
         return refused(SHORT, t, at);
     }
-    let s = t.state;
-    let line = t.line;
-    let p = play_part(false, s, area, line, room, words, bytes, at, out);
-    let state = p.state;
-    let more = p.line;
+    let p = play_part(false, t.state, area, t.line, room, words, bytes, at, out);
     let talk = Talk {
-        state,
-        line: more,
+        state: p.state,
+        line: p.line,
         ended: false,
     };
     Heard {
@@ -109,18 +102,13 @@ pub fn talk_end(
     if again {
         return refused(ENDED, t, 0);
     }
-    let short = lacks_room(room.len(), words.len(), out.len());
-    if short {
+    if lacks_room(room.len(), words.len(), out.len()) {
         return refused(SHORT, t, 0);
     }
-    let s = t.state;
-    let line = t.line;
-    let x = play_end(s, area, line, room, words, out);
-    let state = x.state;
-    let none = no_line();
+    let x = play_end(t.state, area, t.line, room, words, out);
     let talk = Talk {
-        state,
-        line: none,
+        state: x.state,
+        line: no_line(),
         ended: true,
     };
     Heard {

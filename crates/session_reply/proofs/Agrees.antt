@@ -20,7 +20,6 @@ use Rattle.channel_turns.specs.Turns.{judge_of, book_of}
 use Rattle.file.specs.declared.File.{File}
 use Rattle.file.specs.declared.FileChange.{FileChange}
 use Rattle.file.specs.Sizes.{closed_file}
-use Rattle.session_frame.specs.declared.Masks as frame
 use Rattle.session_frame.specs.declared.Frame.{Frame}
 use Rattle.session_frame.specs.declared.FreshFrame.{FreshFrame}
 use Rattle.session_frame.specs.declared.OpenFrame.{OpenFrame}
@@ -42,13 +41,13 @@ use Rattle.state.specs.declared.State.{State}
 use Rattle.state.specs.Places.{no_channel, file_at, channel_at}
 use Rattle.state.specs.Stores.{with_file, with_channel, with_routines}
 use Rattle.state_sound.specs.Soundness.{sound}
-use Rattle.pack_start.specs.Fresh.{fresh_refusal, fresh_state, fresh_by}
+use Rattle.pack_start.specs.Fresh.{fresh_by}
 use Rattle.call_open.specs.Open.{wish_of, open_on}
 use Rattle.pack_open.proofs.ByMask.{by_mask}
 use Rattle.pack_open.specs.Open.{open_change, open_by}
 use Rattle.call_open.specs.Close.{close_on}
 use Rattle.pack_open.specs.Close.{close_change, close_by}
-use Rattle.pack_start.specs.Freeze.{state_rows, frozen_state, thawed_state, freeze_by, thaw_by}
+use Rattle.pack_start.specs.Freeze.{state_rows, freeze_by, thaw_by}
 use Rattle.call_request.specs.declared.AskChange.{AskChange}
 use Rattle.call_request.specs.declared.ReportChange.{ReportChange}
 use Rattle.pack_request.specs.Changes.{changed_state}
@@ -66,7 +65,7 @@ use Rattle.pack_record.specs.Puts.{put_change, put_by, put_by_area}
 use Rattle.call_record.specs.Seal.{seal_on}
 use Rattle.pack_record.specs.Seals.{seal_change, seal_by, seal_by_area}
 use Rattle.file_input.specs.Histories.{shown}
-use Rattle.session_reply.specs.Replies.{answer_or, quietly, masks_of, got_answer, given_words, reply_to, answer_to, report_answer}
+use Rattle.session_reply.specs.Replies.{answer_or, quietly, got_answer, given_words, reply_to, answer_to, report_answer}
 use Rattle.session_reply.specs.Changes.{open_told, close_told, asked_post, ask_change_on, skip_told, report_change_on, report_area_on, get_told, put_told, put_area_on, seal_told, seal_area_on, return_told, running_told}
 use Rattle.session_reply.specs.Turns.{whole_refusal, whole_state, record_of, record_area, binding_of, request_of, request_area, posted_in, routine_of, record_turn, binding_turn, request_turn, whole_turn, routine_turn, turned_on, request_area_on, area_on, reply_on, answer_on}
 use Rattle.session_reply.proofs.Posting.{ask_posted, ask_unposted, report_posted}

@@ -1,12 +1,11 @@
 -- What each call's code makes of its inner form comes to its definition. Assumes nothing.
 use mathlib.Core.Path.{◌≡◌, sym, ap, ap₂, ◌∙◌}
-use mathlib.Core.Bool.{Bool, true, false, cond, ◌||◌, ◌&&◌}
+use mathlib.Core.Bool.{Bool, true, false, ◌||◌, ◌&&◌}
 use mathlib.Core.List.{List}
 use Prim.Native.Nat.{ℕ, ◌*◌}
-use borrow.Author.Tests.{ne_eqb}
-use lib.Dec.{leb, ltb, eqb}
+use lib.Dec.{leb, ltb}
 use lib.ListN.{length}
-use Rattle.area.proofs.Marks.{cond_true, cond_false}
+use Rattle.area.proofs.Marks.{cond_true}
 use Rattle.area.proofs.Walks.{and_left, and_right}
 use Rattle.session_frame.specs.declared.Answer.{Answer}
 use Rattle.session_frame.specs.declared.Answer.TheVariants as answer
@@ -23,13 +22,9 @@ use Rattle.routines.specs.Ranks.{is_due}
 use Rattle.routines.specs.Posts.{post_at, with_post}
 use Rattle.pack_routine.specs.declared.RoutineChange.{RoutineChange}
 use Rattle.pack_routine.specs.Ons.{return_on, running_on}
-use Rattle.state.specs.declared.State.{State}
-use Rattle.state.specs.declared.Called.{Called}
 use Rattle.state.specs.Places.{channel_count}
 use Rattle.file.specs.declared.FileChange.{FileChange}
 use Rattle.pool.specs.declared.FreeBuffers.{FreeBuffers}
-use Rattle.pack_start.specs.declared.Masks.{Masks}
-use Rattle.pack_start.specs.Fresh.{fresh_refusal, fresh_state}
 use Rattle.call_open.specs.Open.{wish_of, open_on}
 use Rattle.call_request.specs.declared.AskChange.{AskChange}
 use Rattle.call_request.specs.declared.ReportChange.{ReportChange}
@@ -39,15 +34,13 @@ use Rattle.call_record.specs.declared.GetChange.{GetChange}
 use Rattle.call_record.specs.Get.{get_on}
 use Rattle.call_record.specs.Put.{put_on, put_on_area}
 use Rattle.call_record.specs.Seal.{seal_on, seal_on_area}
-use Rattle.session_frame.specs.declared.FreshFrame.{FreshFrame}
 use Rattle.session_frame.specs.declared.OpenFrame.{OpenFrame}
 use Rattle.session_frame.specs.declared.AskFrame.{AskFrame}
 use Rattle.session_frame.specs.declared.ReportFrame.{ReportFrame}
-use Rattle.session_frame.specs.declared.Frame.TheVariants.{Fresh}
 use Rattle.session_frame.specs.declared.Frame.{Frame}
 use Rattle.session_reply.specs.declared.Told.{Told}
 use Rattle.session_reply.specs.declared.Change.{Change}
-use Rattle.session_reply.specs.Replies.{answer_or, got_answer, masks_of, report_answer}
+use Rattle.session_reply.specs.Replies.{answer_or, got_answer, report_answer}
 use Rattle.session_reply.specs.Changes.{quiet_told, open_wrong, open_told, asked_post, ask_change_on, is_named_answer, reported_post, report_change_on, report_area_on, get_told, put_told, put_area_on, seal_told, seal_area_on, return_told, running_told}
 use Rattle.session_reply.specs.Places.{channel_number, unit_number, file_or, file_kept, channel_or, channel_kept, channel_for, unit_for}
 use Rattle.session_reply.specs.Turns.{record_of, record_area, binding_of, request_of, request_area, told_at, record_at, binding_at, change_at, request_at}

@@ -15,7 +15,7 @@ use Rattle.routines.specs.declared.Post.{Post}
 use Rattle.routines.specs.declared.Posts.{Posts}
 use Rattle.routines.specs.declared.Routines.{Routines}
 use Rattle.routines.specs.Ranks.{nothing_due, is_due}
-use Rattle.routines.specs.Posts.{empty_post, no_posts, post_at, with_unit_post, with_post, due_of}
+use Rattle.routines.specs.Posts.{empty_post, no_posts, post_at, with_post, due_of}
 use Rattle.routines.specs.Changes.{asked_in, made_due_in, looked_in, answered_in}
 use Rattle.call_request.specs.Named.{asked_routines, answers_request, reported_routines}
 use Rattle.session_reply.specs.Changes.{asked_post, is_named_answer, reported_post}

@@ -26,12 +26,11 @@ use Rattle.state.specs.declared.State.{State}
 use Rattle.state.specs.Places.{channel_count, no_channel, file_at, channel_at}
 use Rattle.state.specs.Stores.{with_file, with_channel, with_routines}
 use Rattle.state.proofs.Lookups.{any_default}
-use Rattle.pack_start.specs.Fresh.{fresh_refusal, fresh_state}
+use Rattle.pack_start.specs.Fresh.{fresh_state}
 use Rattle.pack_start.specs.Freeze.{frozen_state, thawed_state}
 use Rattle.session_reply.specs.declared.Told.{Told}
 use Rattle.session_reply.specs.declared.Change.{Change}
-use Rattle.session_reply.specs.Replies.{masks_of}
-use Rattle.session_reply.specs.Places.{group_of, named_file, file_number, channel_number, unit_number, place_of, file_or, file_kept, channel_or, channel_kept, channel_for, unit_for}
+use Rattle.session_reply.specs.Places.{named_file, file_number, channel_number, unit_number, place_of, file_or, file_kept, channel_or, channel_kept, channel_for, unit_for}
 use Rattle.session_reply.specs.Turns.{whole_state, record_of, record_area, binding_of, request_of, request_area, told_at, record_at, binding_at, change_at, request_at, posted_in, Turned, turned_is, record_turn, binding_turn, request_turn, request_area_on}
 
 -- ---- a place of a list, whatever its number

@@ -2,6 +2,8 @@
 use Rattle.std.specs.Prelude.{ℕ, Bool, true, false, cond, List, ltb}
 use Rattle.session_frame.specs.declared.Frame.{Frame}
 use Rattle.session_frame.specs.declared.Frame.TheVariants.{Malformed, Fresh, Open, Close, Ask, Report, Get, Put, Seal, Skip, Freeze, Thaw, Return, Running}
+use Rattle.session_reply.specs.declared.Group.{Group}
+use Rattle.session_reply.specs.declared.Group.TheVariants.{Record, Request, Binding, Whole, Routine}
 use Rattle.channel.specs.declared.Channel.{Channel}
 use Rattle.file.specs.declared.File.{File}
 use Rattle.file.specs.Sizes.{closed_file}
@@ -27,6 +29,14 @@ group_of (Get file) = 0
 group_of (Put q) = 0
 group_of (Seal file) = 0
 group_of (Skip file) = 0
+
+-- the number of a group
+abbrev pub group_number : Group → ℕ
+group_number Record = 0
+group_number Request = 1
+group_number Binding = 2
+group_number Whole = 3
+group_number Routine = 4
 
 -- ---- numbers
 

@@ -11,7 +11,7 @@ use call_record::{get_on, put_on, seal_on, skip_on};
 use call_request::{answers_request, ask_on, report_on};
 use channel::{Channel, UNITS};
 use file::File;
-use file_input::{Got, got_number, got_start};
+use file_input::{Got, got_count, got_number, got_start};
 use pack_routine::{return_on, running_on};
 use pool::{FILES, free_in, is_bound};
 use routines::{Naming, Post, Routines, due_of, is_due, nothing_due};
@@ -33,9 +33,8 @@ pub fn answer_or(refusal: u8, a: Answer) -> Answer
 pub fn quiet(refusal: u8, f: File) -> Told
     ensures { result ≡ quiet_told refusal f }
 {
-    let answer = answer_or(refusal, Answer::Done);
     Told {
-        answer,
+        answer: answer_or(refusal, Answer::Done),
         start: 0,
         count: 0,
         file: f,
@@ -53,25 +52,21 @@ pub fn opened(
 ) -> Told
     ensures { result ≡ open_told unsound w free files f c q }
 {
-    let i = q.file as usize;
-    let j = q.channel as usize;
-    let u = q.unit as usize;
-    let c1 = (FILES <= i) | ((CHANNELS <= j) | ((UNITS <= u) | ((FLAGS < q.flags) | unsound)));
+    let wrong = (FILES <= q.file as usize)
+        | ((CHANNELS <= q.channel as usize)
+            | ((UNITS <= q.unit as usize) | ((FLAGS < q.flags) | unsound)));
     let bound = is_bound(files, q.channel, q.unit);
     let found = free_in(free);
     let wish = wish_of(q.channel, q.unit, q.flags, q.size, q.rlen);
-    let x = open_on(c1, bound, f, c, found, w, wish);
-    let g = x.file;
-    quiet(x.refusal, g)
+    let x = open_on(wrong, bound, f, c, found, w, wish);
+    quiet(x.refusal, x.file)
 }
 
 pub fn closed(unsound: bool, f: File, c: Channel, file: u8) -> Told
     ensures { result ≡ close_told unsound f c file }
 {
-    let i = file as usize;
-    let x = close_on((FILES <= i) | unsound, f, c);
-    let g = x.file;
-    quiet(x.refusal, g)
+    let x = close_on((FILES <= file as usize) | unsound, f, c);
+    quiet(x.refusal, x.file)
 }
 
 // The post of a unit after an ask: its request names a routine, or none.
@@ -81,32 +76,26 @@ fn asked_post(refusal: u8, p: Post, naming: Naming) -> Post
     if refusal != 0 {
         return p;
     }
-    let named = due_of(naming);
-    let due = p.due;
-    Post { named, due }
+    Post {
+        named: due_of(naming),
+        ..p
+    }
 }
 
 pub fn asked(unsound: bool, frozen: bool, f: File, c: Channel, p: Post, q: AskFrame) -> Change
     ensures { result ≡ ask_change_on unsound frozen f c p q }
 {
-    let i = q.file as usize;
-    let naming = q.naming;
-    let due = p.due;
-    let waits = is_due(due);
-    let wrong = unsound | (FILES <= i);
-    let x = ask_on(wrong, f, c, q.op, q.priority, naming, waits, frozen);
-    let g = x.file;
-    let d = x.channel;
+    let waits = is_due(p.due);
+    let wrong = unsound | (FILES <= q.file as usize);
+    let x = ask_on(wrong, f, c, q.op, q.priority, q.naming, waits, frozen);
     let working = x.working;
-    let answer = answer_or(x.refusal, Answer::Asked { working });
-    let post = asked_post(x.refusal, p, naming);
     Change {
-        answer,
+        answer: answer_or(x.refusal, Answer::Asked { working }),
         start: 0,
         count: 0,
-        file: g,
-        channel: d,
-        post,
+        file: x.file,
+        channel: x.channel,
+        post: asked_post(x.refusal, p, q.naming),
         looks: false,
     }
 }
@@ -115,8 +104,7 @@ pub fn skipped(unsound: bool, f: File, file: u8) -> Told
     ensures { result ≡ skip_told unsound f file }
 {
     let x = skip_on((FILES <= file as usize) | unsound, f);
-    let g = x.file;
-    quiet(x.refusal, g)
+    quiet(x.refusal, x.file)
 }
 
 // Whether an area of n words is too short for the pool.
@@ -147,20 +135,18 @@ fn report_answer(res: u8, delivery: Option<Checked>, working: u8) -> Answer
 fn is_named_answer(res: u8, p: Post) -> bool
     ensures { result ≡ is_named_answer res p }
 {
-    let named = p.named;
-    let answers = answers_request(res);
-    let due = is_due(named);
-    answers & due
+    answers_request(res) & is_due(p.named)
 }
 
 // The post of a unit after a report: the routine that the answered request names waits.
 fn reported_post(res: u8, p: Post) -> Post
     ensures { result ≡ reported_post res p }
 {
-    let due = p.named;
     if is_named_answer(res, p) {
-        let named = nothing_due();
-        return Post { named, due };
+        return Post {
+            named: nothing_due(),
+            due: p.named,
+        };
     }
     p
 }
@@ -181,26 +167,19 @@ pub fn reported(
     ensures area_after { area.new ≡ report_area_on unsound m w f c q area.old words.now }
 {
     let short = is_short(m, w, area.len());
-    let j = q.channel as usize;
-    let wrong = unsound | (short | (CHANNELS <= j));
+    let wrong = unsound | (short | (CHANNELS <= q.channel as usize));
     let x = report_on(
         wrong, f, c, q.unit, q.outcome, q.length, w, frozen, area, words,
     );
-    let g = x.file;
-    let d = x.channel;
-    let delivery = x.delivery;
-    let told = report_answer(x.result, delivery, x.working);
-    let answer = answer_or(x.refusal, told);
-    let post = reported_post(x.result, p);
-    let looks = is_named_answer(x.result, p);
+    let told = report_answer(x.result, x.delivery, x.working);
     Change {
-        answer,
+        answer: answer_or(x.refusal, told),
         start: x.start,
         count: x.count,
-        file: g,
-        channel: d,
-        post,
-        looks,
+        file: x.file,
+        channel: x.channel,
+        post: reported_post(x.result, p),
+        looks: is_named_answer(x.result, p),
     }
 }
 
@@ -210,11 +189,8 @@ fn got_answer(g: Got) -> Answer
 {
     let number = got_number(g);
     match g {
-        Got::Record { start: _, words: _ } => Answer::Got(number),
-        Got::Leftover { start: _, words: _ } => Answer::Got(number),
         Got::Error(found) => Answer::GotError { number, found },
-        Got::End => Answer::Got(number),
-        Got::Nothing => Answer::Got(number),
+        _ => Answer::Got(number),
     }
 }
 
@@ -223,17 +199,12 @@ pub fn got(unsound: bool, m: u8, w: u16, f: File, file: u8, area: &[u64]) -> Tol
 {
     let short = is_short(m, w, area.len());
     let x = get_on((FILES <= file as usize) | (short | unsound), f, w, area);
-    let g = x.file;
-    let found = x.got;
-    let told = got_answer(found);
-    let answer = answer_or(x.refusal, told);
-    let start = got_start(found);
-    let count = file_input::got_count(found);
+    let told = got_answer(x.got);
     Told {
-        answer,
-        start,
-        count,
-        file: g,
+        answer: answer_or(x.refusal, told),
+        start: got_start(x.got),
+        count: got_count(x.got),
+        file: x.file,
     }
 }
 
@@ -257,8 +228,7 @@ pub fn filled(
         area,
         words,
     );
-    let g = x.file;
-    quiet(x.refusal, g)
+    quiet(x.refusal, x.file)
 }
 
 pub fn sealed(unsound: bool, m: u8, w: u16, f: File, file: u8, area: &mut [u64]) -> Told
@@ -267,8 +237,7 @@ pub fn sealed(unsound: bool, m: u8, w: u16, f: File, file: u8, area: &mut [u64])
 {
     let short = is_short(m, w, area.len());
     let x = seal_on((FILES <= file as usize) | (short | unsound), f, w, area);
-    let g = x.file;
-    quiet(x.refusal, g)
+    quiet(x.refusal, x.file)
 }
 
 // A return of the routine that runs.
@@ -276,11 +245,14 @@ pub fn given_back(unsound: bool, frozen: bool, r: Routines) -> RoutineTold
     ensures { result ≡ return_told unsound frozen r }
 {
     let x = return_on(unsound, frozen, r);
-    let entered = x.entered;
-    let program = x.program;
-    let answer = answer_or(x.refusal, Answer::Returned { entered, program });
-    let routines = x.routines;
-    RoutineTold { answer, routines }
+    let told = Answer::Returned {
+        entered: x.entered,
+        program: x.program,
+    };
+    RoutineTold {
+        answer: answer_or(x.refusal, told),
+        routines: x.routines,
+    }
 }
 
 // The question what runs.
@@ -288,8 +260,8 @@ pub fn running(unsound: bool, r: Routines) -> RoutineTold
     ensures { result ≡ running_told unsound r }
 {
     let x = running_on(unsound, r);
-    let program = x.program;
-    let answer = answer_or(x.refusal, Answer::Runs(program));
-    let routines = x.routines;
-    RoutineTold { answer, routines }
+    RoutineTold {
+        answer: answer_or(x.refusal, Answer::Runs(x.program)),
+        routines: x.routines,
+    }
 }

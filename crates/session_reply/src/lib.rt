@@ -16,15 +16,20 @@ pub use turns::{
     posted, record_on, request_on, routine_on, whole_refusal, whole_state,
 };
 
-// The groups of frames: ask and report concern a file, a channel and the post of a unit, open and close a file and what a channel says of its unit, fresh
-// start, freeze and thaw the whole state, return and what runs the routines; all others concern one file or none.
-pub const REQUEST: u8 = 1;
-
-pub const BINDING: u8 = 2;
-
-pub const WHOLE: u8 = 3;
-
-pub const ROUTINE: u8 = 4;
+// What a frame concerns.
+#[derive(Clone, Copy)]
+pub enum Group {
+    // one file or none: all other frames
+    Record,
+    // a file, a channel and the post of a unit: ask and report
+    Request,
+    // a file and what a channel says of its unit: open and close
+    Binding,
+    // the whole state: fresh start, freeze and thaw
+    Whole,
+    // the routines: return and what runs
+    Routine,
+}
 
 // What a call on one file comes to: its answer, the part of the area that it shows, and the file after it.
 #[derive(Clone, Copy)]

@@ -1,7 +1,7 @@
 // A frame: what it concerns, at which places of the state that lies, and the call that it makes.
-ghost use Rattle.std.specs.Prelude.{◌≡◌, ◌<◌};
+ghost use Rattle.std.specs.Prelude.{◌≡◌, ◌<◌, cond, ltb};
 ghost use Rattle.state.specs.Places.{channel_count};
-ghost use Rattle.session_reply.specs.Places.{place_of, file_or, file_kept, channel_or, channel_kept, group_of, named_file, file_number, channel_number, unit_number, channel_for, unit_for, is_return};
+ghost use Rattle.session_reply.specs.Places.{place_of, file_or, channel_or, group_of, group_number, named_file, file_number, channel_number, unit_number, channel_for, unit_for, is_return};
 ghost use Rattle.session_reply.specs.Turns.{whole_refusal, whole_state, record_of, record_area, binding_of, unasked_change, request_of, request_area, record_at, binding_at, request_at, posted_in, is_still, routine_of};
 ghost use Rattle.routines.specs.Posts.{post_at};
 ghost use Rattle.pack_start.specs.Fresh.{fresh_refusal, fresh_state};
@@ -10,7 +10,7 @@ ghost use Rattle.session_reply.specs.Replies.{masks_of};
 use crate::changes::{
     asked, closed, filled, given_back, got, opened, quiet, reported, running, sealed, skipped,
 };
-use crate::{BINDING, Change, REQUEST, ROUTINE, RoutineTold, Told, WHOLE};
+use crate::{Change, Group, RoutineTold, Told};
 use area::row;
 use channel::Channel;
 use file::{File, closed_file};
@@ -34,7 +34,7 @@ pub fn index_in(i: usize, n: usize) -> usize
     0
 }
 
-// The file i, which is f if there is one of that number.
+// The file i, which is f if there is one of that number. It and `channel_or` stay two: each makes its other value only where that is needed.
 fn file_or(i: usize, f: File) -> File
     ensures { result ≡ file_or i f }
 {
@@ -54,24 +54,11 @@ fn channel_or(j: usize, c: Channel) -> Channel
     channel::fresh(0)
 }
 
-// What stands at the place of file i: the new one, or what stood there if there is no file i.
-fn file_kept(i: usize, new: File, old: File) -> File
-    ensures { result ≡ file_kept i new old }
+// What stands at the place of number i below n: the new one, or what stood there if there is none of that number.
+fn kept<T: Copy>(i: usize, n: usize, new: T, old: T) -> T
+    ensures { result ≡ cond (ltb i n) new old }
 {
-    if i < FILES {
-        return new;
-    }
-    old
-}
-
-// The same of a channel.
-fn channel_kept(j: usize, new: Channel, old: Channel) -> Channel
-    ensures { result ≡ channel_kept j new old }
-{
-    if j < CHANNELS {
-        return new;
-    }
-    old
+    if i < n { new } else { old }
 }
 
 // The number of the file that a frame concerns, past the last for none.
@@ -79,20 +66,14 @@ pub fn file_number(f: Frame, files: [File; FILES]) -> usize
     ensures { result ≡ file_number f files }
 {
     match f {
-        Frame::Malformed => FILES,
-        Frame::Fresh(_) => FILES,
         Frame::Open(q) => q.file as usize,
-        Frame::Close(file) => file as usize,
         Frame::Ask(q) => q.file as usize,
-        Frame::Report(q) => file_of(files, q.channel, q.unit),
-        Frame::Get(file) => file as usize,
         Frame::Put(q) => q.file as usize,
-        Frame::Seal(file) => file as usize,
-        Frame::Skip(file) => file as usize,
-        Frame::Freeze => FILES,
-        Frame::Thaw => FILES,
-        Frame::Return => FILES,
-        Frame::Running => FILES,
+        Frame::Report(q) => file_of(files, q.channel, q.unit),
+        Frame::Close(file) | Frame::Get(file) | Frame::Seal(file) | Frame::Skip(file) => {
+            file as usize
+        }
+        _ => FILES,
     }
 }
 
@@ -101,20 +82,9 @@ fn channel_number(f: Frame, own: u8) -> usize
     ensures { result ≡ channel_number f own }
 {
     match f {
-        Frame::Malformed => own as usize,
-        Frame::Fresh(_) => own as usize,
         Frame::Open(q) => q.channel as usize,
-        Frame::Close(_) => own as usize,
-        Frame::Ask(_) => own as usize,
         Frame::Report(q) => q.channel as usize,
-        Frame::Get(_) => own as usize,
-        Frame::Put(_) => own as usize,
-        Frame::Seal(_) => own as usize,
-        Frame::Skip(_) => own as usize,
-        Frame::Freeze => own as usize,
-        Frame::Thaw => own as usize,
-        Frame::Return => own as usize,
-        Frame::Running => own as usize,
+        _ => own as usize,
     }
 }
 
@@ -123,20 +93,9 @@ fn unit_number(f: Frame, own: u8) -> usize
     ensures { result ≡ unit_number f own }
 {
     match f {
-        Frame::Malformed => own as usize,
-        Frame::Fresh(_) => own as usize,
         Frame::Open(q) => q.unit as usize,
-        Frame::Close(_) => own as usize,
-        Frame::Ask(_) => own as usize,
         Frame::Report(q) => q.unit as usize,
-        Frame::Get(_) => own as usize,
-        Frame::Put(_) => own as usize,
-        Frame::Seal(_) => own as usize,
-        Frame::Skip(_) => own as usize,
-        Frame::Freeze => own as usize,
-        Frame::Thaw => own as usize,
-        Frame::Return => own as usize,
-        Frame::Running => own as usize,
+        _ => own as usize,
     }
 }
 
@@ -144,43 +103,19 @@ fn unit_number(f: Frame, own: u8) -> usize
 fn is_return(f: Frame) -> bool
     ensures { result ≡ is_return f }
 {
-    match f {
-        Frame::Malformed => false,
-        Frame::Fresh(_) => false,
-        Frame::Open(_) => false,
-        Frame::Close(_) => false,
-        Frame::Ask(_) => false,
-        Frame::Report(_) => false,
-        Frame::Get(_) => false,
-        Frame::Put(_) => false,
-        Frame::Seal(_) => false,
-        Frame::Skip(_) => false,
-        Frame::Freeze => false,
-        Frame::Thaw => false,
-        Frame::Return => true,
-        Frame::Running => false,
-    }
+    matches!(f, Frame::Return)
 }
 
 // The group of a frame.
-pub fn group_of(f: Frame) -> u8
-    ensures { result ≡ group_of f }
+pub fn group_of(f: Frame) -> Group
+    ensures { group_number result ≡ group_of f }
 {
     match f {
-        Frame::Malformed => 0,
-        Frame::Fresh(_) => WHOLE,
-        Frame::Open(_) => BINDING,
-        Frame::Close(_) => BINDING,
-        Frame::Ask(_) => REQUEST,
-        Frame::Report(_) => REQUEST,
-        Frame::Get(_) => 0,
-        Frame::Put(_) => 0,
-        Frame::Seal(_) => 0,
-        Frame::Skip(_) => 0,
-        Frame::Freeze => WHOLE,
-        Frame::Thaw => WHOLE,
-        Frame::Return => ROUTINE,
-        Frame::Running => ROUTINE,
+        Frame::Ask(_) | Frame::Report(_) => Group::Request,
+        Frame::Open(_) | Frame::Close(_) => Group::Binding,
+        Frame::Fresh(_) | Frame::Freeze | Frame::Thaw => Group::Whole,
+        Frame::Return | Frame::Running => Group::Routine,
+        _ => Group::Record,
     }
 }
 
@@ -189,20 +124,11 @@ pub fn named_file(f: Frame) -> u8
     ensures { result ≡ named_file f }
 {
     match f {
-        Frame::Malformed => NONE,
-        Frame::Fresh(_) => NONE,
         Frame::Open(q) => q.file,
-        Frame::Close(file) => file,
         Frame::Ask(q) => q.file,
-        Frame::Report(_) => NONE,
-        Frame::Get(file) => file,
         Frame::Put(q) => q.file,
-        Frame::Seal(file) => file,
-        Frame::Skip(file) => file,
-        Frame::Freeze => NONE,
-        Frame::Thaw => NONE,
-        Frame::Return => NONE,
-        Frame::Running => NONE,
+        Frame::Close(file) | Frame::Get(file) | Frame::Seal(file) | Frame::Skip(file) => file,
+        _ => NONE,
     }
 }
 
@@ -223,18 +149,14 @@ fn masks_of(masks: session_frame::Masks) -> Masks
 fn start_refusal(unsound: bool, n: usize, q: FreshFrame) -> u8
     ensures { result ≡ fresh_refusal unsound q.m q.w (masks_of q.masks) n }
 {
-    let masks = q.masks;
-    let units = masks_of(masks);
-    fresh_refusal(unsound, q.m, q.w, units, n)
+    fresh_refusal(unsound, q.m, q.w, masks_of(q.masks), n)
 }
 
 // The state after a fresh start.
 fn started(q: FreshFrame) -> State
     ensures { result ≡ fresh_state q.m q.w (masks_of q.masks) }
 {
-    let masks = q.masks;
-    let units = masks_of(masks);
-    fresh_state(q.m, q.w, units)
+    fresh_state(q.m, q.w, masks_of(q.masks))
 }
 
 // The refusal of a frame that concerns the whole state, with an area of n words; 0 for none. It needs no state but the judgement of it.
@@ -242,20 +164,9 @@ pub fn whole_refusal(unsound: bool, n: usize, f: Frame) -> u8
     ensures { result ≡ whole_refusal unsound n f }
 {
     match f {
-        Frame::Malformed => 1,
         Frame::Fresh(q) => start_refusal(unsound, n, q),
-        Frame::Open(_) => 1,
-        Frame::Close(_) => 1,
-        Frame::Ask(_) => 1,
-        Frame::Report(_) => 1,
-        Frame::Get(_) => 1,
-        Frame::Put(_) => 1,
-        Frame::Seal(_) => 1,
-        Frame::Skip(_) => 1,
-        Frame::Freeze => row(1, unsound, 0),
-        Frame::Thaw => row(1, unsound, 0),
-        Frame::Return => 1,
-        Frame::Running => 1,
+        Frame::Freeze | Frame::Thaw => row(1, unsound, 0),
+        _ => 1,
     }
 }
 
@@ -264,20 +175,10 @@ pub fn whole_state(s: State, f: Frame) -> State
     ensures { result ≡ whole_state s f }
 {
     match f {
-        Frame::Malformed => s,
         Frame::Fresh(q) => started(q),
-        Frame::Open(_) => s,
-        Frame::Close(_) => s,
-        Frame::Ask(_) => s,
-        Frame::Report(_) => s,
-        Frame::Get(_) => s,
-        Frame::Put(_) => s,
-        Frame::Seal(_) => s,
-        Frame::Skip(_) => s,
         Frame::Freeze => frozen_state(s),
         Frame::Thaw => thawed_state(s),
-        Frame::Return => s,
-        Frame::Running => s,
+        _ => s,
     }
 }
 
@@ -295,20 +196,11 @@ fn record_of(
     ensures area_after { area.new ≡ record_area unsound m w frame f area.old words.now }
 {
     match frame {
-        Frame::Malformed => quiet(1, f),
-        Frame::Fresh(_) => quiet(1, f),
-        Frame::Open(_) => quiet(1, f),
-        Frame::Close(_) => quiet(1, f),
-        Frame::Ask(_) => quiet(1, f),
-        Frame::Report(_) => quiet(1, f),
         Frame::Get(file) => got(unsound, m, w, f, file, &area[..]),
         Frame::Put(q) => filled(unsound, m, w, f, q.file, area, words),
         Frame::Seal(file) => sealed(unsound, m, w, f, file, area),
         Frame::Skip(file) => skipped(unsound, f, file),
-        Frame::Freeze => quiet(1, f),
-        Frame::Thaw => quiet(1, f),
-        Frame::Return => quiet(1, f),
-        Frame::Running => quiet(1, f),
+        _ => quiet(1, f),
     }
 }
 
@@ -325,20 +217,9 @@ fn binding_of(
     ensures { result ≡ binding_of unsound w free files frame f c }
 {
     match frame {
-        Frame::Malformed => quiet(1, f),
-        Frame::Fresh(_) => quiet(1, f),
         Frame::Open(q) => opened(unsound, w, free, files, f, c, q),
         Frame::Close(file) => closed(unsound, f, c, file),
-        Frame::Ask(_) => quiet(1, f),
-        Frame::Report(_) => quiet(1, f),
-        Frame::Get(_) => quiet(1, f),
-        Frame::Put(_) => quiet(1, f),
-        Frame::Seal(_) => quiet(1, f),
-        Frame::Skip(_) => quiet(1, f),
-        Frame::Freeze => quiet(1, f),
-        Frame::Thaw => quiet(1, f),
-        Frame::Return => quiet(1, f),
-        Frame::Running => quiet(1, f),
+        _ => quiet(1, f),
     }
 }
 
@@ -346,9 +227,8 @@ fn binding_of(
 fn unasked(f: File, c: Channel, p: Post) -> Change
     ensures { result ≡ unasked_change f c p }
 {
-    let answer = Answer::Refused(1);
     Change {
-        answer,
+        answer: Answer::Refused(1),
         start: 0,
         count: 0,
         file: f,
@@ -375,20 +255,9 @@ fn request_of(
     ensures area_after { area.new ≡ request_area unsound m w frame f c area.old words.now }
 {
     match frame {
-        Frame::Malformed => unasked(f, c, p),
-        Frame::Fresh(_) => unasked(f, c, p),
-        Frame::Open(_) => unasked(f, c, p),
-        Frame::Close(_) => unasked(f, c, p),
         Frame::Ask(q) => asked(unsound, frozen, f, c, p, q),
         Frame::Report(q) => reported(unsound, m, w, frozen, f, c, p, q, area, words),
-        Frame::Get(_) => unasked(f, c, p),
-        Frame::Put(_) => unasked(f, c, p),
-        Frame::Seal(_) => unasked(f, c, p),
-        Frame::Skip(_) => unasked(f, c, p),
-        Frame::Freeze => unasked(f, c, p),
-        Frame::Thaw => unasked(f, c, p),
-        Frame::Return => unasked(f, c, p),
-        Frame::Running => unasked(f, c, p),
+        _ => unasked(f, c, p),
     }
 }
 
@@ -411,15 +280,8 @@ pub fn record_on(
     }
     let f = file_or(i, old);
     let x = record_of(unsound, m, w, frame, f, area, words);
-    let g = x.file;
-    let answer = x.answer;
-    let file = file_kept(i, g, old);
-    Told {
-        answer,
-        start: x.start,
-        count: x.count,
-        file,
-    }
+    let file = kept(i, FILES, x.file, old);
+    Told { file, ..x }
 }
 
 // The place of the channel that a frame concerns, where `old` stands at the place of its file i.
@@ -451,15 +313,8 @@ pub fn binding_on(
     }
     let c = channel_or(j, was);
     let x = binding_of(unsound, w, free, files, frame, f, c);
-    let g = x.file;
-    let answer = x.answer;
-    let file = file_kept(i, g, old);
-    Told {
-        answer,
-        start: x.start,
-        count: x.count,
-        file,
-    }
+    let file = kept(i, FILES, x.file, old);
+    Told { file, ..x }
 }
 
 // Ask or report, where `old` and `was` stand at the places of the file i and of the channel: what stands there after it.
@@ -486,21 +341,9 @@ pub fn request_on(
     }
     let c = channel_or(j, was);
     let x = request_of(unsound, m, w, frozen, frame, f, c, p, area, words);
-    let g = x.file;
-    let d = x.channel;
-    let answer = x.answer;
-    let file = file_kept(i, g, old);
-    let channel = channel_kept(j, d, was);
-    let post = x.post;
-    Change {
-        answer,
-        start: x.start,
-        count: x.count,
-        file,
-        channel,
-        post,
-        looks: x.looks,
-    }
+    let file = kept(i, FILES, x.file, old);
+    let channel = kept(j, CHANNELS, x.channel, was);
+    Change { file, channel, ..x }
 }
 
 // The post of the unit that a frame concerns, where `old` stands at the place of its file i.
@@ -517,12 +360,8 @@ pub fn post_for(frame: Frame, i: usize, old: File, r: Routines) -> Post
 pub fn is_still(old: Post, new: Post, looks: bool) -> bool
     ensures { result ≡ is_still old new looks }
 {
-    let a = old.named;
-    let b = old.due;
-    let c = new.named;
-    let d = new.due;
-    ((a.rank == c.rank) & (a.routine == c.routine))
-        & (((b.rank == d.rank) & (b.routine == d.routine)) & !looks)
+    ((old.named.rank == new.named.rank) & (old.named.routine == new.named.routine))
+        & (((old.due.rank == new.due.rank) & (old.due.routine == new.due.routine)) & !looks)
 }
 
 // The routines with that post at the unit that a frame concerns, and after a look if there is one.
@@ -551,8 +390,7 @@ pub fn posted(
 pub fn routine_on(unsound: bool, frozen: bool, r: Routines, frame: Frame) -> RoutineTold
     ensures { result ≡ routine_of unsound frozen r frame }
 {
-    let back = is_return(frame);
-    if back {
+    if is_return(frame) {
         return given_back(unsound, frozen, r);
     }
     running(unsound, r)

@@ -7,14 +7,12 @@ use native.Mathlib.Numerals.{add-one}
 use native.Mathlib.Omega.{arith}
 use borrow.Author.Tests.{leb-true, leb-false, lt-ltb, le-ltb}
 use lib.Dec.{leb, ltb}
-use lib.ListN.{length, take, set, replicate, length-append, length-take, length-map, length-set}
+use lib.ListN.{length, take, set, length-append, length-take, length-map, length-set}
 use lib.Seq.{take_all, take-append-le, take-suc-set}
-use Rattle.area.proofs.Marks.{cond_true, cond_false}
-use Rattle.area.proofs.Walks.{by_test}
 use Rattle.sheet.specs.declared.Event.{Event}
 use Rattle.sheet.specs.declared.Row.{Row}
 use Rattle.sheet.specs.declared.Listed.{Listed}
-use Rattle.sheet.specs.Rows.{most_listed, next, new_row, row_after, row_through, onto, requests, no_row, listed_with, none_listed, row_in, listed_after, listed_through, rows_of}
+use Rattle.sheet.specs.Rows.{most_listed, next, new_row, row_after, row_through, onto, requests, listed_with, none_listed, row_in, listed_after, listed_through, rows_of}
 
 -- ---- lists
 

@@ -1,18 +1,18 @@
 -- What a line of the session leaves on the desk, and what each call does to the first difference. Assumes nothing.
-use mathlib.Core.Path.{◌≡◌, refl, sym, ap, ap₂, ◌∙◌, subst}
+use mathlib.Core.Path.{◌≡◌, refl, sym, ap, ap₂, ◌∙◌}
 use mathlib.Core.Bool.{Bool, true, false, not, cond, ◌&&◌, ◌||◌}
 use mathlib.Core.List.{List, [], ◌∷◌, ◌++◌}
-use Prim.Native.Nat.{ℕ, zero, suc, ◌+◌, ◌-◌, ◌≤◌, ◌<◌}
+use Prim.Native.Nat.{ℕ, ◌+◌, ◌-◌, ◌≤◌, ◌<◌}
 use native.Mathlib.Omega.{arith}
-use borrow.Author.Tests.{eqb-true, eq-eqb, ne_eqb, leb-true, leb-false, le-ltb, lt-ltb, ltb-true, ltb-false}
+use borrow.Author.Tests.{eqb-true, ne_eqb, leb-true, leb-false, le-ltb, ltb-false}
 use lib.Dec.{eqb, leb, ltb}
-use lib.ListN.{length, take, drop, length-append, length-drop, length-take, drop_of_length-le}
-use lib.Seq.{drop-drop, take-take}
+use lib.ListN.{length, take, drop, length-append, length-drop, length-take}
+use lib.Seq.{take-take}
 use Rattle.area.specs.Lists.{all_of}
 use Rattle.area.specs.Parts.{paste, pasted_in}
-use Rattle.area.proofs.Pastes.{length_paste, paste_part}
-use Rattle.area.proofs.Marks.{cond_true, cond_false}
-use Rattle.area.proofs.Walks.{by_test, true_not_false, or_left, or_right, or_neither}
+use Rattle.area.proofs.Pastes.{paste_part}
+use Rattle.area.proofs.Marks.{cond_false}
+use Rattle.area.proofs.Walks.{by_test, true_not_false, or_neither}
 use Rattle.session_frame.specs.Digits.{bytes_of, byte_digits, concat_map}
 use Rattle.session_frame.specs.Writes.{place_after}
 use Rattle.session_frame.specs.declared.Frame.{Frame}
@@ -23,29 +23,21 @@ use Rattle.session_frame.specs.declared.Answer.{Answer}
 use Rattle.session_frame.specs.declared.Answer.TheVariants.{Refused, Done, Asked, Reported, Delivered, Got, GotError, Returned, Runs}
 use Rattle.session_frame.specs.Answers.{answer_bytes, answer_text}
 use Rattle.session_line.specs.declared.Line.{Line}
-use Rattle.session_line.specs.declared.Step.{Step as LineStep}
-use Rattle.session_line.specs.Lines.{Text, Overlong, lines_of, feed_at, ended_lines, begun_line, last_line}
-use Rattle.session_line.specs.Machine.{no_line, has_begun, held_of, Holds, step_of, room_of}
-use Rattle.session_line.proofs.Laws.Feeds.{ended_append, begun_append, lines_ended}
-use Rattle.session_line.proofs.Laws.Holding.{clip_text, clip_over, holds_none, begun_none, begun_some}
-use Rattle.session_line.proofs.Laws.Steps.{step_length, step_holds, step_ended, step_stopped}
+use Rattle.session_line.specs.Lines.{Text, Overlong, ended_lines, begun_line, last_line}
+use Rattle.session_line.specs.Machine.{held_of, Holds}
+use Rattle.session_line.proofs.Laws.Feeds.{ended_append, begun_append}
+use Rattle.session_line.proofs.Laws.Holding.{clip_text, clip_over}
 use Rattle.state.specs.declared.State.{State}
-use Rattle.state.specs.Places.{before_start}
 use Rattle.session_reply.specs.Replies.{Reply, given_words, reply_to, answer_to, text_of}
 use Rattle.session_reply.proofs.Stores.{Counts}
-use Rattle.session_reply.proofs.Kept.{answer_counts}
 use Rattle.session.specs.Rooms.{most_words, most_text, lacks_rooms, After, after_line}
 use Rattle.session.proofs.Fits.{text_longest, text_written}
-use Rattle.sheet.specs.declared.Event.{Event}
-use Rattle.sheet.specs.declared.Listed.{Listed}
 use Rattle.sheet.specs.declared.Desk.{Desk}
-use Rattle.sheet.specs.declared.Taken.{Taken}
 use Rattle.sheet.specs.Events.{event_of}
-use Rattle.sheet.specs.Rows.{most_listed, most_count, next, requests, none_listed, listed_after, listed_through, rows_of}
-use Rattle.sheet.specs.Sheet.{line_in, answers_of, events_of, same_bytes, first_differs, Sheet, sheet_from, sheet_of}
-use Rattle.sheet.specs.Desks.{held_text, line_after, followed_desk, played_desk, with_session, with_recorded, with_over, with_done, judged, compared_desk, missing_desk, extra_desk, asks_no_line, asks_no_answer, Sat, sat_with, played_sat, stepped_sat, session_part, over_sat, session_end, taken_with, answers_step, answers_part, answers_room, answers_end}
+use Rattle.sheet.specs.Rows.{most_count, next}
+use Rattle.sheet.specs.Sheet.{line_in, same_bytes, first_differs}
+use Rattle.sheet.specs.Desks.{held_text, line_after, followed_desk, played_desk, Sat, sat_with, played_sat}
 use Rattle.sheet.proofs.Steps.{same_long}
-use Rattle.sheet.proofs.Following.{Lists, requests_listed}
 
 -- ---- the lines that are to come, when l has come of the first
 

@@ -3,25 +3,23 @@
 use mathlib.Core.Path.{◌≡◌, refl, sym, ap, ap₂, ◌∙◌, subst}
 use mathlib.Core.Bool.{Bool, true, false, not, cond, ◌&&◌, ◌||◌}
 use mathlib.Core.List.{List, [], ◌∷◌, ◌++◌}
-use Prim.Native.Nat.{ℕ, zero, suc, ◌+◌, ◌-◌, ◌≤◌, ◌<◌}
+use Prim.Native.Nat.{ℕ, ◌+◌, ◌≤◌, ◌<◌}
 use native.Mathlib.Omega.{arith}
-use borrow.Author.Tests.{eqb-true, lt-ltb, le-ltb, ltb-true, ltb-false}
+use borrow.Author.Tests.{eqb-true, ltb-true}
 use lib.Dec.{eqb, ltb}
 use lib.ListN.{length, take, drop, length-drop, drop_of_length-le}
 use lib.Seq.{drop-drop}
-use Rattle.area.specs.Parts.{paste}
 use Rattle.area.proofs.Pastes.{length_paste}
 use Rattle.area.proofs.Marks.{cond_true, cond_false}
-use Rattle.area.proofs.Walks.{by_test, true_not_false, and_left, and_right, or_left, or_right, or_neither}
+use Rattle.area.proofs.Walks.{by_test, true_not_false, and_left, and_right, or_left, or_right}
 use Rattle.session_frame.specs.Frames.{longest, frame_of}
 use Rattle.session_line.specs.declared.Line.{Line}
 use Rattle.session_line.specs.declared.Step.{Step as LineStep}
 use Rattle.session_line.specs.Lines.{feed, onto, lines_of, feed_at, last_line}
-use Rattle.session_line.specs.Machine.{no_line, has_begun, Holds, step_of, room_of}
+use Rattle.session_line.specs.Machine.{has_begun, Holds, step_of, room_of}
 use Rattle.session_line.proofs.Laws.Feeds.{lines_ended}
 use Rattle.session_line.proofs.Laws.Holding.{holds_none, begun_none, begun_some}
 use Rattle.session_line.proofs.Laws.Steps.{step_length, step_holds, step_ended, step_stopped}
-use Rattle.state.specs.declared.State.{State}
 use Rattle.state.specs.Places.{before_start}
 use Rattle.session_reply.specs.Replies.{Reply, given_words, answer_to, text_of}
 use Rattle.session_reply.proofs.Stores.{Counts}
@@ -31,12 +29,12 @@ use Rattle.sheet.specs.declared.Listed.{Listed}
 use Rattle.sheet.specs.declared.Desk.{Desk}
 use Rattle.sheet.specs.declared.Taken.{Taken}
 use Rattle.sheet.specs.Events.{event_of}
-use Rattle.sheet.specs.Rows.{most_listed, next, requests, none_listed, listed_after, listed_through, rows_of}
+use Rattle.sheet.specs.Rows.{next, none_listed, listed_after, listed_through, rows_of}
 use Rattle.sheet.specs.Sheet.{line_in, answers_of, events_of, first_differs, Sheet, sheet_from, sheet_of}
-use Rattle.sheet.specs.Desks.{held_text, followed_desk, with_session, with_recorded, with_over, with_done, judged, compared_desk, missing_desk, extra_desk, asks_no_line, asks_no_answer, Sat, sat_with, played_sat, stepped_sat, session_part, over_sat, session_end, taken_with, answers_step, answers_part, answers_room, answers_end}
+use Rattle.sheet.specs.Desks.{held_text, followed_desk, with_session, with_recorded, with_done, compared_desk, missing_desk, extra_desk, asks_no_line, asks_no_answer, Sat, sat_with, played_sat, stepped_sat, session_part, over_sat, session_end, taken_with, answers_step, answers_part, answers_room, answers_end}
 use Rattle.sheet.specs.Runs.{Table, table_after, table_with, after_session, after_answers, Step, takes_line, ends_session, takes_answer, ends_answers, Run, stop, then, start_table, is_finished, shown_by}
-use Rattle.sheet.proofs.Following.{Lists, requests_listed}
-use Rattle.sheet.proofs.Played.{lines_from, from_ended, from_open, from_none, held_same, paste_most, given, fit, out_line, line_some, line_most, played_to, played_to_lem, differs_by, next_some, differs_played, differs_compared, differs_missing, differs_extra, differs_end}
+use Rattle.sheet.proofs.Following.{requests_listed}
+use Rattle.sheet.proofs.Played.{lines_from, from_ended, from_open, from_none, held_same, paste_most, fit, out_line, line_some, line_most, played_to, played_to_lem, differs_by, next_some, differs_played, differs_compared, differs_missing, differs_extra, differs_end}
 
 -- ---- what is left: the first difference and the requests of the lines to come, `recorded` being the recorded lines to come
 

@@ -1,14 +1,11 @@
 -- What each function of the sheet does in each of its branches, as its definition says it. Assumes nothing.
 use mathlib.Core.Path.{◌≡◌, refl, sym, ap, ap₂, ◌∙◌}
-use mathlib.Core.Bool.{Bool, true, false, not, cond, ◌&&◌, ◌||◌}
+use mathlib.Core.Bool.{Bool, true, false, not, cond, ◌&&◌}
 use mathlib.Core.List.{List, [], ◌∷◌, ◌++◌, map}
 use Prim.Native.Nat.{ℕ, suc, ◌+◌, ◌-◌, ◌≤◌, ◌<◌}
-use native.Mathlib.Numerals.{add-one}
-use native.Mathlib.Omega.{arith}
-use borrow.Author.Tests.{eq-eqb, ne_eqb, le-leb, lt-leb, lt-ltb, le-ltb}
-use lib.Dec.{eqb, leb, ltb}
-use lib.ListN.{length, get_or, take, drop, drop_of_length-le, take-append-drop}
-use lib.Seq.{drop-cons}
+use borrow.Author.Tests.{le-leb, lt-leb, lt-ltb, le-ltb}
+use lib.Dec.{eqb}
+use lib.ListN.{length, take, drop, take-append-drop}
 use Rattle.area.proofs.Marks.{cond_true, cond_false}
 use Rattle.area.proofs.Walks.{by_test, or_first, or_second, or_neither}
 use Rattle.session_frame.specs.declared.Frame.{Frame}
@@ -26,7 +23,7 @@ use Rattle.sheet.specs.declared.Taken.{Taken}
 use Rattle.sheet.specs.Events.{event_of}
 use Rattle.sheet.specs.Rows.{most_listed, most_count, next, new_row, row_after, listed_with, row_in, listed_after}
 use Rattle.sheet.specs.Sheet.{same_bytes}
-use Rattle.sheet.specs.Desks.{held_text, line_after, followed_desk, played_desk, with_session, with_recorded, with_over, with_done, judged, compared_desk, missing_desk, extra_desk, asks_no_line, asks_no_answer, Sat, taken_of, sat_with, played_sat, stepped_sat, session_part, over_sat, session_end, taken_with, answers_step, answers_part, answers_room, answers_end}
+use Rattle.sheet.specs.Desks.{held_text, line_after, followed_desk, played_desk, with_session, with_recorded, with_over, with_done, compared_desk, missing_desk, extra_desk, asks_no_line, asks_no_answer, Sat, taken_of, sat_with, played_sat, stepped_sat, session_part, over_sat, session_end, taken_with, answers_step, answers_part, answers_room, answers_end}
 
 -- ---- two texts side by side
 
@@ -39,19 +36,6 @@ same_long (x ∷ xs) (y ∷ ys) ne =
     by_test (λ t. (t && same_bytes xs ys) ≡ false) (eqb x y)
     (λ _. same_long xs ys (λ z. ne (ap suc z)))
     (λ _. refl)
-
-module _ (a b : List ℕ) (i : ℕ) where
-  pub same_go : i < length a → i < length b → get_or a i 0 ≡ get_or b i 0 → same_bytes (drop i a) (drop i b) ≡ same_bytes (drop (i + 1) a) (drop (i + 1) b)
-  unfolding same_bytes
-  same_go h k e = rw (add-one, drop-cons a i 0 h, drop-cons b i 0 k, eq-eqb (get_or a i 0) (get_or b i 0) e)
-
-  pub same_stop : i < length a → i < length b → (get_or a i 0 ≡ get_or b i 0 → ⊥) → same_bytes (drop i a) (drop i b) ≡ false
-  unfolding same_bytes
-  same_stop h k ne = rw (drop-cons a i 0 h, drop-cons b i 0 k, ne_eqb (get_or a i 0) (get_or b i 0) ne)
-
-  pub same_end : length a ≤ i → length b ≤ i → same_bytes (drop i a) (drop i b) ≡ true
-  unfolding same_bytes
-  same_end h k = rw (drop_of_length-le a h, drop_of_length-le b k)
 
 -- ---- one more
 

@@ -5,7 +5,7 @@ ghost use Rattle.session_frame.specs.Frames.{frame_of};
 ghost use Rattle.sheet.specs.Desks.{new_desk, line_after, followed_desk, played_desk, with_session, with_recorded, with_over, with_done, compared_desk, missing_desk, extra_desk, asks_no_line, asks_no_answer, taken_of, session_part, session_end, answers_part, answers_room, answers_end};
 
 use crate::events::event_of;
-use crate::lines::{front, held_length, same, text_of};
+use crate::lines::{front, held_length, text_of};
 use crate::rows::{listed_after, next_number, none_listed, pick};
 use crate::{Desk, Event, Taken};
 use session::{ANSWER, WORDS, answer_line};
@@ -17,31 +17,18 @@ use state::{State, before_start};
 pub fn new_desk() -> Desk
     ensures { result ≡ new_desk }
 {
-    let state = before_start();
-    let none = no_line();
-    let listed = none_listed();
     Desk {
-        state,
-        session: none,
-        recorded: none,
+        state: before_start(),
+        session: no_line(),
+        recorded: no_line(),
         frames: 0,
         differs: 0,
         waits: false,
         length: 0,
         over: false,
         done: false,
-        listed,
+        listed: none_listed(),
     }
-}
-
-// One less, 0 for 0.
-fn one_less(n: usize) -> usize
-    ensures { result ≡ n - 1 }
-{
-    if n == 0 {
-        return 0;
-    }
-    n - 1
 }
 
 // The desk after the next frame, whose event is e, whose answer has `length` characters with its line feed, and after which the state is `state`: the
@@ -50,24 +37,18 @@ fn followed(d: Desk, state: State, e: Event, length: usize) -> Desk
     ensures { result ≡ followed_desk d state e length }
 {
     let k = next_number(d.frames);
-    let before = d.listed;
-    let listed = listed_after(before, e, k);
+    let listed = listed_after(d.listed, e, k);
     let missing = (d.differs == 0) & d.done;
     let differs = pick(missing, k, d.differs);
-    let shorter = one_less(length);
-    let session = no_line();
-    let recorded = d.recorded;
     Desk {
         state,
-        session,
-        recorded,
+        session: no_line(),
         frames: k,
         differs,
         waits: (d.differs == 0) & !d.done,
-        length: shorter,
-        over: d.over,
-        done: d.done,
+        length: length.saturating_sub(1),
         listed,
+        ..d
     }
 }
 
@@ -79,82 +60,75 @@ fn played(d: Desk, area: &mut [u64], line: &mut [u8], words: &mut [u64], out: &m
     ensures out_after { out.new ≡ (line_after d area.old line.old words.old out.old).out }
     ensures line_unchanged { line.new ≡ line.old }
 {
-    let s = d.state;
     let f = frame_of(&line[..]);
-    let r = answer_line(s, area, line, words, out);
-    let length = r.length;
-    let e = event_of(s, f, front(&out[..], length));
-    let state = r.state;
-    followed(d, state, e, length)
+    let r = answer_line(d.state, area, line, words, out);
+    let e = event_of(d.state, f, front(&out[..], r.length));
+    followed(d, r.state, e, r.length)
 }
 
 // The desk with what has begun of a line of the session.
 fn with_session(d: Desk, line: Line) -> Desk
     ensures { result ≡ with_session d line }
 {
-    let mut t = d;
-    t.session = line;
-    t
+    Desk { session: line, ..d }
 }
 
 // The desk with what has begun of a recorded line.
 fn with_recorded(d: Desk, line: Line) -> Desk
     ensures { result ≡ with_recorded d line }
 {
-    let mut t = d;
-    t.recorded = line;
-    t
+    Desk {
+        recorded: line,
+        ..d
+    }
 }
 
 // The desk after the session has ended, and after the recorded answers have.
 fn with_over(d: Desk) -> Desk
     ensures { result ≡ with_over d }
 {
-    let mut t = d;
-    t.over = true;
-    t
+    Desk { over: true, ..d }
 }
 
 fn with_done(d: Desk) -> Desk
     ensures { result ≡ with_done d }
 {
-    let mut t = d;
-    t.done = true;
-    t
+    Desk { done: true, ..d }
 }
 
 // The answer that waits, compared with its recorded line.
 fn compared(d: Desk, out: &[u8], recorded: &[u8]) -> Desk
     ensures { result ≡ compared_desk d out.now recorded.now }
 {
-    let alike = same(front(out, d.length), recorded);
+    let alike = front(out, d.length) == recorded;
     let differs = pick(alike, d.differs, d.frames);
-    let none = no_line();
-    let mut t = d;
-    t.recorded = none;
-    t.waits = false;
-    t.differs = differs;
-    t
+    Desk {
+        recorded: no_line(),
+        waits: false,
+        differs,
+        ..d
+    }
 }
 
 // The answer that waits has no recorded line.
 fn missing(d: Desk) -> Desk
     ensures { result ≡ missing_desk d }
 {
-    let mut t = d;
-    t.waits = false;
-    t.differs = d.frames;
-    t
+    Desk {
+        waits: false,
+        differs: d.frames,
+        ..d
+    }
 }
 
 // There is a recorded line after the last answer.
 fn extra(d: Desk) -> Desk
     ensures { result ≡ extra_desk d }
 {
-    let k = next_number(d.frames);
-    let mut t = d;
-    t.differs = k;
-    t
+    Desk {
+        differs: next_number(d.frames),
+        ..d
+    }
 }
 
 // Whether one of the session's rooms is too short, by their lengths, or its lines are not asked for.
@@ -182,19 +156,16 @@ pub fn session_part(
     ensures words_after { words.new ≡ (session_part d area.old room.old words.old bytes.now at out.old).words }
     ensures out_after { out.new ≡ (session_part d area.old room.old words.old bytes.now at out.old).out }
 {
-    let shut = asks_no_line(d, room.len(), words.len(), out.len());
-    if shut {
+    if asks_no_line(d, room.len(), words.len(), out.len()) {
         return Taken { desk: d, at };
     }
-    let line = d.session;
-    let step = next_line(bytes, at, room, line);
-    let more = step.line;
+    let step = next_line(bytes, at, room, d.session);
     if step.ended {
-        let n = held_length(more, &room[..]);
+        let n = held_length(step.line, &room[..]);
         let desk = played(d, area, &mut room[..n], words, out);
         return Taken { desk, at: step.at };
     }
-    let desk = with_session(d, more);
+    let desk = with_session(d, step.line);
     Taken { desk, at: step.at }
 }
 
@@ -212,16 +183,12 @@ pub fn session_end(
     ensures out_after { out.new ≡ (session_end d area.old room.old words.old out.old).out }
     ensures room_unchanged { room.new ≡ room.old }
 {
-    let shut = asks_no_line(d, room.len(), words.len(), out.len());
-    if shut {
+    if asks_no_line(d, room.len(), words.len(), out.len()) {
         return d;
     }
-    let line = d.session;
-    let begun = has_begun(line);
-    if begun {
-        let n = held_length(line, &room[..]);
-        let last = played(d, area, &mut room[..n], words, out);
-        return with_over(last);
+    if has_begun(d.session) {
+        let n = held_length(d.session, &room[..]);
+        return with_over(played(d, area, &mut room[..n], words, out));
     }
     with_over(d)
 }
@@ -240,26 +207,21 @@ pub fn answers_part(d: Desk, other: &mut [u8], bytes: &[u8], at: usize, out: &[u
     ensures value { result ≡ answers_part d other.old bytes.now at out.now }
     ensures other_after { other.new ≡ answers_room d other.old bytes.now at }
 {
-    let shut = asks_no_answer(d, other.len());
-    if shut {
+    if asks_no_answer(d, other.len()) {
         return Taken { desk: d, at };
     }
     if !d.waits {
         if at < bytes.len() {
-            let desk = extra(d);
-            return Taken { desk, at };
+            return Taken { desk: extra(d), at };
         }
         return Taken { desk: d, at };
     }
-    let line = d.recorded;
-    let step = next_line(bytes, at, other, line);
-    let more = step.line;
+    let step = next_line(bytes, at, other, d.recorded);
     if step.ended {
-        let text = text_of(more, &other[..]);
-        let desk = compared(d, out, text);
+        let desk = compared(d, out, text_of(step.line, &other[..]));
         return Taken { desk, at: step.at };
     }
-    let desk = with_recorded(d, more);
+    let desk = with_recorded(d, step.line);
     Taken { desk, at: step.at }
 }
 
@@ -273,13 +235,8 @@ pub fn answers_end(d: Desk, other: &[u8], out: &[u8]) -> Desk
     if !d.waits {
         return with_done(d);
     }
-    let line = d.recorded;
-    let begun = has_begun(line);
-    if begun {
-        let text = text_of(line, other);
-        let last = compared(d, out, text);
-        return with_done(last);
+    if has_begun(d.recorded) {
+        return with_done(compared(d, out, text_of(d.recorded, other)));
     }
-    let last = missing(d);
-    with_done(last)
+    with_done(missing(d))
 }

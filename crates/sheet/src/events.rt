@@ -6,11 +6,6 @@ use crate::Event;
 use session_frame::{AskFrame, Frame, ReportFrame};
 use state::{State, file_at};
 
-// The digits 0 and 7.
-const ZERO: u8 = 48;
-
-const SEVEN: u8 = 55;
-
 // The character in that place, 0 past the end.
 fn char_at(text: &[u8], i: usize) -> u8
     ensures { result ≡ get_or text.now i 0 }
@@ -25,17 +20,15 @@ fn char_at(text: &[u8], i: usize) -> u8
 fn is_pair(text: &[u8], i: usize, j: usize, digit: u8) -> bool
     ensures { result ≡ is_pair text.now i j digit }
 {
-    let a = char_at(text, i);
-    let b = char_at(text, j);
-    (a == ZERO) & (b == digit)
+    (char_at(text, i) == b'0') & (char_at(text, j) == digit)
 }
 
 // Whether the result of an accepted report leaves its request unanswered: 00, or 07 in its place.
 fn is_repeated(text: &[u8]) -> bool
     ensures { result ≡ is_repeated text.now }
 {
-    let plain = is_pair(text, 2, 3, ZERO);
-    let cleaner = is_pair(text, 2, 3, SEVEN);
+    let plain = is_pair(text, 2, 3, b'0');
+    let cleaner = is_pair(text, 2, 3, b'7');
     plain | cleaner
 }
 
@@ -61,12 +54,10 @@ fn ask_event(s: State, q: AskFrame, accepted: bool) -> Event
     let f = file_at(s, q.file as usize);
     Event {
         asked: accepted,
-        reported: false,
-        answered: false,
-        started: false,
         file: q.file,
         channel: f.channel,
         unit: f.unit,
+        ..no_event()
     }
 }
 
@@ -75,13 +66,11 @@ fn report_event(q: ReportFrame, accepted: bool, repeated: bool) -> Event
     ensures { result ≡ report_event q accepted repeated }
 {
     Event {
-        asked: false,
         reported: accepted,
         answered: accepted & !repeated,
-        started: false,
-        file: 0,
         channel: q.channel,
         unit: q.unit,
+        ..no_event()
     }
 }
 
@@ -90,13 +79,8 @@ fn start_event(accepted: bool) -> Event
     ensures { result ≡ start_event accepted }
 {
     Event {
-        asked: false,
-        reported: false,
-        answered: false,
         started: accepted,
-        file: 0,
-        channel: 0,
-        unit: 0,
+        ..no_event()
     }
 }
 
@@ -104,22 +88,12 @@ fn start_event(accepted: bool) -> Event
 pub fn event_of(s: State, f: Frame, text: &[u8]) -> Event
     ensures { result ≡ event_of s f text.now }
 {
-    let accepted = is_pair(text, 0, 1, ZERO);
+    let accepted = is_pair(text, 0, 1, b'0');
     let repeated = is_repeated(text);
     match f {
-        Frame::Malformed => no_event(),
         Frame::Fresh(_) => start_event(accepted),
-        Frame::Open(_) => no_event(),
-        Frame::Close(_) => no_event(),
         Frame::Ask(q) => ask_event(s, q, accepted),
         Frame::Report(q) => report_event(q, accepted, repeated),
-        Frame::Get(_) => no_event(),
-        Frame::Put(_) => no_event(),
-        Frame::Seal(_) => no_event(),
-        Frame::Skip(_) => no_event(),
-        Frame::Freeze => no_event(),
-        Frame::Thaw => no_event(),
-        Frame::Return => no_event(),
-        Frame::Running => no_event(),
+        _ => no_event(),
     }
 }

@@ -43,10 +43,8 @@ fn no_row() -> Row
 pub fn none_listed() -> Listed
     ensures { result ≡ none_listed }
 {
-    let none = no_row();
-    let rows = [none; LISTED];
     Listed {
-        rows,
+        rows: [no_row(); LISTED],
         count: 0,
         more: false,
     }
@@ -77,13 +75,10 @@ fn row_after(row: Row, e: Event, k: u64) -> Row
     let answered = pick(ends, k, row.answered);
     let reports = pick(counts, more, row.reports);
     Row {
-        file: row.file,
-        channel: row.channel,
-        unit: row.unit,
-        asked: row.asked,
         answered,
         reports,
         live: row.live & !ends & !e.started,
+        ..row
     }
 }
 
@@ -92,12 +87,8 @@ fn rows_after(given: [Row; LISTED], e: Event, k: u64) -> [Row; LISTED]
     ensures { result ≡ map (row_after e k) given }
 {
     let mut rows = given;
-    let mut i: usize = 0;
-    while i < LISTED {
-        let x = rows[i];
-        let y = row_after(x, e, k);
-        rows[i] = y;
-        i += 1;
+    for i in 0..LISTED {
+        rows[i] = row_after(rows[i], e, k);
     }
     rows
 }
@@ -118,28 +109,20 @@ fn row_in(given: [Row; LISTED], i: usize, row: Row) -> [Row; LISTED]
 pub fn listed_after(l: Listed, e: Event, k: u64) -> Listed
     ensures { result ≡ listed_after e k l }
 {
-    let given = l.rows;
-    let rows = rows_after(given, e, k);
+    let rows = rows_after(l.rows, e, k);
     if !e.asked {
-        return Listed {
-            rows,
-            count: l.count,
-            more: l.more,
-        };
+        return Listed { rows, ..l };
     }
     if LISTED <= l.count {
         return Listed {
             rows,
-            count: l.count,
             more: true,
+            ..l
         };
     }
-    let row = new_row(e, k);
-    let count = l.count;
-    let longer = row_in(rows, count, row);
     Listed {
-        rows: longer,
-        count: count + 1,
-        more: l.more,
+        rows: row_in(rows, l.count, new_row(e, k)),
+        count: l.count + 1,
+        ..l
     }
 }

@@ -7,4 +7,4 @@ use Rattle.session.specs.Talks.{talk_with}
 use Rattle.session.proofs.slow.new_talk.Goals as goal
 
 pub returns : goal.returns
-returns c = ap₂ (λ (s : State) (l : Line). talk_with s l false) c.before_start-state.ensures c.no_line-line.ensures
+returns c = ap₂ (λ (s : State) (l : Line). talk_with s l false) c.before_start.ensures c.no_line.ensures

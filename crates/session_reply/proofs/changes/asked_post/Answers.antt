@@ -9,4 +9,4 @@ returns-then-refusal-ne0 c = rw (ne_eqb c.args.refusal 0 c.if-refusal-ne0.true)
 
 pub returns : goal.returns
 unfolding asked_post
-returns c = rw (c.if-refusal-ne0.false, c.due_of-named.ensures)
+returns c = rw (c.if-refusal-ne0.false, c.due_of.ensures)

@@ -3,4 +3,4 @@ use Rattle.session_reply.proofs.Done.{given_back_as}
 use Rattle.session_reply.proofs.changes.given_back.Goals as goal
 
 pub returns : goal.returns
-returns c = given_back_as c.args.unsound c.args.frozen c.args.r _ _ c.return_on-x.ensures c.answer_or-answer.ensures
+returns c = given_back_as c.args.unsound c.args.frozen c.args.r _ _ c.return_on-x.ensures c.answer_or.ensures

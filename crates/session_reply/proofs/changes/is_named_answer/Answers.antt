@@ -4,4 +4,4 @@ use Rattle.session_reply.proofs.changes.is_named_answer.Goals as goal
 
 pub returns : goal.returns
 unfolding is_named_answer
-returns c = rw (c.answers_request-answers.ensures, c.is_due-due.ensures)
+returns c = rw (c.answers_request.ensures, c.is_due.ensures)

@@ -3,4 +3,4 @@
 use Rattle.session_reply.proofs.turns.start_refusal.Goals as goal
 
 pub returns : goal.returns
-returns c = simp (c.fresh_refusal.ensures, c.masks_of-units.ensures)
+returns c = simp (c.fresh_refusal.ensures, c.masks_of.ensures)

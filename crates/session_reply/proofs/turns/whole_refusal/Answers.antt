@@ -1,59 +1,44 @@
 -- `session_reply::turns::whole_refusal` meets its contract, frame by frame. Assumes nothing.
+use mathlib.Core.Path.{◌≡◌, refl, sym, ◌∙◌}
+use Prim.Native.Nat.{ℕ}
+use mathlib.Core.Bool.{Bool, cond}
+use mathlib.Core.Logic.{◌⊎◌, inl, inr}
+use Rattle.session_frame.specs.declared.Frame.{Frame}
+use Rattle.session_frame.specs.declared.Frame.TheVariants.{Malformed, Fresh, Open, Close, Ask, Report, Get, Put, Seal, Skip, Freeze, Thaw, Return, Running}
+use Rattle.session_frame.specs.declared.FreshFrame.{FreshFrame}
 use Rattle.session_reply.specs.Turns.{whole_refusal}
 use Rattle.session_reply.proofs.turns.whole_refusal.Goals as goal
 
-pub returns-in-Malformed : goal.returns-in-Malformed
-unfolding whole_refusal
-returns-in-Malformed c = rw c.in-Malformed.is
+-- every other frame
+module _ (unsound : Bool) (n : ℕ) where
+  malformed : (frame : Frame) → ((x : FreshFrame) → frame ≡ Fresh x → ⊥) → (frame ≡ Freeze → ⊥) → (frame ≡ Thaw → ⊥) → whole_refusal unsound n frame ≡ 1
+  unfolding whole_refusal
+  malformed Malformed n0 n1 n2 = refl
+  malformed (Fresh x) n0 n1 n2 = absurd (n0 x refl)
+  malformed (Open x) n0 n1 n2 = refl
+  malformed (Close x) n0 n1 n2 = refl
+  malformed (Ask x) n0 n1 n2 = refl
+  malformed (Report x) n0 n1 n2 = refl
+  malformed (Get x) n0 n1 n2 = refl
+  malformed (Put x) n0 n1 n2 = refl
+  malformed (Seal x) n0 n1 n2 = refl
+  malformed (Skip x) n0 n1 n2 = refl
+  malformed Freeze n0 n1 n2 = absurd (n1 refl)
+  malformed Thaw n0 n1 n2 = absurd (n2 refl)
+  malformed Return n0 n1 n2 = refl
+  malformed Running n0 n1 n2 = refl
 
 pub returns-in-Fresh : goal.returns-in-Fresh
 unfolding whole_refusal
 returns-in-Fresh c = rw c.in-Fresh.is c.start_refusal.ensures
 
-pub returns-in-Open : goal.returns-in-Open
+paused : (unsound : Bool) (n : ℕ) (frame : Frame) → (frame ≡ Freeze) ⊎ (frame ≡ Thaw) → whole_refusal unsound n frame ≡ cond unsound 1 0
 unfolding whole_refusal
-returns-in-Open c = rw c.in-Open.is
-
-pub returns-in-Close : goal.returns-in-Close
-unfolding whole_refusal
-returns-in-Close c = rw c.in-Close.is
-
-pub returns-in-Ask : goal.returns-in-Ask
-unfolding whole_refusal
-returns-in-Ask c = rw c.in-Ask.is
-
-pub returns-in-Report : goal.returns-in-Report
-unfolding whole_refusal
-returns-in-Report c = rw c.in-Report.is
-
-pub returns-in-Get : goal.returns-in-Get
-unfolding whole_refusal
-returns-in-Get c = rw c.in-Get.is
-
-pub returns-in-Put : goal.returns-in-Put
-unfolding whole_refusal
-returns-in-Put c = rw c.in-Put.is
-
-pub returns-in-Seal : goal.returns-in-Seal
-unfolding whole_refusal
-returns-in-Seal c = rw c.in-Seal.is
-
-pub returns-in-Skip : goal.returns-in-Skip
-unfolding whole_refusal
-returns-in-Skip c = rw c.in-Skip.is
+paused unsound n frame (inl e) = rw e
+paused unsound n frame (inr e) = rw e
 
 pub returns-in-Freeze : goal.returns-in-Freeze
-unfolding whole_refusal
-returns-in-Freeze c = rw c.in-Freeze.is c.row.ensures
+returns-in-Freeze c = c.row.ensures ∙ sym (paused c.args.unsound c.args.n c.args.f c.in-Freeze.is)
 
-pub returns-in-Thaw : goal.returns-in-Thaw
-unfolding whole_refusal
-returns-in-Thaw c = rw c.in-Thaw.is c.row-in-Thaw.ensures
-
-pub returns-in-Return : goal.returns-in-Return
-unfolding whole_refusal
-returns-in-Return c = rw c.in-Return.is
-
-pub returns-in-Running : goal.returns-in-Running
-unfolding whole_refusal
-returns-in-Running c = rw c.in-Running.is
+pub returns-in_default : goal.returns-in_default
+returns-in_default c = sym (malformed c.args.unsound c.args.n c.args.f c.in_default.not-Fresh c.in_default.not-Freeze c.in_default.not-Thaw)

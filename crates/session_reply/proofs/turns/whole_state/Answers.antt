@@ -1,46 +1,34 @@
 -- `session_reply::turns::whole_state` meets its contract, frame by frame. Assumes nothing.
+use mathlib.Core.Path.{◌≡◌, refl, sym}
+use Rattle.state.specs.declared.State.{State}
+use Rattle.session_frame.specs.declared.Frame.{Frame}
+use Rattle.session_frame.specs.declared.Frame.TheVariants.{Malformed, Fresh, Open, Close, Ask, Report, Get, Put, Seal, Skip, Freeze, Thaw, Return, Running}
+use Rattle.session_frame.specs.declared.FreshFrame.{FreshFrame}
 use Rattle.session_reply.specs.Turns.{whole_state}
 use Rattle.session_reply.proofs.turns.whole_state.Goals as goal
 
-pub returns-in-Malformed : goal.returns-in-Malformed
-unfolding whole_state
-returns-in-Malformed c = rw c.in-Malformed.is
+-- every other frame
+module _ (s : State) where
+  same : (frame : Frame) → ((x : FreshFrame) → frame ≡ Fresh x → ⊥) → (frame ≡ Freeze → ⊥) → (frame ≡ Thaw → ⊥) → whole_state s frame ≡ s
+  unfolding whole_state
+  same Malformed n0 n1 n2 = refl
+  same (Fresh x) n0 n1 n2 = absurd (n0 x refl)
+  same (Open x) n0 n1 n2 = refl
+  same (Close x) n0 n1 n2 = refl
+  same (Ask x) n0 n1 n2 = refl
+  same (Report x) n0 n1 n2 = refl
+  same (Get x) n0 n1 n2 = refl
+  same (Put x) n0 n1 n2 = refl
+  same (Seal x) n0 n1 n2 = refl
+  same (Skip x) n0 n1 n2 = refl
+  same Freeze n0 n1 n2 = absurd (n1 refl)
+  same Thaw n0 n1 n2 = absurd (n2 refl)
+  same Return n0 n1 n2 = refl
+  same Running n0 n1 n2 = refl
 
 pub returns-in-Fresh : goal.returns-in-Fresh
 unfolding whole_state
 returns-in-Fresh c = rw c.in-Fresh.is c.started.ensures
-
-pub returns-in-Open : goal.returns-in-Open
-unfolding whole_state
-returns-in-Open c = rw c.in-Open.is
-
-pub returns-in-Close : goal.returns-in-Close
-unfolding whole_state
-returns-in-Close c = rw c.in-Close.is
-
-pub returns-in-Ask : goal.returns-in-Ask
-unfolding whole_state
-returns-in-Ask c = rw c.in-Ask.is
-
-pub returns-in-Report : goal.returns-in-Report
-unfolding whole_state
-returns-in-Report c = rw c.in-Report.is
-
-pub returns-in-Get : goal.returns-in-Get
-unfolding whole_state
-returns-in-Get c = rw c.in-Get.is
-
-pub returns-in-Put : goal.returns-in-Put
-unfolding whole_state
-returns-in-Put c = rw c.in-Put.is
-
-pub returns-in-Seal : goal.returns-in-Seal
-unfolding whole_state
-returns-in-Seal c = rw c.in-Seal.is
-
-pub returns-in-Skip : goal.returns-in-Skip
-unfolding whole_state
-returns-in-Skip c = rw c.in-Skip.is
 
 pub returns-in-Freeze : goal.returns-in-Freeze
 unfolding whole_state
@@ -50,10 +38,5 @@ pub returns-in-Thaw : goal.returns-in-Thaw
 unfolding whole_state
 returns-in-Thaw c = rw c.in-Thaw.is c.thawed_state.ensures
 
-pub returns-in-Return : goal.returns-in-Return
-unfolding whole_state
-returns-in-Return c = rw c.in-Return.is
-
-pub returns-in-Running : goal.returns-in-Running
-unfolding whole_state
-returns-in-Running c = rw c.in-Running.is
+pub returns-in_default : goal.returns-in_default
+returns-in_default c = sym (same c.args.s c.args.f c.in_default.not-Fresh c.in_default.not-Freeze c.in_default.not-Thaw)

@@ -3,4 +3,4 @@
 use Rattle.sheet.proofs.calls.extra.Goals as goal
 
 pub returns : goal.returns
-returns c = simp c.next_number-k.ensures
+returns c = simp c.next_number.ensures

@@ -3,4 +3,4 @@ use Rattle.sheet.proofs.Steps.{followed_is}
 use Rattle.sheet.proofs.calls.followed.Goals as goal
 
 pub returns : goal.returns
-returns c = followed_is c.args.d c.args.state c.args.e c.args.length _ c.next_number-k.ensures _ c.listed_after-listed.ensures _ c.pick-differs.ensures _ c.one_less-shorter.ensures _ c.no_line-session.ensures
+returns c = followed_is c.args.d c.args.state c.args.e c.args.length _ c.next_number-k.ensures _ c.listed_after-listed.ensures _ c.pick-differs.ensures _ c.saturating_sub.ensures _ c.no_line.ensures

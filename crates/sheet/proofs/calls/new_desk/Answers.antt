@@ -3,4 +3,4 @@
 use Rattle.sheet.proofs.calls.new_desk.Goals as goal
 
 pub returns : goal.returns
-returns c = simp (c.before_start-state.ensures, c.no_line-none.ensures, c.none_listed-listed.ensures)
+returns c = simp (c.before_start.ensures, c.no_line.ensures, c.no_line-2.ensures, c.none_listed.ensures)

@@ -1,6 +1,5 @@
 -- `sheet::calls::played` meets its contract, from those of its callees. Assumes nothing.
 use Rattle.sheet.proofs.Steps.{played_is}
-use borrow.Author.Rules.{rules}
 use Rattle.sheet.proofs.calls.played.Goals as goal
 
 pub returns : goal.returns

@@ -4,4 +4,4 @@ use Rattle.sheet.proofs.events.ask_event.Goals as goal
 
 pub returns : goal.returns
 unfolding ask_event
-returns c = simp c.file_at-f.ensures
+returns c = simp (c.file_at-f.ensures, c.no_event.ensures)

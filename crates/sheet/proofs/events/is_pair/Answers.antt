@@ -4,4 +4,4 @@ use Rattle.sheet.proofs.events.is_pair.Goals as goal
 
 pub returns : goal.returns
 unfolding is_pair
-returns c = simp (c.char_at-a.ensures, c.char_at-b.ensures)
+returns c = simp (c.char_at.ensures, c.char_at-2.ensures)

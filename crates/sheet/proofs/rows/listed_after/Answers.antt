@@ -13,4 +13,4 @@ pub overflow_add-result : goal.overflow_add-result
 overflow_add-result c = omega arith
 
 pub returns : goal.returns
-returns c = listed_more c.args.e c.args.k c.args.l _ c.rows_after-rows.ensures c.if-not-e.false (omega arith) _ c.new_row-row.ensures _ c.row_in-longer.ensures
+returns c = listed_more c.args.e c.args.k c.args.l _ c.rows_after-rows.ensures c.if-not-e.false (omega arith) _ c.new_row.ensures _ c.row_in.ensures

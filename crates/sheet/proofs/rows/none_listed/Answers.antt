@@ -4,4 +4,4 @@ use Rattle.sheet.proofs.rows.none_listed.Goals as goal
 
 pub returns : goal.returns
 unfolding none_listed
-returns c = simp c.no_row-none.ensures
+returns c = simp c.no_row.ensures
