@@ -1,5 +1,5 @@
 // Answers: numbers with one blank between them, a line feed after the last.
-use channel::{Channel, Op, Position, Request, Turn, UNITS};
+use channel::{Channel, Position, Request, Turn, UNITS};
 use std::io::Stdout;
 use streams::{print_decimal, write_all};
 
@@ -18,35 +18,19 @@ pub fn end_line(to: Stdout) {
     write_all(to, b"\n");
 }
 
-fn flag(b: bool) -> u64 {
-    if b { 1 } else { 0 }
-}
-
-fn op_number(op: Op) -> u64 {
-    match op {
-        Op::Read => 0,
-        Op::Write => 1,
-        Op::Mark => 2,
-    }
-}
-
 fn request(to: Stdout, kind: u64, q: Request) {
-    let op = q.op;
     number(to, kind);
-    number(to, op_number(op));
-    number(to, flag(q.priority));
-    number(to, q.attempts as u64);
-    number(to, q.incomplete as u64);
-    number(to, q.noise as u64);
+    number(to, q.op as u64);
+    number(to, u64::from(q.priority));
+    number(to, u64::from(q.attempts));
+    number(to, u64::from(q.incomplete));
+    number(to, u64::from(q.noise));
 }
 
 fn idle(to: Stdout) {
-    number(to, 0);
-    number(to, 0);
-    number(to, 0);
-    number(to, 0);
-    number(to, 0);
-    number(to, 0);
+    for _ in 0..6 {
+        number(to, 0);
+    }
 }
 
 fn turn(to: Stdout, t: Turn) {
@@ -59,13 +43,13 @@ fn turn(to: Stdout, t: Turn) {
 }
 
 fn position(to: Stdout, p: Position) {
-    number(to, p.marks as u64);
-    number(to, p.records as u64);
-    number(to, flag(p.noisy));
+    number(to, u64::from(p.marks));
+    number(to, u64::from(p.records));
+    number(to, u64::from(p.noisy));
 }
 
 fn declared(to: Stdout, c: Channel, unit: usize) {
-    let known = flag(channel::is_declared(c, unit));
+    let known = u64::from(channel::is_declared(c, unit));
     if unit == 0 {
         answer(to, known);
     } else {
@@ -75,17 +59,13 @@ fn declared(to: Stdout, c: Channel, unit: usize) {
 
 // Ten numbers for each unit, then the two marks, then whether the channel is frozen.
 pub fn whole(to: Stdout, c: Channel, frozen: bool) {
-    let mut u = 0;
-    while u < UNITS {
+    for u in 0..UNITS {
         declared(to, c, u);
-        let t = channel::turn_of(c, u);
-        turn(to, t);
-        let p = channel::position_of(c, u);
-        position(to, p);
-        u += 1;
+        turn(to, channel::turn_of(c, u));
+        position(to, channel::position_of(c, u));
     }
-    number(to, c.mark as u64);
-    number(to, c.urgent as u64);
-    number(to, flag(frozen));
+    number(to, u64::from(c.mark));
+    number(to, u64::from(c.urgent));
+    number(to, u64::from(frozen));
     end_line(to);
 }

@@ -59,7 +59,6 @@ use Rattle.pack.proofs.Kept.{call_kept}
 use Rattle.pack.proofs.Seen.{station_at, event_if, call_agrees}
 use Rattle.pack.proofs.Counted.{repeats_told, result_is}
 use Rattle.pack.proofs.Turns.{bits_of, fresh_station}
-use Rattle.std.specs.declared.option.Option.{Option as OptionOf}
 use Rattle.std.specs.declared.option.Option.TheVariants.{Some}
 
 -- a request as the channel holds it: the attempt that is at work, or due, is one above the failures
@@ -83,7 +82,7 @@ held_by_lem r none e = absurd (let z : ◌≡◌ {A = ℕ} 0 1 = cc in omega ari
 held_by_lem r (some p) e = holding p (let same : r ≡ as_request p = cc in same)
 
 -- the last answer of a kind: to priority requests, or to ordinary ones
-abbrev pub last_as : Bool → Book → OptionOf ℕ
+abbrev pub last_as : Bool → Book → Option ℕ
 last_as true b = b.last_urgent
 last_as false b = b.last
 
@@ -92,7 +91,7 @@ pending_as true = is_urgent
 pending_as false = is_ordinary
 
 -- a scan's mark is the unit above that of the last answer of its kind, and 0 if there was none
-abbrev pub MarkIs : OptionOf ℕ → ℕ → Type 0
+abbrev pub MarkIs : Option ℕ → ℕ → Type 0
 MarkIs none m = m ≡ 0
 MarkIs (some u) m = (m ≡ next_unit unit_count u) × (u < unit_count)
 

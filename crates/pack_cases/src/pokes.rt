@@ -1,9 +1,97 @@
-// A state that its caller has changed: one number of it is another.
-use channel::{Channel, Op, Position, Request, Turn, UNITS, Unit};
-use file::{Arrival, Buffer, File, Slot};
-use pool::FILES;
-use routines::{DEPTH, Post, Program, Programs, Routines, post_at, with_post};
-use state::{State, channel_at, file_at, with_channel, with_routines};
+// A state that its caller has changed: one number of it is another. Past the last file, channel, unit or program nothing changes.
+use channel::{Channel, Op, Request, Turn, Unit};
+use file::{Arrival, Buffer, File, Slot, no_arrival};
+use routines::{Post, Program, Programs};
+use state::State;
+
+// Which number is changed, and to what.
+#[derive(Clone, Copy)]
+pub enum Poke {
+    File {
+        file: usize,
+        field: u64,
+        value: u64,
+    },
+    Unit {
+        channel: usize,
+        unit: usize,
+        field: u64,
+        value: u64,
+    },
+    // The mark of ordinary requests, or of urgent ones.
+    Mark {
+        channel: usize,
+        urgent: bool,
+        value: u8,
+    },
+    Pool {
+        field: u64,
+        value: u64,
+    },
+    // The depth of the push-down list.
+    Depth(u8),
+    // What runs, at place 0, or an interrupted program, at the places from 1 on.
+    Program {
+        at: usize,
+        field: u64,
+        value: u8,
+    },
+    Post {
+        channel: usize,
+        unit: usize,
+        field: u64,
+        value: u8,
+    },
+}
+
+impl Poke {
+    // Changes that number of the state, and nothing else: the free mask stays when a file is another.
+    pub fn apply(self, s: &mut State) {
+        match self {
+            Poke::File { file, field, value } => {
+                if let Some(f) = s.files.get_mut(file) {
+                    set_file(f, field, value);
+                }
+            }
+            Poke::Unit {
+                channel,
+                unit,
+                field,
+                value,
+            } => {
+                if let Some(c) = s.channels.get_mut(channel) {
+                    set_channel(c, unit, field, value);
+                }
+            }
+            Poke::Mark {
+                channel,
+                urgent,
+                value,
+            } => {
+                if let Some(c) = s.channels.get_mut(channel) {
+                    set_mark(c, urgent, value);
+                }
+            }
+            Poke::Pool { field, value } => set_pool(s, field, value),
+            Poke::Depth(count) => s.routines.programs.count = count,
+            Poke::Program { at, field, value } => {
+                set_programs(&mut s.routines.programs, at, field, value);
+            }
+            Poke::Post {
+                channel,
+                unit,
+                field,
+                value,
+            } => {
+                if let Some(posts) = s.routines.posts.get_mut(channel) {
+                    if let Some(post) = posts.units.get_mut(unit) {
+                        set_post(post, field, value);
+                    }
+                }
+            }
+        }
+    }
+}
 
 fn byte(n: u64) -> u8 {
     (n % 256) as u8
@@ -17,172 +105,130 @@ fn mask(n: u64) -> u32 {
     (n % 4294967296) as u32
 }
 
-fn place(n: u64) -> usize {
-    (n % 256) as usize
-}
-
 // ---- a file
 
-fn kind_slot(kind: u64) -> Slot {
+fn set_file(f: &mut File, field: u64, v: u64) {
+    match field {
+        0 => f.opened = v != 0,
+        1 => f.channel = byte(v),
+        2 => f.unit = byte(v),
+        3 => f.output = v != 0,
+        4 => f.double = v != 0,
+        5 => f.sequence = v != 0,
+        6 => f.check = v != 0,
+        7 => f.size = size(v),
+        8 => f.rlen = size(v),
+        9 => f.turned = v != 0,
+        10 => f.block = size(v),
+        11 => f.marked = v != 0,
+        12..=21 => set_buffer(&mut f.low, field - 12, v),
+        _ => set_buffer(&mut f.high, field - 22, v),
+    }
+}
+
+// A buffer's number (0), kind (1), or number of its slot, if it has that: 2 words, 3 the place of get, 4 to 9 how the block arrived.
+fn set_buffer(b: &mut Buffer, field: u64, v: u64) {
+    match field {
+        0 => b.number = byte(v),
+        1 => b.slot = slot_of_kind(v),
+        _ => b.slot = slot_with(b.slot, field, v),
+    }
+}
+
+fn slot_of_kind(kind: u64) -> Slot {
     match kind {
         1 => Slot::Taken,
         2 => Slot::Part(0),
         3 => Slot::Full {
             words: 0,
             at: 0,
-            arrival: file::no_arrival(),
+            arrival: no_arrival(),
         },
         _ => Slot::Empty,
     }
 }
 
-// How a block arrived with another of its numbers: 4 the check error, 5 the read error, 6 and 7 the sum and the number worked out, 8 and 9 those read.
-fn arrival_with(a: Arrival, field: u64, v: u64) -> Arrival {
-    let mut c = a.check;
-    let mut failed = a.failed;
-    match field {
-        4 => c.error = byte(v),
-        5 => failed = byte(v),
-        6 => c.sum = mask(v),
-        7 => c.number = size(v),
-        8 => c.sumread = mask(v),
-        _ => c.numberread = size(v),
-    }
-    Arrival { failed, check: c }
-}
-
-fn full_with(field: u64, words: u16, at: u16, arrival: Arrival, v: u64) -> Slot {
-    match field {
-        2 => Slot::Full {
-            words: size(v),
-            at,
-            arrival,
-        },
-        3 => Slot::Full {
-            words,
-            at: size(v),
-            arrival,
-        },
-        _ => Slot::Full {
-            words,
-            at,
-            arrival: arrival_with(arrival, field, v),
-        },
-    }
-}
-
-fn part_with(field: u64, n: u16, v: u64) -> Slot {
-    if field == 2 {
-        return Slot::Part(size(v));
-    }
-    Slot::Part(n)
-}
-
-// A slot with another of its numbers, if it has that: 2 words, 3 the place of get, 4 to 9 how the block arrived.
 fn slot_with(x: Slot, field: u64, v: u64) -> Slot {
     match x {
-        Slot::Empty => Slot::Empty,
-        Slot::Taken => Slot::Taken,
-        Slot::Part(n) => part_with(field, n, v),
-        Slot::Full { words, at, arrival } => full_with(field, words, at, arrival, v),
+        Slot::Part(_) if field == 2 => Slot::Part(size(v)),
+        Slot::Full { words, at, arrival } => match field {
+            2 => Slot::Full {
+                words: size(v),
+                at,
+                arrival,
+            },
+            3 => Slot::Full {
+                words,
+                at: size(v),
+                arrival,
+            },
+            _ => Slot::Full {
+                words,
+                at,
+                arrival: arrival_with(arrival, field, v),
+            },
+        },
+        _ => x,
     }
 }
 
-// A buffer with another number (0), kind (1), or number of its slot.
-fn buffer_with(b: Buffer, field: u64, v: u64) -> Buffer {
-    let x = b.slot;
-    if field == 0 {
-        return Buffer {
-            number: byte(v),
-            slot: x,
-        };
-    }
-    let y = if field == 1 {
-        kind_slot(v)
-    } else {
-        slot_with(x, field, v)
-    };
-    Buffer {
-        number: b.number,
-        slot: y,
-    }
-}
-
-fn flag_with(f: File, field: u64, on: bool) -> File {
-    let mut g = f;
+// How a block arrived: 4 the check error, 5 the read error, 6 and 7 the sum and the number worked out, 8 and 9 those read.
+fn arrival_with(a: Arrival, field: u64, v: u64) -> Arrival {
+    let mut a = a;
     match field {
-        0 => g.opened = on,
-        3 => g.output = on,
-        4 => g.double = on,
-        5 => g.sequence = on,
-        6 => g.check = on,
-        9 => g.turned = on,
-        _ => g.marked = on,
+        4 => a.check.error = byte(v),
+        5 => a.failed = byte(v),
+        6 => a.check.sum = mask(v),
+        7 => a.check.number = size(v),
+        8 => a.check.sumread = mask(v),
+        _ => a.check.numberread = size(v),
     }
-    g
-}
-
-fn number_with(f: File, field: u64, v: u64) -> File {
-    let mut g = f;
-    match field {
-        1 => g.channel = byte(v),
-        2 => g.unit = byte(v),
-        7 => g.size = size(v),
-        8 => g.rlen = size(v),
-        _ => g.block = size(v),
-    }
-    g
-}
-
-fn low_with(f: File, field: u64, v: u64) -> File {
-    let mut g = f;
-    let b = buffer_with(f.low, field, v);
-    g.low = b;
-    g
-}
-
-fn high_with(f: File, field: u64, v: u64) -> File {
-    let mut g = f;
-    let b = buffer_with(f.high, field, v);
-    g.high = b;
-    g
-}
-
-fn is_number(field: u64) -> bool {
-    ((field == 1) | (field == 2)) | (((field == 7) | (field == 8)) | (field == 10))
-}
-
-fn file_with(f: File, field: u64, v: u64) -> File {
-    if 22 <= field {
-        return high_with(f, field - 22, v);
-    }
-    if 12 <= field {
-        return low_with(f, field - 12, v);
-    }
-    if is_number(field) {
-        return number_with(f, field, v);
-    }
-    flag_with(f, field, v != 0)
+    a
 }
 
 // ---- a channel
 
-fn op_of(v: u64) -> Op {
-    match v {
-        0 => Op::Read,
-        1 => Op::Write,
-        _ => Op::Mark,
+fn set_channel(c: &mut Channel, unit: usize, field: u64, v: u64) {
+    if let Some(unit) = c.units.get_mut(unit) {
+        set_unit(unit, field, v);
     }
 }
 
-fn request_with(q: Request, field: u64, v: u64) -> Request {
-    let op = if field == 2 { op_of(v) } else { q.op };
-    Request {
-        op,
-        priority: if field == 3 { v != 0 } else { q.priority },
-        attempts: if field == 4 { byte(v) } else { q.attempts },
-        incomplete: if field == 5 { byte(v) } else { q.incomplete },
-        noise: if field == 6 { byte(v) } else { q.noise },
+fn set_mark(c: &mut Channel, urgent: bool, v: u8) {
+    if urgent {
+        c.urgent = v;
+    } else {
+        c.mark = v;
+    }
+}
+
+fn set_unit(unit: &mut Unit, field: u64, v: u64) {
+    match field {
+        0 => unit.declared = v != 0,
+        7 => unit.position.marks = size(v),
+        8 => unit.position.records = size(v),
+        9 => unit.position.noisy = v != 0,
+        _ => unit.turn = turn_with(unit.turn, field, v),
+    }
+}
+
+// A turn of another kind (1), or with another number of its request, if it has one.
+fn turn_with(t: Turn, field: u64, v: u64) -> Turn {
+    let kind = if field == 1 { v } else { kind_of(t) };
+    match t {
+        Turn::Idle => turn_of_kind(kind, NO_REQUEST),
+        Turn::Waiting(q) | Turn::Displaced(q) | Turn::Working(q) => {
+            turn_of_kind(kind, request_with(q, field, v))
+        }
+    }
+}
+
+fn kind_of(t: Turn) -> u64 {
+    match t {
+        Turn::Idle => 0,
+        Turn::Waiting(_) => 1,
+        Turn::Displaced(_) => 2,
+        Turn::Working(_) => 3,
     }
 }
 
@@ -195,194 +241,82 @@ fn turn_of_kind(kind: u64, q: Request) -> Turn {
     }
 }
 
-fn no_request() -> Request {
-    Request {
-        op: Op::Read,
-        priority: false,
-        attempts: 0,
-        incomplete: 0,
-        noise: 0,
+const NO_REQUEST: Request = Request {
+    op: Op::Read,
+    priority: false,
+    attempts: 0,
+    incomplete: 0,
+    noise: 0,
+};
+
+fn request_with(q: Request, field: u64, v: u64) -> Request {
+    match field {
+        2 => Request { op: op_of(v), ..q },
+        3 => Request {
+            priority: v != 0,
+            ..q
+        },
+        4 => Request {
+            attempts: byte(v),
+            ..q
+        },
+        5 => Request {
+            incomplete: byte(v),
+            ..q
+        },
+        6 => Request {
+            noise: byte(v),
+            ..q
+        },
+        _ => q,
     }
 }
 
-fn turn_with(t: Turn, field: u64, v: u64) -> Turn {
-    match t {
-        Turn::Idle => {
-            if field == 1 {
-                return turn_of_kind(v, no_request());
-            }
-            Turn::Idle
-        }
-        Turn::Waiting(q) => held_with(1, q, field, v),
-        Turn::Displaced(q) => held_with(2, q, field, v),
-        Turn::Working(q) => held_with(3, q, field, v),
+fn op_of(v: u64) -> Op {
+    match v {
+        0 => Op::Read,
+        1 => Op::Write,
+        _ => Op::Mark,
     }
-}
-
-fn held_with(kind: u64, q: Request, field: u64, v: u64) -> Turn {
-    if field == 1 {
-        return turn_of_kind(v, q);
-    }
-    turn_of_kind(kind, request_with(q, field, v))
-}
-
-fn position_with(p: Position, field: u64, v: u64) -> Position {
-    Position {
-        marks: if field == 7 { size(v) } else { p.marks },
-        records: if field == 8 { size(v) } else { p.records },
-        noisy: if field == 9 { v != 0 } else { p.noisy },
-    }
-}
-
-fn unit_with(x: Unit, field: u64, v: u64) -> Unit {
-    let t = x.turn;
-    let p = x.position;
-    let position = position_with(p, field, v);
-    if field == 0 {
-        return Unit {
-            declared: v != 0,
-            turn: t,
-            position,
-        };
-    }
-    Unit {
-        declared: x.declared,
-        turn: turn_with(t, field, v),
-        position,
-    }
-}
-
-fn channel_with(c: Channel, unit: usize, field: u64, v: u64) -> Channel {
-    if UNITS <= unit {
-        return c;
-    }
-    let x = c.units[unit];
-    let y = unit_with(x, field, v);
-    let mut d = c;
-    d.units[unit] = y;
-    d
-}
-
-// The channel with another mark: 0 is that of ordinary requests, 1 that of priority requests.
-fn mark_with(c: Channel, which: u64, v: u64) -> Channel {
-    let mut d = c;
-    if which == 0 {
-        d.mark = byte(v);
-    } else {
-        d.urgent = byte(v);
-    }
-    d
 }
 
 // ---- the routines
 
-// A program with another of its numbers: 0 the rank, 1 the channel, 2 the unit, 3 the routine.
-fn program_with(p: Program, field: u64, v: u64) -> Program {
-    let mut q = p;
-    match field {
-        0 => q.rank = byte(v),
-        1 => q.channel = byte(v),
-        2 => q.unit = byte(v),
-        _ => q.routine = byte(v),
+fn set_programs(p: &mut Programs, at: usize, field: u64, v: u8) {
+    if at == 0 {
+        set_program(&mut p.running, field, v);
+    } else if let Some(program) = p.pushed.get_mut(at - 1) {
+        set_program(program, field, v);
     }
-    q
 }
 
-// What runs, at place 0, or an interrupted program, at the places from 1 on, with another of its numbers.
-fn programs_with(p: Programs, at: usize, field: u64, v: u64) -> Programs {
-    let mut q = p;
-    if at == 0 {
-        let x = program_with(p.running, field, v);
-        q.running = x;
-        return q;
+// A program's rank (0), channel (1), unit (2) or routine.
+fn set_program(p: &mut Program, field: u64, v: u8) {
+    match field {
+        0 => p.rank = v,
+        1 => p.channel = v,
+        2 => p.unit = v,
+        _ => p.routine = v,
     }
-    let i = at - 1;
-    if DEPTH <= i {
-        return p;
-    }
-    let x = p.pushed[i];
-    let y = program_with(x, field, v);
-    q.pushed[i] = y;
-    q
 }
 
 // What is named (0 the rank, 1 the routine) or waits (2, 3) at a unit.
-fn post_with(p: Post, field: u64, v: u64) -> Post {
-    let mut named = p.named;
-    let mut due = p.due;
+fn set_post(p: &mut Post, field: u64, v: u8) {
     match field {
-        0 => named.rank = byte(v),
-        1 => named.routine = byte(v),
-        2 => due.rank = byte(v),
-        _ => due.routine = byte(v),
+        0 => p.named.rank = v,
+        1 => p.named.routine = v,
+        2 => p.due.rank = v,
+        _ => p.due.routine = v,
     }
-    Post { named, due }
 }
 
-// The routines with the number that the command names: 24 the depth of the list, 25 a program, 26 what stands with a unit.
-fn routines_with(r: Routines, kind: u64, a: u64, b: u64, c: u64, d: u64) -> Routines {
-    if kind == 26 {
-        let x = post_at(r, place(a), place(b));
-        let y = post_with(x, c, d);
-        return with_post(r, place(a), place(b), y);
-    }
-    let p = r.programs;
-    let mut t = r;
-    if kind == 25 {
-        let q = programs_with(p, place(a), b, c);
-        t.programs = q;
-        return t;
-    }
-    let mut q = p;
-    q.count = byte(a);
-    t.programs = q;
-    t
-}
+// ---- the pool
 
-// ---- the state
-
-// The state with another file in the place of that number, and all else as it was: the free mask too.
-fn stored_alone(s: State, i: usize, f: File) -> State {
-    if FILES <= i {
-        return s;
-    }
-    let mut t = s;
-    t.files[i] = f;
-    t
-}
-
-fn pool_with(s: State, field: u64, v: u64) -> State {
-    let mut t = s;
+fn set_pool(s: &mut State, field: u64, v: u64) {
     match field {
-        0 => t.m = byte(v),
-        1 => t.w = size(v),
-        3 => t.free = mask(v),
-        _ => t.frozen = v != 0,
+        0 => s.m = byte(v),
+        1 => s.w = size(v),
+        3 => s.free = mask(v),
+        _ => s.frozen = v != 0,
     }
-    t
-}
-
-// The state with the number that the command names.
-pub fn poked(kind: u64, s: State, a: u64, b: u64, c: u64, d: u64) -> State {
-    let i = place(a);
-    if kind == 13 {
-        let f = file_at(s, i);
-        let g = file_with(f, b, c);
-        return stored_alone(s, i, g);
-    }
-    if kind == 16 {
-        return pool_with(s, a, b);
-    }
-    if 24 <= kind {
-        let r = s.routines;
-        let t = routines_with(r, kind, a, b, c, d);
-        return with_routines(s, t);
-    }
-    let x = channel_at(s, i);
-    let y = if kind == 14 {
-        channel_with(x, place(b), c, d)
-    } else {
-        mark_with(x, b, c)
-    };
-    with_channel(s, i, y)
 }
