@@ -87,10 +87,21 @@ fn tell(mut to: Stderr, failure: Failure) {
     let _ = writeln!(to, "{failure}");
 }
 
+// The last block goes out, or it is told why not; then the line of progress ends.
+fn end_writing(run: &mut Run, to: Stderr) {
+    if let Err(failure) = run.write_end() {
+        tell(to, failure);
+    }
+    run.end_progress();
+}
+
 // What is left to do after the lines.
-fn end(task: Task, run: &mut Run, passed: Result<(), Failure>) -> Result<(), Failure> {
+fn end(task: Task, run: &mut Run, to: Stderr, passed: Result<(), Failure>) -> Result<(), Failure> {
     match (task, passed) {
-        (Task::Write, Ok(())) => run.write_end(),
+        (Task::Write, Ok(())) => {
+            end_writing(run, to);
+            Ok(())
+        }
         (Task::Read, Ok(())) => run.read_end(),
         (Task::Read, Err(Failure::NoBlock)) => {
             run.count_error();
@@ -101,11 +112,15 @@ fn end(task: Task, run: &mut Run, passed: Result<(), Failure>) -> Result<(), Fai
 }
 
 // What is left to do before a failure is told: the records before a line that is refused stand, the last block sealed early, and what waits when the pack refuses is written.
-fn save(run: &mut Run, failure: Failure) -> Result<(), Failure> {
+fn save(run: &mut Run, to: Stderr, failure: Failure) {
     match failure {
-        Failure::Line { .. } => run.write_end(),
-        Failure::Pack(_) => run.output.flush(),
-        _ => Ok(()),
+        Failure::Line { .. } => end_writing(run, to),
+        Failure::Pack(_) => {
+            if let Err(other) = run.output.flush() {
+                tell(to, other);
+            }
+        }
+        _ => {}
     }
 }
 
@@ -139,11 +154,9 @@ fn main(rt: HostRuntime) {
     }
     let mut run = Run::new(rt, options, begun.state, area, shown);
     let passed = pass_text(task, &mut run, &mut rt.stdin());
-    let Err(failure) = end(task, &mut run, passed) else {
+    let Err(failure) = end(task, &mut run, rt.stderr(), passed) else {
         return;
     };
-    if let Err(other) = save(&mut run, failure) {
-        tell(rt.stderr(), other);
-    }
+    save(&mut run, rt.stderr(), failure);
     tell(rt.stderr(), failure);
 }

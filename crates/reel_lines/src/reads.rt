@@ -65,24 +65,25 @@ impl Run {
     fn get_record(&mut self) -> Result<bool, Failure> {
         let answer = reel::got(self.state, &mut self.area);
         self.state = answer.state;
+        let accepted = answer.refusal == 0;
         match answer.adds {
             Adds::Found(Got::Record { .. }) => {
                 self.output
                     .add_words(pack::shown_words(&self.area, answer))?;
                 self.count_record();
                 self.output.end_line()?;
-                Ok(true)
+                Ok(accepted)
             }
             Adds::Found(Got::Leftover { .. }) => {
                 self.output.text.write_all(b"LEFTOVER ")?;
                 self.output
                     .add_words(pack::shown_words(&self.area, answer))?;
                 self.output.end_line()?;
-                Ok(true)
+                Ok(accepted)
             }
             Adds::Found(Got::Error(found)) => {
                 self.show_error(found)?;
-                Ok(true)
+                Ok(accepted)
             }
             _ => Ok(false),
         }

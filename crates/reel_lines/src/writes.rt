@@ -65,7 +65,6 @@ impl Run {
     pub fn write_end(&mut self) -> Result<(), Failure> {
         let closed = self.close_block();
         let flushed = self.output.flush();
-        self.end_progress();
         closed.and(flushed)
     }
 }
