@@ -113,8 +113,10 @@ pub fn read_full<R: Read>(input: &mut R, room: &mut [u8]) -> usize
     done
 }
 
-// The words of an error's text, without the number that stands after them in parentheses.
-fn words_of(text: &[u8]) -> &[u8] {
+// The words of an error's text, its front, without the number that stands after them in parentheses.
+fn words_of(text: &[u8]) -> &[u8]
+    ensures { result.now ≡ take (length result.now) text.now }
+{
     let number = b" (os error ".as_slice();
     match text.windows(number.len()).position(|w| w == number) {
         Some(at) => &text[..at],
