@@ -15,7 +15,7 @@ use failure::Failure;
 use lines::{Lines, Said};
 use reel::{Options, WORDS};
 use run::Run;
-use std::io::{Read, Stderr, Write};
+use std::io::{Read, Stderr};
 use std::rt::Env;
 use streams::large_buffer;
 
@@ -82,9 +82,9 @@ fn pass_text(task: Task, run: &mut Run, reader: &mut impl Read) -> Result<(), Fa
     Ok(())
 }
 
-// Says what failed. If that cannot be said, nothing more can be.
-fn tell(mut to: Stderr, failure: Failure) {
-    let _ = writeln!(to, "{failure}");
+// Says what failed, in one write, so that no other program's words stand inside the line. If that cannot be said, nothing more can be.
+fn tell(to: Stderr, failure: Failure) {
+    let _ = to.println(failure);
 }
 
 // The last block goes out, or it is told why not; then the line of progress ends.

@@ -139,8 +139,7 @@ impl Run {
             self.count_file();
         }
         self.end_progress();
-        let counts = self.counts;
-        let _ = writeln!(self.rt.stderr(), "{counts}");
+        let _ = self.rt.stderr().println(self.counts);
     }
 
     // Keeps the state after an answer that no text and no image can make a refusal.

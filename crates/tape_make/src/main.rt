@@ -9,7 +9,7 @@ mod line;
 use failure::{Failure, Refusal};
 use image::Image;
 use line::{Line, WORDS};
-use std::io::{Read, Stderr, Write};
+use std::io::{Read, Stderr};
 use std::rt::Env;
 use streams::large_buffer;
 
@@ -61,9 +61,9 @@ fn make(reader: &mut impl Read, image: &mut Image) -> Result<(), Failure> {
     image.flush()
 }
 
-// Says what failed. If that cannot be said, nothing more can be.
-fn tell(mut to: Stderr, failure: Failure) {
-    let _ = writeln!(to, "{failure}");
+// Says what failed, in one write, so that no other program's words stand inside the line. If that cannot be said, nothing more can be.
+fn tell(to: Stderr, failure: Failure) {
+    let _ = to.println(failure);
 }
 
 // With the argument `bcd`, or any that begins so, parity is even.
