@@ -18,15 +18,18 @@ fn is_digit(c: u8) -> bool
     ((b'0' <= c) & (c <= b'9')) | ((b'A' <= c) & (c <= b'F'))
 }
 
-// What a digit stands for, 0 for what is no digit.
+// What a digit stands for, 0 for what is no digit. It is no match: of these tests the compiler makes no branch, and the digits of words come at random, so
+// that a processor would guess a branch wrong.
 fn value(c: u8) -> u8
     ensures { (result ≡ value_of c) × (result < 16) }
 {
-    match c {
-        b'0'..=b'9' => c - b'0',
-        b'A'..=b'F' => c - b'A' + 10,
-        _ => 0,
+    if (b'0' <= c) & (c <= b'9') {
+        return c - b'0';
     }
+    if (b'A' <= c) & (c <= b'F') {
+        return c - b'A' + 10;
+    }
+    0
 }
 
 // Whether every character of a line is a digit. It looks at all of them without a branch, which a processor does many at a time.

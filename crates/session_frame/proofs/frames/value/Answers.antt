@@ -1,25 +1,23 @@
 -- `session_frame::frames::value` meets its contract, by the three cases of a character. Assumes nothing.
+use borrow.Author.Rules.{rules}
+use mathlib.Core.Path.{sym}
 use native.Mathlib.Omega.{arith}
-use Rattle.std.proofs.lemmas.Bool.Decides.{nat_tests}
-use Rattle.session_frame.specs.Digits.{value_of}
+use Rattle.session_frame.proofs.Laws.Values.{value_decimal, value_letter, value_other, decimal_range, letter_range}
 use Rattle.session_frame.proofs.frames.value.Goals as goal
 
-pub returns-in-48-to-57 : goal.returns-in-48-to-57
-unfolding value_of
-returns-in-48-to-57 c = (grind (arith, nat_tests), omega arith)
+pub overflow_sub-result : goal.overflow_sub-result
+overflow_sub-result c = (decimal_range c.args.c c.if-c.true).0
 
-pub returns-in-65-to-70 : goal.returns-in-65-to-70
-unfolding value_of
-returns-in-65-to-70 c = (grind (arith, nat_tests), omega arith)
+pub returns-then-c : goal.returns-then-c
+returns-then-c c = (sym (value_decimal c.args.c c.if-c.true), omega (arith, decimal_range c.args.c c.if-c.true))
 
-pub returns-in_default : goal.returns-in_default
-unfolding value_of
-returns-in_default c = (grind (arith, nat_tests), omega arith)
+pub overflow_sub-result-then-c-2 : goal.overflow_sub-result-then-c-2
+overflow_sub-result-then-c-2 c = omega (arith, letter_range c.args.c c.if-c-2.true)
 
-pub returns-in_default-2 : goal.returns-in_default-2
-unfolding value_of
-returns-in_default-2 c = (grind (arith, nat_tests), omega arith)
+pub returns-then-c-2 : goal.returns-then-c-2
+returns-then-c-2 c = let a = c.args in
+    let range = letter_range a.c c.if-c-2.true in
+    (omega (arith, value_letter a.c c.if-c.false c.if-c-2.true, range), omega (arith, range))
 
-pub returns-in_default-3 : goal.returns-in_default-3
-unfolding value_of
-returns-in_default-3 c = (grind (arith, nat_tests), omega arith)
+pub returns : goal.returns
+returns c = (sym (value_other c.args.c c.if-c.false c.if-c-2.false), search rules)
