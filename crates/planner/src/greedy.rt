@@ -12,7 +12,12 @@ use crate::{FILES, NoPlan, Proposal};
 fn first_free(owner: [u8; FILES]) -> u8
     ensures { (result ≡ first_free owner) × (result ≤ 64) }
 {
-    owner.iter().position(|x| *x == 0).unwrap_or(FILES) as u8
+    for i in 0..FILES as u8 {
+        if owner[i as usize] == 0 {
+            return i;
+        }
+    }
+    FILES as u8
 }
 
 // The owners when the lowest free buffer serves v.
