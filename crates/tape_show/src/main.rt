@@ -34,34 +34,33 @@ impl Form {
 
 // The record of that number in a list is a block of so many words.
 fn list_block(output: &mut Output, number: u64, words: usize) -> Result<(), Failure> {
-    writeln!(output.text, "{number} block {words} words")?;
+    writeln!(output, "{number} block {words} words")?;
     output.end_record()
 }
 
 fn show_words(output: &mut Output, words: &[u64]) -> Result<(), Failure> {
     for word in words {
-        output.text.write_all(&digits::<10, 16>(*word))?;
+        output.add(&digits::<10, 16>(*word))?;
     }
-    output.text.write_all(b"\n")?;
+    output.add(b"\n")?;
     output.end_record()
 }
 
-// In octal there is a blank between two words.
+// In octal there is a blank between two words: in the place of a thirteenth digit.
 fn show_octal(output: &mut Output, words: &[u64]) -> Result<(), Failure> {
     for (i, word) in words.iter().enumerate() {
-        if 0 < i {
-            output.text.write_all(b" ")?;
-        }
-        output.text.write_all(&digits::<12, 8>(*word))?;
+        let mut text = digits::<13, 8>(*word);
+        text[0] = b' ';
+        output.add(&text[usize::from(i == 0)..])?;
     }
-    output.text.write_all(b"\n")?;
+    output.add(b"\n")?;
     output.end_record()
 }
 
 fn show_mark(output: &mut Output, form: Form, number: u64) -> Result<(), Failure> {
     match form {
-        Form::List => writeln!(output.text, "{number} mark")?,
-        Form::Words | Form::Octal => output.text.write_all(b"MARK\n")?,
+        Form::List => writeln!(output, "{number} mark")?,
+        Form::Words | Form::Octal => output.add(b"MARK\n")?,
     }
     output.end_record()
 }
@@ -69,9 +68,9 @@ fn show_mark(output: &mut Output, form: Form, number: u64) -> Result<(), Failure
 // The end of the image; a list says how many bytes it has.
 fn show_end(output: &mut Output, form: Form, bytes: u64) -> Result<(), Failure> {
     if matches!(form, Form::List) {
-        writeln!(output.text, "end, {bytes} bytes")?;
+        writeln!(output, "end, {bytes} bytes")?;
     }
-    output.flush()
+    output.send()
 }
 
 // Shows the records until the image ends or has a fault. There are fewer turns than would use up the range.
@@ -82,17 +81,19 @@ fn show(
     words: &mut [u64],
 ) -> Result<(), Failure> {
     let mut number: u64 = 1;
+    let mut from = 0;
     for _ in 0..u64::MAX {
-        match window.next_record() {
+        match window.next_record(from) {
             Next::More => {
-                output.flush()?;
-                window.read_more()?;
+                output.send()?;
+                window.read_more(from)?;
+                from = 0;
             }
-            Next::End => return show_end(output, form, window.place(window.from)),
+            Next::End => return show_end(output, form, window.place(from)),
             Next::Mark { next } => {
                 show_mark(output, form, number)?;
                 number = number.wrapping_add(1);
-                window.from = next;
+                from = next;
             }
             Next::Block {
                 place,
@@ -105,7 +106,7 @@ fn show(
                     Form::Octal => show_octal(output, window.words(place, n, words))?,
                 }
                 number = number.wrapping_add(1);
-                window.from = next;
+                from = next;
             }
             Next::Fault { number, place } => {
                 return Err(Failure::Fault {
@@ -118,9 +119,9 @@ fn show(
     Ok(())
 }
 
-// Says what failed. If that cannot be said, nothing more can be.
-fn tell(mut to: Stderr, failure: Failure) {
-    let _ = writeln!(to, "{failure}");
+// Says what failed, in one write, so that no other program's words stand inside the line. If that cannot be said, nothing more can be.
+fn tell(to: Stderr, failure: Failure) {
+    let _ = to.println(failure);
 }
 
 fn main(rt: HostRuntime) {
@@ -134,7 +135,7 @@ fn main(rt: HostRuntime) {
         return;
     };
     // What was shown before a fault stands.
-    if let Err(other) = output.flush() {
+    if let Err(other) = output.send() {
         tell(rt.stderr(), other);
     }
     tell(rt.stderr(), failure);

@@ -2,7 +2,7 @@
 
 use crate::failure::Failure;
 use std::io::{Read, Stdin};
-use streams::large_buffer;
+use streams::{front, large_buffer};
 use tape::Next;
 
 #[derive(Drop)]
@@ -11,8 +11,6 @@ pub struct Window {
     room: [u8; 65536],
     to: usize,
     base: u64,
-    // Where the next record begins.
-    pub from: usize,
     // Whether no more come.
     ended: bool,
     input: Stdin,
@@ -24,18 +22,18 @@ impl Window {
             room: large_buffer(),
             to: 0,
             base: 0,
-            from: 0,
             ended: false,
             input,
         }
     }
 
     fn bytes(&self) -> &[u8] {
-        self.room.get(..self.to).unwrap_or(&self.room)
+        front(&self.room, self.to)
     }
 
-    pub fn next_record(&self) -> Next {
-        tape::next_record(self.bytes(), self.from, self.ended)
+    // The record that begins at a place of the window.
+    pub fn next_record(&self, from: usize) -> Next {
+        tape::next_record(self.bytes(), from, self.ended)
     }
 
     // Which byte of the image stands at a place of the window.
@@ -49,17 +47,16 @@ impl Window {
         words.get(..n).unwrap_or(words)
     }
 
-    // Brings the bytes that are not done with to the front of the room, and reads more after them.
-    pub fn read_more(&mut self) -> Result<(), Failure> {
+    // Brings the bytes from a place on to the front of the room, and reads more after them.
+    pub fn read_more(&mut self, from: usize) -> Result<(), Failure> {
         let to = self.to.min(self.room.len());
-        let from = self.from.min(to);
+        let from = from.min(to);
         self.room.copy_within(from..to, 0);
         self.base = self.place(from);
         let left = to - from;
         let Ok(n) = self.input.read(&mut self.room[left..]) else {
             return Err(Failure::Input);
         };
-        self.from = 0;
         self.to = left + n;
         self.ended = n == 0;
         Ok(())
